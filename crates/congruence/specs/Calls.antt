@@ -1,0 +1,126 @@
+-- What each service answers, and every lent byte after its call.
+use Prim.Native.Nat.{ℕ, _-_, _*_, _/_, _%_}
+use mathlib.Core.Bool.{Bool, true, false, not, _&&_, _||_}
+use mathlib.Core.List.{List, [], _∷_, _++_, map}
+use lib.Dec.{eqb, leb, ltb}
+use lib.ListN.{length}
+use Rattle.equivalence.specs.Lists.{upTo, every, concat, stretch}
+use Rattle.equivalence.specs.Equivalence.{Map, isMap, blocks}
+use Rattle.equivalence.specs.Refusal.{Test, lowest, mapTest, spaceTest, answered, lentAfter}
+use Rattle.equivalence.specs.declared.Refusal.the-variants.{Range, NotMap, Equal, NotCongruence}
+use Rattle.equivalence.specs.declared.Check.{Check}
+use Rattle.equivalence.specs.declared.Element.{Element}
+use Rattle.equivalence.specs.declared.Written.{Written}
+use Rattle.equivalence.specs.declared.Written.the-variants.{Done, Refused as WriteRefused}
+use Rattle.algebra.specs.Algebra.{Algebra, cellCount}
+use Rattle.algebra.specs.Accepted.{algebraTests}
+use Rattle.algebra.specs.Congruence.{isCongruence}
+use Rattle.congruence.specs.Extremal.{generated, contained, separated}
+use Rattle.congruence.specs.Quotient.{quotientCells}
+use Rattle.congruence.specs.Decompose.{listed, reducible, commonPair}
+use Rattle.congruence.specs.Certify.{certified}
+use Rattle.congruence.specs.declared.Generated.{Generated}
+use Rattle.congruence.specs.declared.Generated.the-variants.{Merges, Refused as GenerateRefused}
+use Rattle.congruence.specs.declared.Divided.{Divided}
+use Rattle.congruence.specs.declared.Divided.the-variants.{Blocks, Refused as DivideRefused}
+use Rattle.congruence.specs.declared.Decomposed.{Decomposed}
+use Rattle.congruence.specs.declared.Decomposed.the-variants.{Factors, Irreducible, Refused as DecomposeRefused}
+use Rattle.congruence.specs.declared.Certified.{Certified}
+use Rattle.congruence.specs.declared.Certified.the-variants.{Yes, No, Refused as CertifyRefused}
+
+-- the element x, as an answer carries it
+abbrev pub element : ℕ → Element
+element x = record { 0 = x }
+
+-- the algebra that a call is handed
+abbrev pub algebraOf : ℕ → List ℕ → List ℕ → Algebra
+algebraOf n arities cells = record { size = n; arities = arities; cells = cells }
+
+-- 7: an odd list of pairs, or an element not below n
+unfoldable pub pairsTest : ℕ → List ℕ → Test
+pairsTest n ps = record { applies = not (eqb (length ps % 2) 0) || not (every (λ x. ltb x n) ps); reason = Range }
+
+-- 7: v or w is not below n
+unfoldable pub elementsTest : ℕ → ℕ → ℕ → Test
+elementsTest n v w = record { applies = not (ltb v n) || not (ltb w n); reason = Range }
+
+-- 10: v and w are equal
+unfoldable pub equalTest : ℕ → ℕ → Test
+equalTest v w = record { applies = eqb v w; reason = Equal }
+
+-- 12: the map is no congruence
+unfoldable pub congruenceTest : Algebra → Map → Test
+congruenceTest a m = record { applies = not (isCongruence a m); reason = NotCongruence }
+
+-- the maps in a list of bytes, n bytes each
+unfoldable pub mapsIn : ℕ → List ℕ → List Map
+mapsIn n bytes = map (stretch n bytes) (upTo (length bytes / n))
+
+-- 8: a length that is no multiple of n, above 63 maps, or a member that is no map
+unfoldable pub mapsTest : ℕ → List ℕ → Test
+mapsTest n bytes =
+    record { applies = not (eqb (length bytes % n) 0) || ltb 63 (length bytes / n) || not (every (isMap n) (mapsIn n bytes)); reason = NotMap }
+
+-- Generate's tests: 1 to 7, 9
+unfoldable pub generateCheck : Algebra → List ℕ → List ℕ → Check
+generateCheck a ps lent = lowest (algebraTests a ++ (pairsTest (a .size) ps ∷ spaceTest (a .size) (length lent) ∷ []))
+
+-- Generate: the merges are n minus the final blocks
+unfoldable pub generateCall : Algebra → List ℕ → List ℕ → Generated × List ℕ
+generateCall a ps lent =
+    (answered GenerateRefused (generateCheck a ps lent) (Merges (a .size - blocks (a .size) (generated a ps))), lentAfter (generateCheck a ps lent) (generated a ps) lent)
+
+-- Contained's tests: 1 to 6, 8, 9
+unfoldable pub containedCheck : Algebra → Map → List ℕ → Check
+containedCheck a e lent = lowest (algebraTests a ++ (mapTest (a .size) e ∷ spaceTest (a .size) (length lent) ∷ []))
+
+-- Contained
+unfoldable pub containedCall : Algebra → Map → List ℕ → Written × List ℕ
+containedCall a e lent =
+    (answered WriteRefused (containedCheck a e lent) Done, lentAfter (containedCheck a e lent) (contained a e) lent)
+
+-- Separate's tests: 1 to 7, 9, 10
+unfoldable pub separateCheck : Algebra → ℕ → ℕ → List ℕ → Check
+separateCheck a v w lent =
+    lowest (algebraTests a ++ (elementsTest (a .size) v w ∷ spaceTest (a .size) (length lent) ∷ equalTest v w ∷ []))
+
+-- Separate
+unfoldable pub separateCall : Algebra → ℕ → ℕ → List ℕ → Written × List ℕ
+separateCall a v w lent =
+    (answered WriteRefused (separateCheck a v w lent) Done, lentAfter (separateCheck a v w lent) (separated a v w) lent)
+
+-- Quotient's tests: 1 to 6, 8, 9 with the given map's number of blocks, 12
+unfoldable pub quotientCheck : Algebra → Map → List ℕ → Check
+quotientCheck a m lent =
+    lowest (algebraTests a ++ (mapTest (a .size) m ∷ spaceTest (cellCount (blocks (a .size) m) (a .arities)) (length lent) ∷ congruenceTest a m ∷ []))
+
+-- Quotient: the tables over blocks, and how many blocks there are
+unfoldable pub quotientCall : Algebra → Map → List ℕ → Divided × List ℕ
+quotientCall a m lent =
+    (answered DivideRefused (quotientCheck a m lent) (Blocks (blocks (a .size) m)), lentAfter (quotientCheck a m lent) (quotientCells a m) lent)
+
+-- Decompose's tests but 11: 1 to 6, 9
+unfoldable pub decomposeCheck : Algebra → List ℕ → Check
+decomposeCheck a lent = lowest (algebraTests a ++ (spaceTest ((a .size - 1) * a .size) (length lent) ∷ []))
+
+-- what Decompose finds of an accepted algebra: the factors, or 11 with a pair
+unfoldable pub decomposed : Algebra → Decomposed
+decomposed a =
+    elim (reducible a) [ true ↦ Factors (length (listed a)) | false ↦ Irreducible (element (commonPair a .0)) (element (commonPair a .1)) ]
+
+-- what Decompose writes: factor i from byte i × n; for 11 nothing
+unfoldable pub factorBytes : Algebra → List ℕ
+factorBytes a = elim (reducible a) [ true ↦ concat (listed a) | false ↦ [] ]
+
+-- Decompose
+unfoldable pub decomposeCall : Algebra → List ℕ → Decomposed × List ℕ
+decomposeCall a lent =
+    (answered DecomposeRefused (decomposeCheck a lent) (decomposed a), lentAfter (decomposeCheck a lent) (factorBytes a) lent)
+
+-- Certify's tests: 1 to 6, 8
+unfoldable pub certifyCheck : Algebra → List ℕ → Check
+certifyCheck a bytes = lowest (algebraTests a ++ (mapsTest (a .size) bytes ∷ []))
+
+-- Certify
+unfoldable pub certifyCall : Algebra → List ℕ → Certified
+certifyCall a bytes = answered CertifyRefused (certifyCheck a bytes) (elim (certified a (mapsIn (a .size) bytes)) [ true ↦ Yes | false ↦ No ])

@@ -1,0 +1,1 @@
+-- Demands 2 and 3, stated over the definitions that the contracts cite.

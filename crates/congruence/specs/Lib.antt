@@ -1,0 +1,7 @@
+pub mod Extremal
+pub mod Quotient
+pub mod Decompose
+pub mod Certify
+pub mod Calls
+pub mod Outcome
+pub mod Demands

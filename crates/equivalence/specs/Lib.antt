@@ -1,0 +1,5 @@
+pub mod Lists
+pub mod Equivalence
+pub mod Order
+pub mod Refusal
+pub mod Calls

@@ -1,0 +1,63 @@
+-- The reasons to decline, their numbers, and the lowest that applies.
+use Prim.Native.Nat.{ℕ}
+use mathlib.Core.Bool.{Bool, true, false, not, _||_}
+use mathlib.Core.List.{List, [], _∷_, _++_}
+use lib.Dec.{eqb, ltb}
+use lib.ListN.{length, drop}
+use Rattle.equivalence.specs.Equivalence.{Map, isMap}
+use Rattle.equivalence.specs.declared.Refusal.{Refusal}
+use Rattle.equivalence.specs.declared.Refusal.the-variants.{Size, Operations, Arity, Cells, Length, Cell, Range, NotMap, Space, Equal, NotCongruence, Tally, Text}
+use Rattle.equivalence.specs.declared.Check.{Check}
+use Rattle.equivalence.specs.declared.Check.the-variants.{Passed, Failed}
+
+-- the number in document 01's table; 11 is `Decomposed`'s case `Irreducible`
+unfoldable pub numberOf : Refusal → ℕ
+numberOf Size = 1
+numberOf Operations = 2
+numberOf Arity = 3
+numberOf Cells = 4
+numberOf Length = 5
+numberOf Cell = 6
+numberOf Range = 7
+numberOf NotMap = 8
+numberOf Space = 9
+numberOf Equal = 10
+numberOf NotCongruence = 12
+numberOf Tally = 13
+numberOf Text = 14
+
+-- a reason, and whether it applies
+pub record Test : Type 0 where
+  pub applies : Bool
+  pub reason : Refusal
+
+-- the first reason that applies; every list of tests goes by rising number, so it is the lowest
+unfoldable pub lowest : List Test → Check
+lowest [] = Passed
+lowest (t ∷ rest) = elim (t .applies) [ true ↦ Failed (t .reason) | false ↦ lowest rest ]
+
+-- 1: n is 0 or above 64
+unfoldable pub sizeTest : ℕ → Test
+sizeTest n = record { applies = eqb n 0 || ltb 64 n; reason = Size }
+
+-- 8: not a map over n
+unfoldable pub mapTest : ℕ → Map → Test
+mapTest n m = record { applies = not (isMap n m); reason = NotMap }
+
+-- 9: fewer bytes are lent than wanted
+unfoldable pub spaceTest : ℕ → ℕ → Test
+spaceTest wanted lent = record { applies = ltb lent wanted; reason = Space }
+
+-- what a call answers: the answer where the tests pass, else the refusal
+unfoldable pub answered {ℓ} : {A : Type ℓ} → (Refusal → A) → Check → A → A
+answered refused Passed answer = answer
+answered refused (Failed r) answer = refused r
+
+-- the lent bytes with the new ones at their start
+unfoldable pub written : List ℕ → List ℕ → List ℕ
+written new lent = new ++ drop (length new) lent
+
+-- the lent bytes after a call: a refusal writes nothing
+unfoldable pub lentAfter : Check → List ℕ → List ℕ → List ℕ
+lentAfter Passed new lent = written new lent
+lentAfter (Failed r) new lent = lent
