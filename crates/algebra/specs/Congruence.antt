@@ -20,7 +20,7 @@ isCongruence a m = every (respects (a .size) m) (operations a)
 -- m is a map over the elements, and a congruence
 pub record Congruence (a : Algebra) (m : Map) : Type 0 where
   pub map : T (isMap (a .size) m)
-  pub respected : T (isCongruence a m)
+  pub respects : T (isCongruence a m)
 
 -- every congruence of the algebra
 unfoldable pub congruences : Algebra → List Map

@@ -1,1 +1,86 @@
 -- Demands 2 and 3, stated over the definitions that the contracts cite.
+use Prim.Native.Nat.{ℕ, _≤_, _<_, _-_, _*_}
+use mathlib.Core.Path.{_≡_}
+use mathlib.Core.Logic.{_⊎_, _↔_}
+use mathlib.Core.List.{List, [], _∷_, map}
+use mathlib.Core.List.{List·Memᴰ as Member}
+use lib.Dec.{T}
+use lib.ListN.{length, getD, take}
+use Rattle.equivalence.specs.Lists.{without, stretch}
+use Rattle.equivalence.specs.Equivalence.{Map, holds, inside, identity, meetAll, blocks, blockOf}
+use Rattle.equivalence.specs.Order.{Pair}
+use Rattle.algebra.specs.Algebra.{Algebra, Operation, operations, arguments, value, cellCount}
+use Rattle.algebra.specs.Congruence.{Congruence}
+use Rattle.congruence.specs.Extremal.{holdsAll}
+use Rattle.congruence.specs.Quotient.{quotientTable, quotient}
+use Rattle.congruence.specs.Decompose.{listed, commonPair}
+use Rattle.congruence.specs.Calls.{element, decomposed, decomposeCall, quotientCall}
+use Rattle.congruence.specs.declared.Decomposed.the-variants.{Factors, Irreducible}
+use Rattle.congruence.specs.declared.Divided.the-variants.{Blocks}
+
+-- Demand 2, Generate: the congruence holds the given pairs and lies inside every congruence that holds them
+pub record LeastCongruence (a : Algebra) (ps : List ℕ) (m : Map) : Type 0 where
+  pub congruence : Congruence a m
+  pub holds : T (holdsAll ps m)
+  pub least : (c : Map) → Congruence a c → T (holdsAll ps c) → T (inside (a .size) m c)
+
+-- Demand 2, Contained: the congruence lies inside the given equivalence and contains every congruence that does
+pub record GreatestCongruence (a : Algebra) (e m : Map) : Type 0 where
+  pub congruence : Congruence a m
+  pub inside : T (inside (a .size) m e)
+  pub greatest : (c : Map) → Congruence a c → T (inside (a .size) c e) → T (inside (a .size) c m)
+
+-- Demand 2, Meet: the greatest equivalence inside both
+-- Demand 2, Quotient: the cell at the blocks of any members is the block of the result at those members
+pub record QuotientAtMembers (a : Algebra) (m : Map) : Type 0 where
+  pub cell : (f : Operation) → Member f (operations a) → (xs : List ℕ) → Member xs (arguments (a .size) (f .arity))
+      → value (blocks (a .size) m) (record { arity = f .arity; table = quotientTable (a .size) m f }) (map (blockOf m) xs) ≡ blockOf m (value (a .size) f xs)
+
+-- m holds x and y apart, and every strictly larger congruence joins them
+pub record MaximalApart (a : Algebra) (m : Map) (x y : ℕ) : Type 0 where
+  pub left : x < a .size
+  pub right : y < a .size
+  pub apart : ¬ T (holds m x y)
+  pub joined : (c : Map) → Congruence a c → T (inside (a .size) m c) → ¬ (c ≡ m) → T (holds c x y)
+
+-- a non-empty list of congruences, none the identity, that meets in the identity
+pub record Splitting (a : Algebra) (ms : List Map) : Type 0 where
+  pub some : 0 < length ms
+  pub each : (i : ℕ) → i < length ms → Congruence a (getD ms i []) × ¬ (getD ms i [] ≡ identity (a .size))
+  pub meets : meetAll (a .size) ms ≡ identity (a .size)
+
+-- no such list splits the algebra
+abbrev pub Unsplit : Algebra → Type 0
+Unsplit a = (ms : List Map) → ¬ Splitting a ms
+
+-- Decompose answers 11, with the common pair
+abbrev pub Answers11 : Algebra → Type 0
+Answers11 a = decomposed a ≡ Irreducible (element (commonPair a .0)) (element (commonPair a .1))
+
+-- every congruence but the identity holds the pair
+abbrev pub Common : Algebra → ℕ → ℕ → Type 0
+Common a x y = (c : Map) → Congruence a c → ¬ (c ≡ identity (a .size)) → T (holds c x y)
+
+-- the pair that 11 carries: 0 0 for n = 1, else the first pair that every congruence but the identity holds
+pub record FirstCommonPair (a : Algebra) (p : Pair) : Type 0 where
+  pub one : a .size ≡ 1 → p ≡ (0, 0)
+  pub order : 2 ≤ a .size → p.0 < p.1
+  pub below : 2 ≤ a .size → p.1 < a .size
+  pub common : 2 ≤ a .size → Common a p.0 p.1
+  pub first : 2 ≤ a .size → (x y : ℕ) → x < y → y < a .size → Common a x y → (p.0 < x) ⊎ ((p.0 ≡ x) × (p.1 ≤ y))
+
+-- what the list of factors is: 2 to n - 1 congruences that meet in the identity, none superfluous, each maximal for some pair, each one's quotient drawing 11 in turn
+pub record FactorsRight (a : Algebra) (ms : List Map) : Type 0 where
+  pub two : 2 ≤ length ms
+  pub few : length ms ≤ a .size - 1
+  pub congruences : (i : ℕ) → i < length ms → Congruence a (getD ms i [])
+  pub meets : meetAll (a .size) ms ≡ identity (a .size)
+  pub needed : (i : ℕ) → i < length ms → ¬ (meetAll (a .size) (without i ms) ≡ identity (a .size))
+  pub maximal : (i : ℕ) → i < length ms → (x : ℕ) × (y : ℕ) × MaximalApart a (getD ms i []) x y
+  pub irreducible : (i : ℕ) → i < length ms → Answers11 (quotient a (getD ms i []))
+
+-- Demand 3 of an accepted algebra
+pub record FactorTheorem (a : Algebra) : Type 0 where
+  pub irreducible : Answers11 a ↔ Unsplit a
+  pub pair : Answers11 a → FirstCommonPair a (commonPair a)
+  pub otherwise : ¬ Answers11 a → (decomposed a ≡ Factors (length (listed a))) × FactorsRight a (listed a)

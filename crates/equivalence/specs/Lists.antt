@@ -35,7 +35,7 @@ concat [] = []
 concat (l ∷ rest) = l ++ concat rest
 
 -- the list without its member number i
-unfoldable pub without {ℓ} : {A : Type ℓ} → ℕ → List A → List A
+abbrev pub without {ℓ} : {A : Type ℓ} → ℕ → List A → List A
 without i l = take i l ++ drop (suc i) l
 
 -- stretch number i of those of length n that follow each other

@@ -1,0 +1,9 @@
+pub mod Certify
+pub mod CommonPair
+pub mod Contained
+pub mod Correspondence
+pub mod Decompose
+pub mod Extended
+pub mod Generated
+pub mod Quotients
+pub mod Separated

@@ -1,0 +1,12 @@
+pub mod AllMaps
+pub mod Best
+pub mod Blocks
+pub mod Earlier
+pub mod Joins
+pub mod Lists
+pub mod Maps
+pub mod Meets
+pub mod Pairs
+pub mod Refusals
+pub mod Stretches
+pub mod Tests
