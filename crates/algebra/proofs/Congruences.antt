@@ -74,10 +74,10 @@ of-congruences a m i =
 
 
 -- each place holds an element, and so does what a place past the end gives
-abbrev pub AllBelow : ℕ → List ℕ → Type 0
-AllBelow n l = (i : ℕ) → getD l i 0 < n
+abbrev pub CellsBelow : ℕ → List ℕ → Type 0
+CellsBelow n l = (i : ℕ) → getD l i 0 < n
 
-operations-below : (n : ℕ) → 1 ≤ n → (arities cells : List ℕ) → AllBelow n cells → (f : Operation) → Member f (operationsOf n arities cells) → AllBelow n (f .table)
+operations-below : (n : ℕ) → 1 ≤ n → (arities cells : List ℕ) → CellsBelow n cells → (f : Operation) → Member f (operationsOf n arities cells) → CellsBelow n (f .table)
 unfolding operationsOf
 operations-below n o [] cells h f i = absurd (not-nil i)
 operations-below n o (s ∷ rest) cells h f i =
@@ -89,7 +89,7 @@ operations-below n o (s ∷ rest) cells h f i =
       | inr k ↦ operations-below n o rest (drop (n ^ s) cells) (λ j. rw (getD-drop (n ^ s) cells j 0) (h (n ^ s + j))) f k
     ]
 
-pub cells-below : (a : Algebra) → WellFormed a → AllBelow (a .size) (a .cells)
+pub cells-below : (a : Algebra) → WellFormed a → CellsBelow (a .size) (a .cells)
 cells-below a c i =
     elim (decLt i (length (a .cells))) [
       | yes l ↦ c .below i l

@@ -1,3 +1,5 @@
 pub mod Accepted
 pub mod Arguments
 pub mod Congruences
+pub mod Tables
+pub mod Translations

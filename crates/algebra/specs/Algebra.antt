@@ -10,6 +10,10 @@ pub record Algebra : Type 0 where
   pub arities : List ℕ
   pub cells : List ℕ
 
+-- the algebra that a call is handed
+abbrev pub algebraOf : ℕ → List ℕ → List ℕ → Algebra
+algebraOf n arities cells = record { size = n; arities = arities; cells = cells }
+
 -- an operation: its arity and its table
 pub record Operation : Type 0 where
   pub arity : ℕ

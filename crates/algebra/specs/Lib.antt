@@ -1,3 +1,4 @@
 pub mod Algebra
 pub mod Accepted
 pub mod Congruence
+pub mod Translations

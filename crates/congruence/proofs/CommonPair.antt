@@ -10,7 +10,7 @@ use lib.ListN.{getD}
 use Rattle.equivalence.specs.Equivalence.{Map, byte, holds, blocks, identity, whole, isIdentity, meetAll}
 use Rattle.equivalence.specs.Lists.{every, keep, first}
 use Rattle.equivalence.specs.Order.{Pair, pairs, firstHeld}
-use Rattle.equivalence.proofs.Blocks.{blocks-some}
+use Rattle.equivalence.proofs.BlockNumbers.{blocks-some}
 use Rattle.equivalence.proofs.Lists.{of-every, keep-member, of-keep, member-at, member-index}
 use Rattle.equivalence.proofs.Maps.{Holds, holds-of, of-holds, map-ext, Discrete, identity-discrete, discrete-identity, whole-map, whole-holds, isIdentity-of, of-isIdentity}
 use Rattle.equivalence.proofs.Meets.{meetAll-map, meetAll-holds, of-meetAll, Meets, meets-of, of-meets}
@@ -21,6 +21,7 @@ use Rattle.algebra.specs.Congruence.{congruences}
 use Rattle.algebra.proofs.Accepted.{WellFormed}
 use Rattle.algebra.proofs.Congruences.{IsCongruence, congruence-is, congruence-of, member-congruences, of-congruences}
 use Rattle.congruence.specs.Decompose.{gathered, listed, reducible, commonPair}
+use Rattle.congruence.specs.Demands.{Splitting}
 use Rattle.congruence.specs.Extremal.{holdsAll, generated}
 use Rattle.congruence.proofs.Decompose.{gathered-law, pruned-law, listed-law, two-at-least}
 use Rattle.congruence.proofs.Generated.{generated-law}

@@ -6,7 +6,7 @@ use native.Mathlib.Omega.{arith}
 use lib.ListN.{length, getD, set, length-map}
 use lib.Seq.{ext-getD}
 use Rattle.equivalence.specs.Equivalence.{Map, byte, holds, blocks, blockOf, mapOf, same}
-use Rattle.equivalence.proofs.Blocks.{smallest, block-below, smallest-block, smallest-below, block-smallest}
+use Rattle.equivalence.proofs.BlockNumbers.{smallest, block-below, smallest-block, smallest-below, block-smallest}
 use Rattle.equivalence.proofs.Lists.{member-at, map-at, map-set}
 use Rattle.equivalence.proofs.Maps.{Holds, holds-of, of-holds, Inside, map-ext, IsEquivalence, mapOf-holds, of-mapOf, mapOf-map}
 use Rattle.algebra.specs.Algebra.{Algebra, Operation, operations, value}

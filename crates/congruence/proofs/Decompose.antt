@@ -12,7 +12,7 @@ use lib.Seq.{take-append-le, take-append-seam, drop-append-le}
 use Rattle.equivalence.specs.Equivalence.{Map, byte, blocks, identity, whole, isIdentity, meet, meetAll}
 use Rattle.equivalence.specs.Lists.{every, without}
 use Rattle.equivalence.specs.Order.{firstHeld}
-use Rattle.equivalence.proofs.Blocks.{blocks-le, blocks-some, blocks-more}
+use Rattle.equivalence.proofs.BlockNumbers.{blocks-le, blocks-some, blocks-more}
 use Rattle.equivalence.proofs.Lists.{every-of, of-every, member-at, member-index, member-insert, other-member}
 use Rattle.equivalence.proofs.Maps.{Holds, IsMap, Discrete, identity-discrete, discrete-identity, whole-map, whole-holds, isIdentity-of, of-isIdentity}
 use Rattle.equivalence.proofs.Meets.{meet-map, meet-holds, of-meet, meetAll-map, AllHold, Meets, meets-of, of-meets, meets-more}
@@ -23,6 +23,7 @@ use Rattle.algebra.proofs.Accepted.{WellFormed}
 use Rattle.algebra.proofs.Congruences.{congruence-is, congruence-of}
 use Rattle.congruence.specs.Calls.{decomposed}
 use Rattle.congruence.specs.Decompose.{added, gathered, pruned, listed, reducible, commonPair}
+use Rattle.congruence.specs.Demands.{Splitting}
 use Rattle.congruence.proofs.Separated.{MaximalFor, separated-law}
 
 -- ms refines the meet d so far to the identity

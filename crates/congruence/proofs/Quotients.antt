@@ -8,7 +8,7 @@ use lib.ListN.{length, getD, take, drop, set, length-map, length-append}
 use lib.Seq.{take-at, drop-at}
 use Rattle.equivalence.specs.Equivalence.{Map, byte, holds, blocks, blockOf, mapOf, identity, same}
 use Rattle.equivalence.specs.Lists.{concat}
-use Rattle.equivalence.proofs.Blocks.{blocks-le, blocks-some, smallest, block-below, smallest-block, smallest-below, block-smallest, block-holds, of-block}
+use Rattle.equivalence.proofs.BlockNumbers.{blocks-le, blocks-some, smallest, block-below, smallest-block, smallest-below, block-smallest, block-holds, of-block}
 use Rattle.equivalence.proofs.Lists.{of-concat, member-at, member-index, map-at, map-set}
 use Rattle.equivalence.proofs.Maps.{Holds, holds-of, of-holds, Inside, IsEquivalence, mapOf-holds, of-mapOf, mapOf-map, discrete-identity}
 use Rattle.equivalence.proofs.Meets.{of-meets}
@@ -19,6 +19,7 @@ use Rattle.algebra.proofs.Arguments.{Args, args-set, arguments-long, place-law,
 use Rattle.algebra.proofs.Congruences.{IsCongruence, congruence-is, value-below, respects-all}
 use Rattle.congruence.specs.Calls.{decomposed}
 use Rattle.congruence.specs.Decompose.{commonPair}
+use Rattle.congruence.specs.Demands.{Splitting}
 use Rattle.congruence.specs.Quotient.{quotientTable, quotient}
 use Rattle.congruence.proofs.Decompose.{irreducible-of}
 use Rattle.congruence.proofs.Separated.{MaximalFor}

@@ -32,10 +32,6 @@ use Rattle.congruence.specs.declared.Certified.the-variants.{Yes, No, Re
 abbrev pub element : ℕ → Element
 element x = record { 0 = x }
 
--- the algebra that a call is handed
-abbrev pub algebraOf : ℕ → List ℕ → List ℕ → Algebra
-algebraOf n arities cells = record { size = n; arities = arities; cells = cells }
-
 -- 7: an odd list of pairs, or an element not below n
 unfoldable pub pairsTest : ℕ → List ℕ → Test
 pairsTest n ps = record { applies = not (eqb (length ps % 2) 0) || not (every (λ x. ltb x n) ps); reason = Range }

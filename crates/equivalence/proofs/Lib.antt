@@ -1,8 +1,9 @@
 pub mod AllMaps
 pub mod Best
-pub mod Blocks
+pub mod BlockNumbers
 pub mod Earlier
 pub mod Joins
+pub mod Kernels
 pub mod Lists
 pub mod Maps
 pub mod Meets

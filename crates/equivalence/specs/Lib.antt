@@ -3,3 +3,4 @@ pub mod Equivalence
 pub mod Order
 pub mod Refusal
 pub mod Calls
+pub mod Kernel

@@ -1,0 +1,67 @@
+-- Where an operation's cells stand in the algebra's cells, and which argument list stands at a place.
+use Prim.Native.Nat.{ℕ, zero, suc, _+_, _*_, _^_, _<_}
+use mathlib.Core.List.{List, [], _∷_, map, List·Memᴰ as Member, List·Memᴰ·head as here, List·Memᴰ·tail as there, List·Memᴰ·not-nil as not-nil, List·Memᴰ·cases-cons as cases-cons}
+use mathlib.Core.Logic.{inl, inr}
+use mathlib.Core.Path.{_≡_, refl, sym, subst, _∙_}
+use native.Mathlib.Omega.{arith}
+use lib.ListN.{length, getD, take, drop, length-map}
+use lib.Seq.{getD-take, getD-drop, drop-drop}
+use Rattle.equivalence.proofs.Lists.{member-at, map-at}
+use Rattle.equivalence.proofs.Stretches.{stretch-at}
+use Rattle.algebra.specs.Algebra.{Algebra, Operation, cellCount, operationsOf, operations, arguments, place, value}
+use Rattle.algebra.proofs.Arguments.{Args, of-arguments, arguments-long, place-law}
+
+-- operation j: its cells begin behind those of the operations before it
+unfoldable pub operationAt : Algebra → ℕ → Operation
+operationAt a j =
+    record { arity = getD (a .arities) j 0; table = take (a .size ^ getD (a .arities) j 0) (drop (cellCount (a .size) (take j (a .arities))) (a .cells)) }
+
+nth : (n : ℕ) (arities cells : List ℕ) (j : ℕ) → j < length arities
+    → Member (record { arity = getD arities j 0; table = take (n ^ getD arities j 0) (drop (cellCount n (take j arities)) cells) }) (operationsOf n arities cells)
+unfolding operationsOf cellCount
+nth n [] cells j l = absurd (omega arith)
+nth n (s ∷ rest) cells zero l = here refl
+nth n (s ∷ rest) cells (suc j) l =
+    there (rw (drop-drop (cellCount n (take j rest)) (n ^ s) cells) at (nth n rest (drop (n ^ s) cells) j (omega arith)))
+
+pub operationAt-member : (a : Algebra) (j : ℕ) → j < length (a .arities) → Member (operationAt a j) (operations a)
+unfolding operationAt operations
+operationAt-member a j l = nth (a .size) (a .arities) (a .cells) j l
+
+every-nth : (n : ℕ) (arities cells : List ℕ) (P : Operation → Type 0)
+    → ((j : ℕ) → j < length arities → P (record { arity = getD arities j 0; table = take (n ^ getD arities j 0) (drop (cellCount n (take j arities)) cells) }))
+    → (f : Operation) → Member f (operationsOf n arities cells) → P f
+unfolding operationsOf cellCount
+every-nth n [] cells P h f i = absurd (not-nil i)
+every-nth n (s ∷ rest) cells P h f i =
+    elim (cases-cons i) [
+      | inl e ↦ subst P (sym e) (h 0 (omega arith))
+      | inr k ↦ every-nth n rest (drop (n ^ s) cells) P (λ j l. rw (drop-drop (cellCount n (take j rest)) (n ^ s) cells) (h (suc j) (omega arith))) f k
+    ]
+
+-- a fact of every operation is a fact of each number of one
+pub every-operation : (a : Algebra) (P : Operation → Type 0) → ((j : ℕ) → j < length (a .arities) → P (operationAt a j)) → (f : Operation) → Member f (operations a) → P f
+unfolding operationAt operations
+every-operation a P h f i = every-nth (a .size) (a .arities) (a .cells) P h f i
+
+-- the value is the cell at the operation's beginning and the place
+pub value-at : (a : Algebra) (j : ℕ) (xs : List ℕ) → Args (a .size) (getD (a .arities) j 0) xs
+    → value (a .size) (operationAt a j) xs ≡ getD (a .cells) (cellCount (a .size) (take j (a .arities)) + place (a .size) xs) 0
+unfolding value operationAt
+value-at a j xs h =
+    getD-take (a .size ^ getD (a .arities) j 0) (drop (cellCount (a .size) (take j (a .arities))) (a .cells)) (place (a .size) xs) 0 (place-law (a .size) (getD (a .arities) j 0) xs h .0)
+    ∙ getD-drop (cellCount (a .size) (take j (a .arities))) (a .cells) (place (a .size) xs) 0
+
+-- the argument list at place k: it has that place, and each argument list has one
+pub args-at : (n s k : ℕ) → k < n ^ s → Args n s (getD (arguments n s) k [])
+args-at n s k l = of-arguments n s (getD (arguments n s) k []) (member-at (arguments n s) k [] (omega (arith, arguments-long n s)))
+
+pub arguments-cons : (n s x k : ℕ) → x < n → k < n ^ s → getD (arguments n (suc s)) (x * n ^ s + k) [] ≡ x ∷ getD (arguments n s) k []
+unfolding arguments
+arguments-cons n s x k l h =
+    stretch-at (λ x. map (λ t. x ∷ t) (arguments n s)) (n ^ s) (λ x. length-map (arguments n s) (λ t. x ∷ t) ∙ arguments-long n s) n x k [] l h
+    ∙ map-at (λ t. x ∷ t) (arguments n s) k [] [] (omega (arith, arguments-long n s))
+
+-- a fact of every argument list is a fact of each place
+pub every-place : (n s : ℕ) (P : List ℕ → Type 0) → ((k : ℕ) → k < n ^ s → P (getD (arguments n s) k [])) → (xs : List ℕ) → Args n s xs → P xs
+every-place n s P h xs a = let r = place-law n s xs a in subst P (r .1) (h (place n xs) (r .0))

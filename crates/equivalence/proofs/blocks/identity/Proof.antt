@@ -1,0 +1,55 @@
+use Prim.Native.Nat.{_≤_, _-_}
+use mathlib.Core.Path.{_≡_, refl, sym}
+use native.Mathlib.Omega.{arith}
+use lib.ListN.{length, length-set}
+use borrow.Author.Needs.{needs}
+use Rattle.equivalence.specs.Equivalence.{byte}
+use Rattle.equivalence.specs.Kernel.{Filled, relabel}
+use Rattle.equivalence.proofs.Kernels.{filled-none, filled-more}
+use Rattle.equivalence.proofs.blocks.identity.Statement.{statement}
+use Rattle.equivalence.proofs.blocks.identity.Tie as tie
+
+abbrev Inv-loop : tie.InvT-loop
+Inv-loop m₀ n i₀ m i = (i ≤ n) × (length m ≡ length m₀) × Filled i (λ x. x) (byte m₀) (byte m)
+
+abbrev μ-loop : tie.MeasureT-loop
+μ-loop m₀ n i₀ m i = n - i
+
+loop-holds : tie.Need-loop-holds Inv-loop μ-loop
+loop-holds c = (omega arith, refl, filled-none _ _)
+
+cast-m : tie.Need-cast-m Inv-loop μ-loop
+cast-m c = search needs
+
+slice-write-m : tie.Need-slice-write-m Inv-loop μ-loop
+slice-write-m c = omega arith
+
+add-i : tie.Need-add-i Inv-loop μ-loop
+add-i c = omega arith
+
+loop-less : tie.Need-loop-less Inv-loop μ-loop
+loop-less c = omega arith
+
+loop-again : tie.Need-loop-again Inv-loop μ-loop
+loop-again c = (omega arith, simp length-set (omega arith), filled-more (c .before .loop .m) _ (omega arith) refl (c .before .loop .inv .2))
+
+same-length : tie.Need-same-length Inv-loop μ-loop
+same-length c = omega arith
+
+returns : tie.Need-returns Inv-loop μ-loop
+returns c = let e : c .before .loop .i ≡ c .before .before .args .n = omega arith in rw e at (c .before .loop .inv .2)
+
+pub identity-spec : {M : Type 1} → statement M
+identity-spec =
+    tie.close
+    (tie.spec
+    Inv-loop
+    μ-loop
+    loop-holds
+    cast-m
+    slice-write-m
+    add-i
+    loop-less
+    loop-again
+    same-length
+    returns)

@@ -1,0 +1,65 @@
+use Prim.Native.Nat.{_≤_, _-_}
+use mathlib.Core.Path.{_≡_, refl, ap, _∙_}
+use native.Mathlib.Omega.{arith}
+use lib.ListN.{length, length-set}
+use borrow.Author.Needs.{needs}
+use Rattle.equivalence.specs.Equivalence.{byte}
+use Rattle.equivalence.specs.Kernel.{Filled, relabel}
+use Rattle.equivalence.proofs.Kernels.{filled-none, filled-more}
+use Rattle.equivalence.proofs.blocks.relabel_all.Statement.{statement}
+use Rattle.equivalence.proofs.blocks.relabel_all.Tie as tie
+
+abbrev Inv-loop : tie.InvT-loop
+Inv-loop m₀ n old new i₀ m i = (i ≤ n) × (length m ≡ length m₀) × Filled i (λ x. relabel old new (byte m₀ x)) (byte m₀) (byte m)
+
+abbrev μ-loop : tie.MeasureT-loop
+μ-loop m₀ n old new i₀ m i = n - i
+
+loop-holds : tie.Need-loop-holds Inv-loop μ-loop
+loop-holds c = (omega arith, refl, filled-none _ _)
+
+slice-read-relabelled : tie.Need-slice-read-relabelled Inv-loop μ-loop
+slice-read-relabelled c = omega arith
+
+relabelled-requires : tie.Need-relabelled-requires Inv-loop μ-loop
+relabelled-requires c κs = search needs
+
+slice-write-m : tie.Need-slice-write-m Inv-loop μ-loop
+slice-write-m c = omega arith
+
+add-i : tie.Need-add-i Inv-loop μ-loop
+add-i c = omega arith
+
+loop-less : tie.Need-loop-less Inv-loop μ-loop
+loop-less c = omega arith
+
+loop-again : tie.Need-loop-again Inv-loop μ-loop
+loop-again c =
+    let l = c .before .before .before .loop in
+    (
+      omega arith,
+      simp length-set (omega arith),
+      filled-more (l .m) _ (omega arith) (c .relabelled .ensures ∙ ap (relabel _ _) (l .inv .2 .rest (l .i) (omega arith))) (l .inv .2),
+    )
+
+same-length : tie.Need-same-length Inv-loop μ-loop
+same-length c = omega arith
+
+returns : tie.Need-returns Inv-loop μ-loop
+returns c = let e : c .before .loop .i ≡ c .before .before .before .args .n = omega arith in rw e at (c .before .loop .inv .2)
+
+pub relabel-all-spec : {M : Type 1} → statement M
+relabel-all-spec =
+    tie.close
+    (tie.spec
+    Inv-loop
+    μ-loop
+    loop-holds
+    slice-read-relabelled
+    relabelled-requires
+    slice-write-m
+    add-i
+    loop-less
+    loop-again
+    same-length
+    returns)

@@ -1,0 +1,68 @@
+// The blocks of a map, changed in place. A map is lent with room for n bytes; bytes past n keep their value.
+ghost use mathlib.Core.Path.{_≡_};
+ghost use Prim.Native.Nat.{ℕ, _+_, _<_, _≤_};
+ghost use Rattle.equivalence.specs.Equivalence.{byte};
+ghost use Rattle.equivalence.specs.Kernel.{Canonical, Filled, Merged, relabel};
+
+// v, or `new` where v is `old`.
+fn relabelled(v: u8, old: u8, new: u8) -> u8
+    ensures { λ r. ⌜ r ≡ relabel old new v ⌝ }
+{
+    if v == old { new } else { v }
+}
+
+// Every byte `old` of the first n becomes `new`.
+fn relabel_all(m: &mut [u8], n: usize, old: u8, new: u8)
+    requires { do ⌜ n ≤ (← ⟦m.len()⟧) ⌝ }
+    ensures { λ _. ⌜ Filled n (λ x. relabel old new (byte (now (m .entry)) x)) (byte (now (m .entry))) (byte (now (m .exit))) ⌝ }
+{
+    let mut i = 0;
+    while i < n {
+        m[i] = relabelled(m[i], old, new);
+        i += 1;
+    }
+}
+
+// Puts the blocks of a and b, which are two, under the smaller name.
+pub fn merge(m: &mut [u8], n: usize, a: usize, b: usize)
+    requires { do ⌜ n ≤ (← ⟦m.len()⟧) ⌝ }
+    requires { ⌜ a < n ⌝ }
+    requires { ⌜ b < n ⌝ }
+    requires { ⌜ Canonical n (byte (now m)) ⌝ }
+    requires { ⌜ (byte (now m) a ≡ byte (now m) b → ⊥) ⌝ }
+    ensures { λ _. ⌜ Merged n a b (byte (now (m .entry))) (byte (now (m .exit))) ⌝ }
+{
+    let p = m[a];
+    let q = m[b];
+    if p < q {
+        relabel_all(m, n, q, p);
+    } else {
+        relabel_all(m, n, p, q);
+    }
+}
+
+// The first n bytes of m become the identity.
+pub fn identity(m: &mut [u8], n: usize)
+    requires { do ⌜ n ≤ (← ⟦m.len()⟧) ⌝ }
+    requires { ⌜ n ≤ 64 ⌝ }
+    ensures { λ _. ⌜ Filled n (λ x. x) (byte (now (m .entry))) (byte (now (m .exit))) ⌝ }
+{
+    let mut i = 0;
+    while i < n {
+        m[i] = i as u8;
+        i += 1;
+    }
+}
+
+// The first n bytes of `from` go to `to`.
+pub fn copy(from: &[u8], to: &mut [u8], n: usize)
+    requires { do ⌜ n ≤ (← ⟦from.len()⟧) ⌝ }
+    requires { do ⌜ n ≤ (← ⟦to.len()⟧) ⌝ }
+    ensures { λ _. ⌜ Filled n (byte (now (from .entry))) (byte (now (to .entry))) (byte (now (to .exit))) ⌝ }
+{
+    let mut i = 0;
+    while i < n {
+        to[i] = from[i];
+        i += 1;
+    }
+}
