@@ -72,7 +72,6 @@ of-congruences a m i =
     let r = of-keep (isCongruence a) (maps (a .size)) m i in
     congruence-is a m (record { map = isMap-of (a .size) m (maps-sound (a .size) m (r .0)); respects = r .1 })
 
-
 -- each place holds an element, and so does what a place past the end gives
 abbrev pub CellsBelow : ℕ → List ℕ → Type 0
 CellsBelow n l = (i : ℕ) → getD l i 0 < n

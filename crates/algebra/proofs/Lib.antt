@@ -1,5 +1,6 @@
 pub mod Accepted
 pub mod Arguments
 pub mod Congruences
+pub mod Strides
 pub mod Tables
 pub mod Translations

@@ -26,10 +26,13 @@ pub below-args : (n : ℕ) (xs : List ℕ) → AllBelow n xs → Args n (length 
 below-args n [] h = record { long = refl; below = λ i l. absurd (omega arith) }
 below-args n (x ∷ xs) h =
     let r = below-args n xs (h .1) in
-    record { long = refl; below = λ i l. elim (decLt 0 i) [
-      | yes k ↦ let e : i ≡ suc (i - 1) = omega arith in rw e (r .below (i - 1) (omega arith))
-      | no k ↦ let e : i ≡ 0 = omega arith in rw e (h .0)
-    ] }
+    record {
+      long = refl;
+      below = λ i l. elim (decLt 0 i) [
+        | yes k ↦ let e : i ≡ suc (i - 1) = omega arith in rw e (r .below (i - 1) (omega arith))
+        | no k ↦ let e : i ≡ 0 = omega arith in rw e (h .0)
+      ];
+    }
 
 append-below : (n : ℕ) (xs ys : List ℕ) → AllBelow n xs → AllBelow n ys → AllBelow n (xs ++ ys)
 append-below n [] ys h k = k

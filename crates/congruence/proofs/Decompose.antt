@@ -117,7 +117,6 @@ pruned-law n kept (m ∷ rest) h g =
           ])))
     ]
 
-
 pub record FactorList (a : Algebra) (ms : List Map) : Type 0 where
   pub maximal : (m : Map) → Member m ms → (x : ℕ) × (y : ℕ) × (x < a .size) × (y < a .size) × MaximalFor a m x y
   pub few : length ms < a .size
@@ -203,7 +202,6 @@ module _ (a : Algebra) (c : WellFormed a) where
 
   pub of-irreducible : (x y : ℕ) → decomposed a ≡ Irreducible x y → (ms : List Map) → ¬ Splitting a ms
   of-irreducible x y e = unsplit (λ t. let d = decomposed-yes t in let z : _≡_ {A = ℕ} 0 1 = cc in omega arith)
-
 
 pub gathered-end : (k : ℕ) (a : Algebra) (d : Map) → Discrete (a .size) d → gathered k a d ≡ []
 unfolding gathered

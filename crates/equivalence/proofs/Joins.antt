@@ -17,7 +17,6 @@ meetAll-best : (n : ℕ) (ms : List Map) → Member (meetAll n ms) ms → Best (
 meetAll-best n ms i =
     record { member = i; before = λ c j. inside-of n (meetAll n ms) c (λ x y l k e. of-meetAll n ms x y l k e c j) }
 
-
 pub record LeastUpper (n : ℕ) (a b m : Map) : Type 0 where
   pub map : IsMap n m
   pub left : Inside n a m

@@ -43,7 +43,6 @@ module _ {ℓ} {A : Type ℓ} where
         | inr s ↦ let r = of-any p l s in (r .0, there (r .1), r .2)
       ]
 
-
   pub keep-yes : (p : A → Bool) (a : A) (l : List A) → T (p a) → keep p (a ∷ l) ≡ a ∷ keep p l
   unfolding keep
   keep-yes p a l t = pick-yes (p a) (a ∷ keep p l) (keep p l) t
@@ -71,7 +70,6 @@ module _ {ℓ} {A : Type ℓ} where
         ]
         | no s ↦ let r = of-keep p l a (rw (keep-no p b l s) at m) in (there (r .0), r .1)
       ]
-
 
   pub first-yes : (p : A → Bool) (d a : A) (l : List A) → T (p a) → first p d (a ∷ l) ≡ a
   unfolding first
@@ -103,7 +101,6 @@ module _ {ℓ} {A : Type ℓ} where
         | no s ↦ first-no p d a (l ++ r) s ∙ first-append p d l r ∙ sym (first-no p (first p d r) a l s)
       ]
 
-
   pub member-concat : (ls : List (List A)) (l : List A) (a : A) → Member l ls → Member a l → Member a (concat ls)
   unfolding concat
   member-concat (k ∷ ls) l a (here e) m = append-left (concat ls) (subst (λ (x : List A). Member a x) e m)
@@ -117,7 +114,6 @@ module _ {ℓ} {A : Type ℓ} where
         | inl h ↦ (k, here refl, h)
         | inr h ↦ let r = of-concat ls a h in (r .0, there (r .1), r .2)
       ]
-
 
   pub keep-all : (p : A → Bool) (l : List A) → length (keep p l) ≤ length l
   unfolding keep
@@ -151,7 +147,6 @@ module _ {ℓ} {A : Type ℓ} where
             ]
       ]
 
-
   pub member-at : (l : List A) (i : ℕ) (d : A) → i < length l → Member (getD l i d) l
   member-at [] i d h = absurd (omega arith)
   member-at (a ∷ l) zero d h = here refl
@@ -170,7 +165,6 @@ module _ {ℓ} {A : Type ℓ} where
   of-take [] (suc i) a m = absurd (not-nil m)
   of-take (b ∷ l) zero a m = absurd (not-nil m)
   of-take (b ∷ l) (suc i) a m = elim (cases-cons m) [ inl e ↦ here e | inr k ↦ there (of-take l i a k) ]
-
 
 pub upTo-length : (n : ℕ) → length (upTo n) ≡ n
 unfolding upTo

@@ -66,7 +66,6 @@ of-inside n a b t x y l k e =
     (of-below n (λ y. not (holds a x y) || holds b x y) (of-below n (λ x. every (λ y. not (holds a x y) || holds b x y) (upTo n)) t x l) y k)
     (holds-of a x y e))
 
-
 pub inside-refl : (n : ℕ) (a : Map) → T (inside n a a)
 inside-refl n a = inside-of n a a (λ x y l k e. e)
 
@@ -85,7 +84,6 @@ map-ext n a b p q h k =
 
 pub inside-anti : (n : ℕ) (a b : Map) → IsMap n a → IsMap n b → T (inside n a b) → T (inside n b a) → a ≡ b
 inside-anti n a b p q s t = map-ext n a b p q (of-inside n a b s) (of-inside n b a t)
-
 
 pub record IsEquivalence (n : ℕ) (related : ℕ → ℕ → Bool) : Type 0 where
   pub same : (x : ℕ) → x < n → T (related x x)
@@ -149,7 +147,6 @@ mapOf-is n related m p f g =
       swap = λ x y l k t. g y x k l (sym (f x y l k t));
       chain = λ x y z l k j t s. g x z l j (f x y l k t ∙ f y z k j s);
     }
-
 
 eqb-equiv : (n : ℕ) → IsEquivalence n eqb
 eqb-equiv n =

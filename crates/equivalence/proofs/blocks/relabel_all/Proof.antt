@@ -35,8 +35,7 @@ loop-less c = omega arith
 
 loop-again : tie.Need-loop-again Inv-loop μ-loop
 loop-again c =
-    let l = c .before .before .before .loop in
-    (
+    let l = c .before .before .before .loop in (
       omega arith,
       simp length-set (omega arith),
       filled-more (l .m) _ (omega arith) (c .relabelled .ensures ∙ ap (relabel _ _) (l .inv .2 .rest (l .i) (omega arith))) (l .inv .2),
