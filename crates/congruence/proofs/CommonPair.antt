@@ -14,7 +14,7 @@ use Rattle.equivalence.proofs.BlockNumbers.{blocks-some}
 use Rattle.equivalence.proofs.Lists.{of-every, keep-member, of-keep, member-at, member-index}
 use Rattle.equivalence.proofs.Maps.{Holds, holds-of, of-holds, map-ext, Discrete, identity-discrete, discrete-identity, whole-map, whole-holds, isIdentity-of, of-isIdentity}
 use Rattle.equivalence.proofs.Meets.{meetAll-map, meetAll-holds, of-meetAll, Meets, meets-of, of-meets}
-use Rattle.equivalence.proofs.Pairs.{of-pairs, Lex, firstHeld-law, firstHeld-first}
+use Rattle.equivalence.proofs.Pairs.{of-pairs, Lex, firstHeld-law, firstHeld-first, pairs-one}
 use Rattle.equivalence.proofs.Tests.{both, left}
 use Rattle.algebra.specs.Algebra.{Algebra}
 use Rattle.algebra.specs.Congruence.{congruences}
@@ -23,9 +23,9 @@ use Rattle.algebra.proofs.Congruences.{IsCongruence, congruence-is, congruence-
 use Rattle.congruence.specs.Decompose.{gathered, listed, reducible, commonPair}
 use Rattle.congruence.specs.Demands.{Splitting}
 use Rattle.congruence.specs.Extremal.{holdsAll, generated}
-use Rattle.congruence.proofs.Decompose.{gathered-law, pruned-law, listed-law, two-at-least}
-use Rattle.congruence.proofs.Generated.{generated-law}
-use Rattle.congruence.proofs.Separated.{MaximalFor}
+use Rattle.congruence.proofs.Factors.{gathered-law, pruned-law, listed-law}
+use Rattle.congruence.proofs.LeastCongruence.{generated-law}
+use Rattle.congruence.proofs.Separation.{MaximalFor}
 
 -- every congruence but the identity holds x and y
 abbrev pub Common : Algebra → ℕ → ℕ → Type 0
@@ -55,7 +55,7 @@ module _ (a : Algebra) (c : WellFormed a) where
 
   -- where nothing splits the algebra, the congruences but the identity have a pair in common
   common : 2 ≤ a .size → ((ms : List Map) → ¬ Splitting a ms) → ¬ Discrete (a .size) (meetAll (a .size) (keep proper (congruences a)))
-  common two-at-least none f =
+  common two none f =
       go (keep proper (congruences a)) of-proper (λ x y l k h. f x y l k (meetAll-holds (a .size) (keep proper (congruences a)) x y l k h))
     where
       go : (ms : List Map) → ((d : Map) → Member d ms → IsCongruence a d × ¬ Discrete (a .size) d) → Meets (a .size) ms → ⊥
@@ -71,10 +71,10 @@ module _ (a : Algebra) (c : WellFormed a) where
 
   pub commonPair-law : 2 ≤ a .size → ((ms : List Map) → ¬ Splitting a ms) → FirstCommon a (commonPair a)
   unfolding commonPair proper
-  commonPair-law two-at-least none =
+  commonPair-law two none =
       let ms : List Map = keep proper (congruences a) in
       let m : Map = meetAll (a .size) ms in
-      let r = firstHeld-law (a .size) m (common two-at-least none) in
+      let r = firstHeld-law (a .size) m (common two none) in
       let q = of-pairs (a .size) (firstHeld (a .size) m) (r .0) in
       let l : firstHeld (a .size) m .0 < a .size = omega (arith, q .0, q .1) in
       record {
@@ -128,7 +128,7 @@ module _ (a : Algebra) (c : WellFormed a) where
 
   pub reducible-when : 2 ≤ a .size → ((m : Map) → Member m (gathered (a .size) a (whole (a .size))) → ¬ Discrete (a .size) m) → T (reducible a)
   unfolding reducible listed
-  reducible-when two-at-least h = not-T (every (isIdentity (a .size)) (listed a)) (λ t. go (listed a) (listed-law a c .meets) member (λ m i. of-isIdentity (a .size) m (of-every (isIdentity (a .size)) (listed a) t m i)))
+  reducible-when two h = not-T (every (isIdentity (a .size)) (listed a)) (λ t. go (listed a) (listed-law a c .meets) member (λ m i. of-isIdentity (a .size) m (of-every (isIdentity (a .size)) (listed a) t m i)))
     where
       member : (m : Map) → Member m (listed a) → Member m (gathered (a .size) a (whole (a .size)))
       member m i =

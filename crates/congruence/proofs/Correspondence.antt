@@ -7,14 +7,14 @@ use lib.ListN.{length, getD, set, length-map}
 use lib.Seq.{ext-getD}
 use Rattle.equivalence.specs.Equivalence.{Map, byte, holds, blocks, blockOf, mapOf, same}
 use Rattle.equivalence.proofs.BlockNumbers.{smallest, block-below, smallest-block, smallest-below, block-smallest}
-use Rattle.equivalence.proofs.Lists.{member-at, map-at, map-set}
+use Rattle.equivalence.proofs.Lists.{map-at, map-set}
 use Rattle.equivalence.proofs.Maps.{Holds, holds-of, of-holds, Inside, map-ext, IsEquivalence, mapOf-holds, of-mapOf, mapOf-map}
 use Rattle.algebra.specs.Algebra.{Algebra, Operation, operations, value}
 use Rattle.algebra.specs.Congruence.{respects}
 use Rattle.algebra.proofs.Accepted.{WellFormed}
 use Rattle.algebra.proofs.Arguments.{Args, args-set, args-map}
 use Rattle.algebra.proofs.Congruences.{Respects, IsCongruence, value-below}
-use Rattle.congruence.specs.Quotient.{quotient}
+use Rattle.congruence.specs.Quotient.{quotientCells, quotient}
 use Rattle.congruence.proofs.Quotients.{onBlocks, operations-quotient, block-value, pulled, pulled-holds, of-pulled, pulled-inside, pulled-congruence}
 
 module _ (a : Algebra) (c : WellFormed a) (m : Map) (p : IsCongruence a m) where
@@ -75,7 +75,7 @@ module _ (a : Algebra) (c : WellFormed a) (m : Map) (p : IsCongruence a m) where
         pushed-holds _ _ (u .0) (v .0) (u .1 ∙ w ∙ ap (λ (z : List ℕ). byte d (value (a .size) f z)) (sym (map-set (smallest (a .size) m) bs j y)) ∙ sym (v .1))
 
     pub pushed-congruence : IsCongruence (quotient a m) (pushed d)
-    unfolding pushed quotient
+    unfolding pushed quotient quotientCells
     pushed-congruence =
         record {
           map = mapOf-map (blocks (a .size) m) _ equiv;
@@ -96,15 +96,15 @@ module _ (a : Algebra) (c : WellFormed a) (m : Map) (p : IsCongruence a m) where
 
   -- pulled back and pushed forward
   pub pushed-pulled : (e : Map) → IsCongruence (quotient a m) e → pushed (pulled a c m p e) ≡ e
-  unfolding quotient
+  unfolding quotient quotientCells
   pushed-pulled e q =
       let d : Map = pulled a c m p e in
       let r : IsCongruence a d = pulled-congruence a c m p e q in
       let above : Inside (a .size) m d = pulled-inside a c m p e q in
-      let at : (i : ℕ) → i < blocks (a .size) m → byte e (blockOf m (smallest (a .size) m i)) ≡ byte e i = λ i l. ap (byte e) (block-smallest (a .size) m (p .map) i l) in
+      let back : (i : ℕ) → i < blocks (a .size) m → byte e (blockOf m (smallest (a .size) m i)) ≡ byte e i = λ i l. ap (byte e) (block-smallest (a .size) m (p .map) i l) in
       map-ext (blocks (a .size) m) (pushed d) e (pushed-congruence d r above .map) (q .map)
-      (λ i j l k g. sym (member-at i l)
+      (λ i j l k g. sym (back i l)
       ∙ of-pulled a c m p e q (smallest (a .size) m i) (smallest (a .size) m j) (smallest-below (a .size) m (p .map) i l .0) (smallest-below (a .size) m (p .map) j k .0) (of-pushed d r above i j l k g)
-      ∙ member-at j k)
+      ∙ back j k)
       (λ i j l k g. pushed-holds d r above i j l k
-      (pulled-holds a c m p e q (smallest (a .size) m i) (smallest (a .size) m j) (smallest-below (a .size) m (p .map) i l .0) (smallest-below (a .size) m (p .map) j k .0) (member-at i l ∙ g ∙ sym (member-at j k))))
+      (pulled-holds a c m p e q (smallest (a .size) m i) (smallest (a .size) m j) (smallest-below (a .size) m (p .map) i l .0) (smallest-below (a .size) m (p .map) j k .0) (back i l ∙ g ∙ sym (back j k))))

@@ -1,9 +1,10 @@
-pub mod Certify
+pub mod Certificates
 pub mod CommonPair
-pub mod Contained
 pub mod Correspondence
-pub mod Decompose
-pub mod Extended
-pub mod Generated
+pub mod Demands
+pub mod Extension
+pub mod Factors
+pub mod GreatestCongruence
+pub mod LeastCongruence
 pub mod Quotients
-pub mod Separated
+pub mod Separation

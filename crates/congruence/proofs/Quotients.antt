@@ -17,12 +17,15 @@ use Rattle.algebra.specs.Congruence.{respects}
 use Rattle.algebra.proofs.Accepted.{WellFormed}
 use Rattle.algebra.proofs.Arguments.{Args, args-set, arguments-long, place-law, args-map}
 use Rattle.algebra.proofs.Congruences.{IsCongruence, congruence-is, value-below, respects-all}
-use Rattle.congruence.specs.Calls.{decomposed}
+use Rattle.congruence.specs.Calls.{element, decomposed}
 use Rattle.congruence.specs.Decompose.{commonPair}
 use Rattle.congruence.specs.Demands.{Splitting}
-use Rattle.congruence.specs.Quotient.{quotientTable, quotient}
-use Rattle.congruence.proofs.Decompose.{irreducible-of}
-use Rattle.congruence.proofs.Separated.{MaximalFor}
+use Rattle.congruence.specs.Quotient.{quotientTable, quotientCells, quotient}
+use Rattle.congruence.proofs.Factors.{irreducible-of}
+use Rattle.congruence.proofs.Separation.{MaximalFor}
+use Rattle.equivalence.specs.declared.Element.{Element}
+use Rattle.congruence.specs.declared.Decomposed.{Decomposed}
+use Rattle.congruence.specs.declared.Decomposed.the-variants.{Factors, Irreducible}
 
 unfoldable pub onBlocks : ℕ → Map → Operation → Operation
 onBlocks n m f = record { arity = f .arity; table = quotientTable n m f }
@@ -41,7 +44,7 @@ operationsOf-quotient n m (s ∷ rest) cells =
     rw (take-at (quotientTable n m f) more (blocks n m ^ s) (quotientTable-long n m f), drop-at (quotientTable n m f) more (blocks n m ^ s) (quotientTable-long n m f), operationsOf-quotient n m rest (drop (n ^ s) cells))
 
 pub operations-quotient : (a : Algebra) (m : Map) → operations (quotient a m) ≡ map (onBlocks (a .size) m) (operations a)
-unfolding operations quotient
+unfolding operations quotient quotientCells
 operations-quotient a m = operationsOf-quotient (a .size) m (a .arities) (a .cells)
 
 cells-quotient : (n : ℕ) (m : Map) (arities cells : List ℕ) → length (concat (map (quotientTable n m) (operationsOf n arities cells))) ≡ cellCount (blocks n m) arities
@@ -69,7 +72,7 @@ module _ (a : Algebra) (c : WellFormed a) (m : Map) (p : IsCongruence a m) where
       (block-below (a .size) m (p .map) (value (a .size) (u .0) (map (smallest (a .size) m) (v .0))) (value-below a c (u .0) (u .1) (map (smallest (a .size) m) (v .0))))
 
   pub quotient-wellFormed : WellFormed (quotient a m)
-  unfolding quotient operations
+  unfolding quotient quotientCells operations
   quotient-wellFormed =
       record {
         some = blocks-some (a .size) m (c .some) (p .map);
@@ -129,7 +132,7 @@ module _ (a : Algebra) (c : WellFormed a) (m : Map) (p : IsCongruence a m) where
 
     pulled-respects : (f : Operation) → Member f (operations a) → (xs : List ℕ) → Args (a .size) (f .arity) xs → (j y : ℕ) → j < f .arity → y < a .size
         → Holds (pulled d) (getD xs j 0) y → Holds (pulled d) (value (a .size) f xs) (value (a .size) f (set xs j y))
-    unfolding quotient onBlocks
+    unfolding quotient quotientCells onBlocks
     pulled-respects f i xs h j y l k e =
         let g : Operation = onBlocks (a .size) m f in
         let bs : List ℕ = map (blockOf m) xs in
@@ -149,7 +152,7 @@ module _ (a : Algebra) (c : WellFormed a) (m : Map) (p : IsCongruence a m) where
 
     -- it is m itself only for the identity
     pub pulled-is : pulled d ≡ m → d ≡ identity (blocks (a .size) m)
-    unfolding quotient
+    unfolding quotient quotientCells
     pulled-is e =
         discrete-identity (blocks (a .size) m) d (q .map)
         (λ i j l k g. let s = smallest-below (a .size) m (p .map) i l in
@@ -163,7 +166,7 @@ module _ (a : Algebra) (c : WellFormed a) (m : Map) (p : IsCongruence a m) where
 
   -- nothing splits the quotient by a maximal
   pub quotient-unsplit : (x y : ℕ) → x < a .size → y < a .size → MaximalFor a m x y → (ms : List Map) → ¬ Splitting (quotient a m) ms
-  unfolding quotient
+  unfolding quotient quotientCells
   quotient-unsplit x y l k h ms s =
       h .apart
       (of-block (a .size) m (p .map) x y l k
@@ -177,5 +180,5 @@ module _ (a : Algebra) (c : WellFormed a) (m : Map) (p : IsCongruence a m) where
       (λ g. e .1 (pulled-is (getD ms (r .0) []) q g)))))))
 
   pub quotient-irreducible : (x y : ℕ) → x < a .size → y < a .size → MaximalFor a m x y
-      → decomposed (quotient a m) ≡ Irreducible ((commonPair (quotient a m)) .0) ((commonPair (quotient a m)) .1)
+      → decomposed (quotient a m) ≡ Irreducible (element (commonPair (quotient a m) .0)) (element (commonPair (quotient a m) .1))
   quotient-irreducible x y l k h = irreducible-of (quotient a m) quotient-wellFormed (quotient-unsplit x y l k h)

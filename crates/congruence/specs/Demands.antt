@@ -21,13 +21,13 @@ use Rattle.congruence.specs.declared.Divided.the-variants.{Blocks}
 -- Demand 2, Generate: the congruence holds the given pairs and lies inside every congruence that holds them
 pub record LeastCongruence (a : Algebra) (ps : List ℕ) (m : Map) : Type 0 where
   pub congruence : Congruence a m
-  pub holds : T (holdsAll ps m)
+  pub pairs : T (holdsAll ps m)
   pub least : (c : Map) → Congruence a c → T (holdsAll ps c) → T (inside (a .size) m c)
 
 -- Demand 2, Contained: the congruence lies inside the given equivalence and contains every congruence that does
 pub record GreatestCongruence (a : Algebra) (e m : Map) : Type 0 where
   pub congruence : Congruence a m
-  pub inside : T (inside (a .size) m e)
+  pub within : T (inside (a .size) m e)
   pub greatest : (c : Map) → Congruence a c → T (inside (a .size) c e) → T (inside (a .size) c m)
 
 -- Demand 2, Meet: the greatest equivalence inside both
@@ -58,16 +58,16 @@ abbrev pub Answers11 : Algebra → Type 0
 Answers11 a = decomposed a ≡ Irreducible (element (commonPair a .0)) (element (commonPair a .1))
 
 -- every congruence but the identity holds the pair
-abbrev pub Common : Algebra → ℕ → ℕ → Type 0
-Common a x y = (c : Map) → Congruence a c → ¬ (c ≡ identity (a .size)) → T (holds c x y)
+abbrev pub HeldByAll : Algebra → ℕ → ℕ → Type 0
+HeldByAll a x y = (c : Map) → Congruence a c → ¬ (c ≡ identity (a .size)) → T (holds c x y)
 
 -- the pair that 11 carries: 0 0 for n = 1, else the first pair that every congruence but the identity holds
 pub record FirstCommonPair (a : Algebra) (p : Pair) : Type 0 where
   pub one : a .size ≡ 1 → p ≡ (0, 0)
   pub order : 2 ≤ a .size → p.0 < p.1
   pub below : 2 ≤ a .size → p.1 < a .size
-  pub common : 2 ≤ a .size → Common a p.0 p.1
-  pub first : 2 ≤ a .size → (x y : ℕ) → x < y → y < a .size → Common a x y → (p.0 < x) ⊎ ((p.0 ≡ x) × (p.1 ≤ y))
+  pub common : 2 ≤ a .size → HeldByAll a p.0 p.1
+  pub first : 2 ≤ a .size → (x y : ℕ) → x < y → y < a .size → HeldByAll a x y → (p.0 < x) ⊎ ((p.0 ≡ x) × (p.1 ≤ y))
 
 -- what the list of factors is: 2 to n - 1 congruences that meet in the identity, none superfluous, each maximal for some pair, each one's quotient drawing 11 in turn
 pub record FactorsRight (a : Algebra) (ms : List Map) : Type 0 where

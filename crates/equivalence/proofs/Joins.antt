@@ -13,7 +13,7 @@ use Rattle.equivalence.proofs.Meets.{meetAll-map, meetAll-holds, of-mee
 use Rattle.equivalence.proofs.Tests.{both, left, right}
 
 -- where the meet of all members is a member, it is the least
-meetAll-best : (n : ℕ) (ms : List Map) → Member (meetAll n ms) ms → Best (inside n) ms (meetAll n ms)
+pub meetAll-best : (n : ℕ) (ms : List Map) → Member (meetAll n ms) ms → Best (inside n) ms (meetAll n ms)
 meetAll-best n ms i =
     record { member = i; before = λ c j. inside-of n (meetAll n ms) c (λ x y l k e. of-meetAll n ms x y l k e c j) }
 

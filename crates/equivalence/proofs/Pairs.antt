@@ -137,6 +137,6 @@ unfolding firstHeld
 firstHeld-first n m u v l k e =
     first-sorted Lex (λ p. holds m p.0 p.1) (0, 0) (pairs n) (sorted-pairs n) (u, v) (member-pairs n u v l k) (holds-of m u v e)
 
-pairs-one : pairs 1 ≡ []
+pub pairs-one : pairs 1 ≡ []
 unfolding pairs upTo keep concat
 pairs-one = refl

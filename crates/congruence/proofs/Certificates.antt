@@ -22,9 +22,9 @@ use Rattle.algebra.proofs.Accepted.{WellFormed}
 use Rattle.algebra.proofs.Congruences.{IsCongruence, congruence-is, congruence-of, member-congruences, of-congruences}
 use Rattle.congruence.specs.Certify.{isMaximalFor, certified}
 use Rattle.congruence.specs.Decompose.{listed}
-use Rattle.congruence.proofs.Decompose.{listed-law, two-at-least}
-use Rattle.congruence.proofs.Extended.{LeastAbove}
-use Rattle.congruence.proofs.Separated.{MaximalFor}
+use Rattle.congruence.proofs.Extension.{LeastAbove}
+use Rattle.congruence.proofs.Factors.{listed-law, two-at-least}
+use Rattle.congruence.proofs.Separation.{MaximalFor}
 
 module _ (a : Algebra) (m : Map) where
   pub of-isMaximalFor : IsCongruence a m → (p : Pair) → T (isMaximalFor a m p) → MaximalFor a m p.0 p.1
@@ -114,7 +114,7 @@ module _ (a : Algebra) (ms : List Map) where
       (every-of _ ms (λ m i. let q = congruence-of a m (c .each m i) in both (isMap (a .size) m) (isCongruence a m) (q .map) (q .respects)))
       (isIdentity-meets (a .size) ms (c .meets)))
       (below-of (length ms) _ (λ i l. not-T (isIdentity (a .size) (meetAll (a .size) (without i ms))) (λ t. c .needed i l (of-isIdentity-meets (a .size) (without i ms) t)))))
-      (every-of _ ms (λ m i. let p = c .peak m i in any-isMaximalFor a m (p .0) (p .1) (p .2) (p .3) (p .4)))
+      (every-of _ ms (λ m i. let p = c .maximal m i in any-isMaximalFor a m (p .0) (p .1) (p .2) (p .3) (p .4)))
 
   pub of-certified : T (certified a ms) → IsCertified a ms
   unfolding certified
@@ -144,4 +144,4 @@ module _ (a : Algebra) (ms : List Map) where
 pub listed-certified : (a : Algebra) → WellFormed a → T (certified a (listed a))
 listed-certified a c =
     let f = listed-law a c in
-    certified-of a (listed a) (record { each = λ m i. f .peak m i .4 .cong; meets = f .meets; needed = f .needed; maximal = f .peak })
+    certified-of a (listed a) (record { each = λ m i. f .maximal m i .4 .cong; meets = f .meets; needed = f .needed; maximal = f .maximal })

@@ -21,10 +21,13 @@ use Rattle.equivalence.proofs.Tests.{T?, both, pick-yes, pick-no}
 use Rattle.algebra.specs.Algebra.{Algebra}
 use Rattle.algebra.proofs.Accepted.{WellFormed}
 use Rattle.algebra.proofs.Congruences.{congruence-is, congruence-of}
-use Rattle.congruence.specs.Calls.{decomposed}
+use Rattle.congruence.specs.Calls.{element, decomposed}
 use Rattle.congruence.specs.Decompose.{added, gathered, pruned, listed, reducible, commonPair}
 use Rattle.congruence.specs.Demands.{Splitting}
-use Rattle.congruence.proofs.Separated.{MaximalFor, separated-law}
+use Rattle.congruence.proofs.Separation.{MaximalFor, separated-law}
+use Rattle.equivalence.specs.declared.Element.{Element}
+use Rattle.congruence.specs.declared.Decomposed.{Decomposed}
+use Rattle.congruence.specs.declared.Decomposed.the-variants.{Factors, Irreducible}
 
 -- ms refines the meet d so far to the identity
 pub record Gathered (a : Algebra) (d : Map) (ms : List Map) : Type 0 where
@@ -157,7 +160,7 @@ module _ (a : Algebra) (c : WellFormed a) where
       let f = listed-law a c in
       record {
         some = omega (arith, two-at-least (a .size) (listed a) (f .meets) (T-not (every (isIdentity (a .size)) (listed a)) t));
-        each = λ i l. let r = f .peak (getD (listed a) i []) (member-at (listed a) i [] l) in (
+        each = λ i l. let r = f .maximal (getD (listed a) i []) (member-at (listed a) i [] l) in (
           congruence-of a (getD (listed a) i []) (r .4 .cong),
           λ e. T-not (every (isIdentity (a .size)) (listed a)) t
               (identity-alone a (listed a) f (getD (listed a) i []) (member-at (listed a) i [] l) (subst (λ (z : Map). Discrete (a .size) z) (sym e) (identity-discrete (a .size)))),
@@ -177,7 +180,7 @@ module _ (a : Algebra) (c : WellFormed a) where
           let e = s .each 0 (s .some) in
           e .1 (discrete-identity (a .size) (getD ms 0 []) (congruence-is a (getD ms 0 []) (e .0) .map) (λ x y l k g. f .meets x y l k (λ m i. absurd (not-nil i))))
       go (m ∷ l) f h =
-          let p = f .peak m (here refl) in
+          let p = f .maximal m (here refl) in
           let fine : Discrete (a .size) m = h m (here refl) in
           let is : m ≡ identity (a .size) = discrete-identity (a .size) m (p .4 .cong .map) fine in
           p .4 .apart
@@ -190,17 +193,17 @@ module _ (a : Algebra) (c : WellFormed a) where
 
   pub decomposed-yes : T (reducible a) → decomposed a ≡ Factors (length (listed a))
   unfolding decomposed
-  decomposed-yes t = pick-yes (reducible a) (Factors (length (listed a))) (Irreducible ((commonPair a) .0) ((commonPair a) .1)) t
+  decomposed-yes t = pick-yes (reducible a) (Factors (length (listed a))) (Irreducible (element (commonPair a .0)) (element (commonPair a .1))) t
 
-  pub decomposed-no : ¬ T (reducible a) → decomposed a ≡ Irreducible ((commonPair a) .0) ((commonPair a) .1)
+  pub decomposed-no : ¬ T (reducible a) → decomposed a ≡ Irreducible (element (commonPair a .0)) (element (commonPair a .1))
   unfolding decomposed
-  decomposed-no t = pick-no (reducible a) (Factors (length (listed a))) (Irreducible ((commonPair a) .0) ((commonPair a) .1)) t
+  decomposed-no t = pick-no (reducible a) (Factors (length (listed a))) (Irreducible (element (commonPair a .0)) (element (commonPair a .1))) t
 
   -- refusal 11 comes just where nothing splits the algebra
-  pub irreducible-of : ((ms : List Map) → ¬ Splitting a ms) → decomposed a ≡ Irreducible ((commonPair a) .0) ((commonPair a) .1)
+  pub irreducible-of : ((ms : List Map) → ¬ Splitting a ms) → decomposed a ≡ Irreducible (element (commonPair a .0)) (element (commonPair a .1))
   irreducible-of h = decomposed-no (λ t. h (listed a) (split t))
 
-  pub of-irreducible : (x y : ℕ) → decomposed a ≡ Irreducible x y → (ms : List Map) → ¬ Splitting a ms
+  pub of-irreducible : (x y : Element) → decomposed a ≡ Irreducible x y → (ms : List Map) → ¬ Splitting a ms
   of-irreducible x y e = unsplit (λ t. let d = decomposed-yes t in let z : _≡_ {A = ℕ} 0 1 = cc in omega arith)
 
 pub gathered-end : (k : ℕ) (a : Algebra) (d : Map) → Discrete (a .size) d → gathered k a d ≡ []

@@ -23,7 +23,7 @@ use Rattle.algebra.specs.Congruence.{congruences}
 use Rattle.algebra.proofs.Accepted.{WellFormed}
 use Rattle.algebra.proofs.Congruences.{IsCongruence, member-congruences, of-congruences, identity-congruence}
 use Rattle.congruence.specs.Extremal.{separated}
-use Rattle.congruence.proofs.Extended.{LeastAbove}
+use Rattle.congruence.proofs.Extension.{LeastAbove}
 
 -- m holds x and y apart, and each strictly larger congruence joins them
 pub record MaximalFor (a : Algebra) (m : Map) (x y : ℕ) : Type 0 where

@@ -8,6 +8,7 @@ use lib.ListN.{length, getD}
 use Rattle.equivalence.specs.Equivalence.{Map, holds, inside, meetAll, best}
 use Rattle.equivalence.specs.Lists.{keep}
 use Rattle.equivalence.proofs.Best.{best-law}
+use Rattle.equivalence.proofs.Joins.{meetAll-best}
 use Rattle.equivalence.proofs.Lists.{keep-member, of-keep}
 use Rattle.equivalence.proofs.Maps.{holds-of, of-holds, Inside, of-inside, map-ext}
 use Rattle.equivalence.proofs.Meets.{meetAll-holds}
