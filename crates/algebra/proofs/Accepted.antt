@@ -66,7 +66,8 @@ accepted-wellFormed a e =
       below = λ i l. ltb→lt (getD (a .cells) i 0) (a .size) (every-at (λ c. ltb c (a .size)) (a .cells) cells i l);
     }
 
-not-yes : (b : Bool) → T b → ¬ T (not b)
+-- a test that holds, negated, does not apply
+pub not-yes : (b : Bool) → T b → ¬ T (not b)
 not-yes true t h = h
 not-yes false t h = t
 

@@ -226,3 +226,7 @@ unfolding pruned
 pruned-keep n kept rest m h =
     pick-no (isIdentity n (meetAll n (kept ++ rest))) (pruned n kept rest) (pruned n (kept ++ (m ∷ [])) rest)
     (λ t. h (of-meets n (kept ++ rest) (discrete-identity n (meetAll n (kept ++ rest)) (meetAll-map n (kept ++ rest)) (of-isIdentity n (meetAll n (kept ++ rest)) t))))
+
+-- every listed map has n bytes
+pub listed-long : (a : Algebra) → WellFormed a → (i : ℕ) → i < length (listed a) → length (getD (listed a) i []) ≡ a .size
+listed-long a c i l = listed-law a c .maximal (getD (listed a) i []) (member-at (listed a) i [] l) .4 .cong .map .long

@@ -1,7 +1,9 @@
+pub mod Calls
 pub mod Certificates
 pub mod CommonPair
 pub mod Correspondence
 pub mod Demands
+pub mod Examples
 pub mod Extension
 pub mod Factors
 pub mod GreatestCongruence

@@ -55,6 +55,11 @@ cells-quotient n m (s ∷ rest) cells =
     length-append (quotientTable n m f) (concat (map (quotientTable n m) (operationsOf n rest (drop (n ^ s) cells))))
     ∙ omega (arith, quotientTable-long n m f, cells-quotient n m rest (drop (n ^ s) cells))
 
+-- the quotient's tables have b^s cells for each arity s
+pub quotientCells-length : (a : Algebra) (m : Map) → length (quotientCells a m) ≡ cellCount (blocks (a .size) m) (a .arities)
+unfolding quotientCells operations
+quotientCells-length a m = cells-quotient (a .size) m (a .arities) (a .cells)
+
 cellCount-mono : (b n : ℕ) → b ≤ n → (arities : List ℕ) → cellCount b arities ≤ cellCount n arities
 unfolding cellCount
 cellCount-mono b n h [] = omega arith

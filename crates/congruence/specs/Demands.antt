@@ -9,7 +9,8 @@ use lib.ListN.{length, getD, take}
 use Rattle.equivalence.specs.Lists.{without, stretch}
 use Rattle.equivalence.specs.Equivalence.{Map, holds, inside, identity, meetAll, blocks, blockOf}
 use Rattle.equivalence.specs.Order.{Pair}
-use Rattle.algebra.specs.Algebra.{Algebra, Operation, operations, arguments, value, cellCount}
+use Rattle.equivalence.specs.declared.Element.{Element}
+use Rattle.algebra.specs.Algebra.{Algebra, algebraOf, Operation, operations, arguments, value, cellCount}
 use Rattle.algebra.specs.Congruence.{Congruence}
 use Rattle.congruence.specs.Extremal.{holdsAll}
 use Rattle.congruence.specs.Quotient.{quotientTable, quotient}
@@ -30,7 +31,6 @@ pub record GreatestCongruence (a : Algebra) (e m : Map) : Type 0 where
   pub within : T (inside (a .size) m e)
   pub greatest : (c : Map) → Congruence a c → T (inside (a .size) c e) → T (inside (a .size) c m)
 
--- Demand 2, Meet: the greatest equivalence inside both
 -- Demand 2, Quotient: the cell at the blocks of any members is the block of the result at those members
 pub record QuotientAtMembers (a : Algebra) (m : Map) : Type 0 where
   pub cell : (f : Operation) → Member f (operations a) → (xs : List ℕ) → Member xs (arguments (a .size) (f .arity))
@@ -84,3 +84,17 @@ pub record FactorTheorem (a : Algebra) : Type 0 where
   pub irreducible : Answers11 a ↔ Unsplit a
   pub pair : Answers11 a → FirstCommonPair a (commonPair a)
   pub otherwise : ¬ Answers11 a → (decomposed a ≡ Factors (length (listed a))) × FactorsRight a (listed a)
+
+-- Quotient by m is given, and Decompose on the tables and b that it gave answers 11
+pub record QuotientDraws11 (a : Algebra) (m : Map) : Type 0 where
+  pub given : (tables : List ℕ) → cellCount (blocks (a .size) m) (a .arities) ≤ length tables → quotientCall a m tables .0 ≡ Blocks (blocks (a .size) m)
+  pub draws11 : (tables : List ℕ) → cellCount (blocks (a .size) m) (a .arities) ≤ length tables
+      → (b : ℕ) → quotientCall a m tables .0 ≡ Blocks b → (again : List ℕ) → (b - 1) * b ≤ length again
+      → (x : Element) × (y : Element) × (decomposeCall (algebraOf b (a .arities) (take (cellCount b (a .arities)) (quotientCall a m tables .1))) again .0 ≡ Irreducible x y)
+
+-- Demand 3 over the calls: Decompose; for each factor, Quotient of the same algebra by the factor's map as listed, bytes i × n to i × n + n;
+-- and Decompose on the tables and b that this gave, with the arities as before: it answers 11; each call is lent at least what it wants
+pub record FactorCalls (a : Algebra) (lent : List ℕ) : Type 0 where
+  pub answer : decomposeCall a lent .0 ≡ decomposed a
+  pub listing : (k i : ℕ) → decomposed a ≡ Factors k → i < k → stretch (a .size) (decomposeCall a lent .1) i ≡ getD (listed a) i []
+  pub quotients : (k i : ℕ) → decomposeCall a lent .0 ≡ Factors k → i < k → QuotientDraws11 a (stretch (a .size) (decomposeCall a lent .1) i)

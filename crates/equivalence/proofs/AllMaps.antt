@@ -7,6 +7,7 @@ use native.Mathlib.Decide.{decLt}
 use native.Mathlib.Omega.{arith}
 use lib.Dec.{eqb, eqb→eq}
 use lib.ListN.{length, take, length-append, List·getD-append}
+use lib.Pow.{low}
 use lib.Seq.{getD-take, getD-append-seam, take-suc, take-all, length-take-le}
 use Rattle.equivalence.specs.Equivalence.{Map, byte, roots, maps}
 use Rattle.equivalence.specs.Lists.{upTo}

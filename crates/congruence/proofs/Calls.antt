@@ -1,0 +1,142 @@
+-- The calls of Decompose and Quotient on an accepted algebra with room enough: what they answer and write, and demand 3 over them together.
+use Prim.Native.Nat.{ℕ, _-_, _*_, _≤_, _<_}
+use mathlib.Core.List.{List, []}
+use mathlib.Core.Path.{_≡_, sym, subst, _∙_}
+use native.Mathlib.Omega.{arith}
+use lib.Dec.{T, ltb→lt}
+use lib.ListN.{length, getD, take, drop}
+use lib.Seq.{take-at}
+use Rattle.equivalence.specs.Equivalence.{Map, isMap, blocks}
+use Rattle.equivalence.specs.Lists.{concat, stretch}
+use Rattle.equivalence.specs.Refusal.{mapTest, spaceTest, answered, written, lentAfter}
+use Rattle.equivalence.proofs.Refusals.{lowest-none, lowest-next, lowest-append}
+use Rattle.equivalence.proofs.Stretches.{stretch-concat}
+use Rattle.equivalence.proofs.Tests.{T?, pick-yes}
+use Rattle.algebra.specs.Accepted.{algebraTests, Accepted}
+use Rattle.algebra.specs.Algebra.{Algebra, algebraOf, cellCount}
+use Rattle.algebra.specs.Congruence.{isCongruence, Congruence}
+use Rattle.algebra.proofs.Accepted.{WellFormed, accepted-wellFormed, not-yes, wellFormed-accepted}
+use Rattle.algebra.proofs.Congruences.{congruence-is}
+use Rattle.congruence.specs.Calls.{element, congruenceTest, quotientCheck, quotientCall, decomposeCheck, decomposed, factorBytes, decomposeCall}
+use Rattle.congruence.specs.Decompose.{listed, reducible, commonPair}
+use Rattle.congruence.specs.Demands.{Answers11, QuotientDraws11, FactorCalls}
+use Rattle.congruence.specs.Quotient.{quotientCells, quotient}
+use Rattle.congruence.proofs.Demands.{listed-right}
+use Rattle.congruence.proofs.Factors.{decomposed-yes, decomposed-no, listed-long}
+use Rattle.congruence.proofs.Quotients.{quotientCells-length, quotient-wellFormed}
+use Rattle.equivalence.specs.declared.Refusal.{Refusal}
+use Rattle.equivalence.specs.declared.Check.{Check}
+use Rattle.equivalence.specs.declared.Check.the-variants.{Passed, Failed}
+use Rattle.equivalence.specs.declared.Element.{Element}
+use Rattle.congruence.specs.declared.Divided.{Divided}
+use Rattle.congruence.specs.declared.Divided.the-variants.{Blocks, Refused as DivideRefused}
+use Rattle.congruence.specs.declared.Decomposed.{Decomposed}
+use Rattle.congruence.specs.declared.Decomposed.the-variants.{Factors, Irreducible, Refused as DecomposeRefused}
+
+-- space enough: 9 does not apply
+pub space-passed : (wanted : ℕ) (lent : List ℕ) → wanted ≤ length lent → ¬ T (spaceTest wanted (length lent) .applies)
+unfolding spaceTest
+space-passed wanted lent h t = absurd (omega (arith, ltb→lt (length lent) wanted t))
+
+-- ---- Decompose
+
+module _ (a : Algebra) (accepted : Accepted a) (lent : List ℕ) (room : (a .size - 1) * a .size ≤ length lent) where
+  decompose-passed : decomposeCheck a lent ≡ Passed
+  unfolding decomposeCheck Accepted
+  decompose-passed = lowest-append (algebraTests a) _ accepted ∙ lowest-next _ [] (space-passed ((a .size - 1) * a .size) lent room) ∙ lowest-none
+
+  pub decompose-answer : decomposeCall a lent .0 ≡ decomposed a
+  unfolding decomposeCall answered
+  decompose-answer = rw decompose-passed
+
+  pub decompose-bytes : decomposeCall a lent .1 ≡ written (factorBytes a) lent
+  unfolding decomposeCall lentAfter
+  decompose-bytes = rw decompose-passed
+
+-- where Decompose counts factors, the algebra is reducible and the count is the list's
+pub factors-reducible : (a : Algebra) → WellFormed a → (k : ℕ) → decomposed a ≡ Factors k → T (reducible a) × (k ≡ length (listed a))
+factors-reducible a c k e =
+    elim (T? (reducible a)) [
+      | yes t ↦ let d = decomposed-yes a c t in (t, cc)
+      | no t ↦ let d = decomposed-no a c t in let z : _≡_ {A = ℕ} 0 1 = cc in absurd (omega arith)
+    ]
+
+pub factorBytes-yes : (a : Algebra) → T (reducible a) → factorBytes a ≡ concat (listed a)
+unfolding factorBytes
+factorBytes-yes a t = pick-yes (reducible a) (concat (listed a)) [] t
+
+-- ---- Quotient
+
+module _ (a : Algebra) (accepted : Accepted a) (m : Map) (p : Congruence a m) (tables : List ℕ) (room : cellCount (blocks (a .size) m) (a .arities) ≤ length tables) where
+  quotient-passed : quotientCheck a m tables ≡ Passed
+  unfolding quotientCheck Accepted mapTest congruenceTest
+  quotient-passed =
+      lowest-append (algebraTests a) _ accepted
+      ∙ lowest-next _ _ (not-yes (isMap (a .size) m) (p .map))
+      ∙ lowest-next _ _ (space-passed (cellCount (blocks (a .size) m) (a .arities)) tables room)
+      ∙ lowest-next _ [] (not-yes (isCongruence a m) (p .respects))
+      ∙ lowest-none
+
+  pub quotient-answer : quotientCall a m tables .0 ≡ Blocks (blocks (a .size) m)
+  unfolding quotientCall answered
+  quotient-answer = rw quotient-passed
+
+  pub quotient-bytes : quotientCall a m tables .1 ≡ written (quotientCells a m) tables
+  unfolding quotientCall lentAfter
+  quotient-bytes = rw quotient-passed
+
+  -- the tables that were written, with b and the arities, are the quotient
+  pub quotient-algebra : algebraOf (blocks (a .size) m) (a .arities) (take (cellCount (blocks (a .size) m) (a .arities)) (quotientCall a m tables .1)) ≡ quotient a m
+  unfolding quotient written
+  quotient-algebra =
+      let long : length (quotientCells a m) ≡ cellCount (blocks (a .size) m) (a .arities) = quotientCells-length a m in
+      rw (quotient-bytes, take-at (quotientCells a m) (drop (length (quotientCells a m)) tables) (cellCount (blocks (a .size) m) (a .arities)) long)
+
+-- ---- demand 3 over the calls
+
+blocks-injective : (b c : ℕ) → Blocks b ≡ Blocks c → b ≡ c
+blocks-injective b c e = cc
+
+size-quotient : (a : Algebra) (m : Map) (again : List ℕ) → (blocks (a .size) m - 1) * blocks (a .size) m ≤ length again → (quotient a m .size - 1) * quotient a m .size ≤ length again
+unfolding quotient
+size-quotient a m again g = g
+
+module _ (a : Algebra) (accepted : Accepted a) where
+  -- Quotient by a congruence whose quotient draws 11
+  pub quotient-draws11 : (m : Map) → Congruence a m → Answers11 (quotient a m) → QuotientDraws11 a m
+  quotient-draws11 m p e =
+      record {
+        given = λ tables h. quotient-answer a accepted m p tables h;
+        draws11 = λ tables h b f again g.
+            let b-is : blocks (a .size) m ≡ b = blocks-injective (blocks (a .size) m) b (sym (quotient-answer a accepted m p tables h) ∙ f) in
+            let n = blocks (a .size) m in
+            let q : Accepted (quotient a m) = wellFormed-accepted (quotient a m) (quotient-wellFormed a (accepted-wellFormed a accepted) m (congruence-is a m p)) in
+            let d : (again : List ℕ) → (n - 1) * n ≤ length again → decomposeCall (quotient a m) again .0 ≡ Irreducible (element (commonPair (quotient a m) .0)) (element (commonPair (quotient a m) .1)) =
+            λ again g. decompose-answer (quotient a m) q again (size-quotient a m again g) ∙ e in (
+              element (commonPair (quotient a m) .0),
+              element (commonPair (quotient a m) .1),
+              subst (λ (c : ℕ). (c - 1) * c ≤ length again → decomposeCall (algebraOf c (a .arities) (take (cellCount c (a .arities)) (quotientCall a m tables .1))) again .0
+              ≡ Irreducible (element (commonPair (quotient a m) .0)) (element (commonPair (quotient a m) .1))) b-is
+              (λ g. rw (quotient-algebra a accepted m p tables h) (d again g)) g,
+            );
+      }
+
+  pub factor-calls : (lent : List ℕ) → (a .size - 1) * a .size ≤ length lent → FactorCalls a lent
+  unfolding written
+  factor-calls lent room =
+      let well : WellFormed a = accepted-wellFormed a accepted in
+      let answer : decomposeCall a lent .0 ≡ decomposed a = decompose-answer a accepted lent room in
+      let listing : (k i : ℕ) → decomposed a ≡ Factors k → i < k → stretch (a .size) (decomposeCall a lent .1) i ≡ getD (listed a) i [] =
+      λ k i e l. let r = factors-reducible a well k e in
+      rw (decompose-bytes a accepted lent room, factorBytes-yes a (r .0))
+      (stretch-concat (a .size) (listed a) (drop (length (concat (listed a))) lent) (listed-long a well) i (omega (arith, r .1))) in
+      record {
+        answer = answer;
+        listing = listing;
+        quotients = λ k i e l.
+            let d : decomposed a ≡ Factors k = sym answer ∙ e in
+            let r = factors-reducible a well k d in
+            let f = listed-right a accepted (r .0) in
+            let j : i < length (listed a) = omega (arith, r .1) in
+            rw (listing k i d l) (quotient-draws11 (getD (listed a) i []) (f .congruences i j) (f .irreducible i j));
+      }
