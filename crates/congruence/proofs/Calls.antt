@@ -1,15 +1,15 @@
 -- The calls of Decompose and Quotient on an accepted algebra with room enough: what they answer and write, and demand 3 over them together.
 use Prim.Native.Nat.{ℕ, _-_, _*_, _≤_, _<_}
-use mathlib.Core.List.{List, []}
-use mathlib.Core.Path.{_≡_, sym, subst, _∙_}
+use mathlib.Core.List.{List, [], _∷_, _++_}
+use mathlib.Core.Path.{_≡_, sym, ap, subst, _∙_}
 use native.Mathlib.Omega.{arith}
 use lib.Dec.{T, ltb→lt}
 use lib.ListN.{length, getD, take, drop}
 use lib.Seq.{take-at}
 use Rattle.equivalence.specs.Equivalence.{Map, isMap, blocks}
 use Rattle.equivalence.specs.Lists.{concat, stretch}
-use Rattle.equivalence.specs.Refusal.{mapTest, spaceTest, answered, written, lentAfter}
-use Rattle.equivalence.proofs.Refusals.{lowest-none, lowest-next, lowest-append}
+use Rattle.equivalence.specs.Refusal.{lowest, mapTest, spaceTest, written}
+use Rattle.equivalence.proofs.Refusals.{lowest-none, lowest-next, lowest-append, serve-passed}
 use Rattle.equivalence.proofs.Stretches.{stretch-concat}
 use Rattle.equivalence.proofs.Tests.{T?, pick-yes}
 use Rattle.algebra.specs.Accepted.{algebraTests, Accepted}
@@ -17,7 +17,7 @@ use Rattle.algebra.specs.Algebra.{Algebra, algebraOf, cellCount}
 use Rattle.algebra.specs.Congruence.{isCongruence, Congruence}
 use Rattle.algebra.proofs.Accepted.{WellFormed, accepted-wellFormed, not-yes, wellFormed-accepted}
 use Rattle.algebra.proofs.Congruences.{congruence-is}
-use Rattle.congruence.specs.Calls.{element, congruenceTest, quotientCheck, quotientCall, decomposeCheck, decomposed, factorBytes, decomposeCall}
+use Rattle.congruence.specs.Calls.{element, congruenceTest, quotientCall, decomposed, factorBytes, decomposeCall}
 use Rattle.congruence.specs.Decompose.{listed, reducible, commonPair}
 use Rattle.congruence.specs.Demands.{Answers11, QuotientDraws11, FactorCalls}
 use Rattle.congruence.specs.Quotient.{quotientCells, quotient}
@@ -41,17 +41,19 @@ space-passed wanted lent h t = absurd (omega (arith, ltb→lt (length lent) want
 -- ---- Decompose
 
 module _ (a : Algebra) (accepted : Accepted a) (lent : List ℕ) (room : (a .size - 1) * a .size ≤ length lent) where
-  decompose-passed : decomposeCheck a lent ≡ Passed
-  unfolding decomposeCheck Accepted
+  decompose-passed : lowest (algebraTests a ++ (spaceTest ((a .size - 1) * a .size) (length lent) ∷ [])) ≡ Passed
+  unfolding Accepted
   decompose-passed = lowest-append (algebraTests a) _ accepted ∙ lowest-next _ [] (space-passed ((a .size - 1) * a .size) lent room) ∙ lowest-none
 
+  decompose-served : decomposeCall a lent ≡ (decomposed a, written (factorBytes a) lent)
+  unfolding decomposeCall
+  decompose-served = serve-passed DecomposeRefused _ (decomposed a) (factorBytes a) lent decompose-passed
+
   pub decompose-answer : decomposeCall a lent .0 ≡ decomposed a
-  unfolding decomposeCall answered
-  decompose-answer = rw decompose-passed
+  decompose-answer = ap (λ (r : Decomposed × List ℕ). r .0) decompose-served
 
   pub decompose-bytes : decomposeCall a lent .1 ≡ written (factorBytes a) lent
-  unfolding decomposeCall lentAfter
-  decompose-bytes = rw decompose-passed
+  decompose-bytes = ap (λ (r : Decomposed × List ℕ). r .1) decompose-served
 
 -- where Decompose counts factors, the algebra is reducible and the count is the list's
 pub factors-reducible : (a : Algebra) → WellFormed a → (k : ℕ) → decomposed a ≡ Factors k → T (reducible a) × (k ≡ length (listed a))
@@ -68,8 +70,8 @@ factorBytes-yes a t = pick-yes (reducible a) (concat (listed a)) [] t
 -- ---- Quotient
 
 module _ (a : Algebra) (accepted : Accepted a) (m : Map) (p : Congruence a m) (tables : List ℕ) (room : cellCount (blocks (a .size) m) (a .arities) ≤ length tables) where
-  quotient-passed : quotientCheck a m tables ≡ Passed
-  unfolding quotientCheck Accepted mapTest congruenceTest
+  quotient-passed : lowest (algebraTests a ++ (mapTest (a .size) m ∷ spaceTest (cellCount (blocks (a .size) m) (a .arities)) (length tables) ∷ congruenceTest a m ∷ [])) ≡ Passed
+  unfolding Accepted mapTest congruenceTest
   quotient-passed =
       lowest-append (algebraTests a) _ accepted
       ∙ lowest-next _ _ (not-yes (isMap (a .size) m) (p .map))
@@ -77,13 +79,15 @@ module _ (a : Algebra) (accepted : Accepted a) (m : Map) (p : Congruence a m) (t
       ∙ lowest-next _ [] (not-yes (isCongruence a m) (p .respects))
       ∙ lowest-none
 
+  quotient-served : quotientCall a m tables ≡ (Blocks (blocks (a .size) m), written (quotientCells a m) tables)
+  unfolding quotientCall
+  quotient-served = serve-passed DivideRefused _ (Blocks (blocks (a .size) m)) (quotientCells a m) tables quotient-passed
+
   pub quotient-answer : quotientCall a m tables .0 ≡ Blocks (blocks (a .size) m)
-  unfolding quotientCall answered
-  quotient-answer = rw quotient-passed
+  quotient-answer = ap (λ (r : Divided × List ℕ). r .0) quotient-served
 
   pub quotient-bytes : quotientCall a m tables .1 ≡ written (quotientCells a m) tables
-  unfolding quotientCall lentAfter
-  quotient-bytes = rw quotient-passed
+  quotient-bytes = ap (λ (r : Divided × List ℕ). r .1) quotient-served
 
   -- the tables that were written, with b and the arities, are the quotient
   pub quotient-algebra : algebraOf (blocks (a .size) m) (a .arities) (take (cellCount (blocks (a .size) m) (a .arities)) (quotientCall a m tables .1)) ≡ quotient a m

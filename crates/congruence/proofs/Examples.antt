@@ -6,11 +6,11 @@ use mathlib.Core.Path.{_≡_, refl}
 use Rattle.equivalence.specs.Equivalence.{isMap, holds, inside, roots, blocks, blockOf, mapOf, identity, whole, same, isIdentity, meet, meetAll, maps, best, join}
 use Rattle.equivalence.specs.Lists.{upTo, every, any, keep, first, concat}
 use Rattle.equivalence.specs.Order.{pairs, notLaterOn, notLater, firstHeld}
-use Rattle.equivalence.specs.Refusal.{lowest, sizeTest, spaceTest, answered, written, lentAfter}
+use Rattle.equivalence.specs.Refusal.{lowest, sizeTest, spaceTest, answered, written, lentAfter, serve}
 use Rattle.algebra.specs.Accepted.{algebraTests}
 use Rattle.algebra.specs.Algebra.{Algebra, algebraOf, cellCount, operationsOf, operations, arguments, place, value}
 use Rattle.algebra.specs.Congruence.{respects, isCongruence, congruences}
-use Rattle.congruence.specs.Calls.{element, pairsTest, generateCheck, generateCall, decomposed}
+use Rattle.congruence.specs.Calls.{element, pairsTest, generateCall, decomposed}
 use Rattle.congruence.specs.Certify.{isMaximalFor, certified}
 use Rattle.congruence.specs.Decompose.{added, gathered, pruned, listed, reducible, commonPair}
 use Rattle.congruence.specs.Extremal.{holdsAll, generated, contained, separated}
@@ -58,7 +58,7 @@ pub record Examples : Type 0 where
   pub divided : quotientCells u (0 ∷ 1 ∷ 0 ∷ 1 ∷ []) ≡ 1 ∷ 0 ∷ []
 
 pub examples : Examples
-unfolding upTo every any first holds concat mapOf keep maps roots blocks blockOf best meetAll join inside same isIdentity isMap notLater notLaterOn pairs identity whole meet firstHeld isCongruence operations operationsOf cellCount arguments place value respects quotientCells quotientTable congruences holdsAll generated contained separated added gathered pruned listed commonPair reducible decomposed generateCall generateCheck lowest algebraTests sizeTest pairsTest spaceTest answered lentAfter written certified isMaximalFor
+unfolding upTo every any first holds concat mapOf keep maps roots blocks blockOf best meetAll join inside same isIdentity isMap notLater notLaterOn pairs identity whole meet firstHeld isCongruence operations operationsOf cellCount arguments place value respects quotientCells quotientTable congruences holdsAll generated contained separated added gathered pruned listed commonPair reducible decomposed generateCall serve lowest algebraTests sizeTest pairsTest spaceTest answered lentAfter written certified isMaximalFor
 examples =
     record {
       one = refl;

@@ -6,9 +6,8 @@ use lib.Dec.{eqb, leb, ltb}
 use lib.ListN.{length}
 use Rattle.equivalence.specs.Lists.{upTo, every, concat, stretch}
 use Rattle.equivalence.specs.Equivalence.{Map, isMap, blocks}
-use Rattle.equivalence.specs.Refusal.{Test, lowest, mapTest, spaceTest, answered, lentAfter}
+use Rattle.equivalence.specs.Refusal.{Test, lowest, mapTest, spaceTest, answered, serve}
 use Rattle.equivalence.specs.declared.Refusal.the-variants.{Range, NotMap, Equal, NotCongruence}
-use Rattle.equivalence.specs.declared.Check.{Check}
 use Rattle.equivalence.specs.declared.Element.{Element}
 use Rattle.equivalence.specs.declared.Written.{Written}
 use Rattle.equivalence.specs.declared.Written.the-variants.{Done, Refused as WriteRefused}
@@ -57,47 +56,27 @@ unfoldable pub mapsTest : ℕ → List ℕ → Test
 mapsTest n bytes =
     record { applies = not (eqb (length bytes % n) 0) || ltb 63 (length bytes / n) || not (every (isMap n) (mapsIn n bytes)); reason = NotMap }
 
--- Generate's tests: 1 to 7, 9
-unfoldable pub generateCheck : Algebra → List ℕ → List ℕ → Check
-generateCheck a ps lent = lowest (algebraTests a ++ (pairsTest (a .size) ps ∷ spaceTest (a .size) (length lent) ∷ []))
-
--- Generate: the merges are n minus the final blocks
+-- Generate (1 to 7, 9): the least congruence that holds the pairs; its merges are n minus the final blocks
 unfoldable pub generateCall : Algebra → List ℕ → List ℕ → Generated × List ℕ
 generateCall a ps lent =
-    (answered GenerateRefused (generateCheck a ps lent) (Merges (a .size - blocks (a .size) (generated a ps))), lentAfter (generateCheck a ps lent) (generated a ps) lent)
+    serve GenerateRefused (algebraTests a ++ (pairsTest (a .size) ps ∷ spaceTest (a .size) (length lent) ∷ []))
+    (Merges (a .size - blocks (a .size) (generated a ps))) (generated a ps) lent
 
--- Contained's tests: 1 to 6, 8, 9
-unfoldable pub containedCheck : Algebra → Map → List ℕ → Check
-containedCheck a e lent = lowest (algebraTests a ++ (mapTest (a .size) e ∷ spaceTest (a .size) (length lent) ∷ []))
-
--- Contained
+-- Contained (1 to 6, 8, 9)
 unfoldable pub containedCall : Algebra → Map → List ℕ → Written × List ℕ
 containedCall a e lent =
-    (answered WriteRefused (containedCheck a e lent) Done, lentAfter (containedCheck a e lent) (contained a e) lent)
+    serve WriteRefused (algebraTests a ++ (mapTest (a .size) e ∷ spaceTest (a .size) (length lent) ∷ [])) Done (contained a e) lent
 
--- Separate's tests: 1 to 7, 9, 10
-unfoldable pub separateCheck : Algebra → ℕ → ℕ → List ℕ → Check
-separateCheck a v w lent =
-    lowest (algebraTests a ++ (elementsTest (a .size) v w ∷ spaceTest (a .size) (length lent) ∷ equalTest v w ∷ []))
-
--- Separate
+-- Separate (1 to 7, 9, 10)
 unfoldable pub separateCall : Algebra → ℕ → ℕ → List ℕ → Written × List ℕ
 separateCall a v w lent =
-    (answered WriteRefused (separateCheck a v w lent) Done, lentAfter (separateCheck a v w lent) (separated a v w) lent)
+    serve WriteRefused (algebraTests a ++ (elementsTest (a .size) v w ∷ spaceTest (a .size) (length lent) ∷ equalTest v w ∷ [])) Done (separated a v w) lent
 
--- Quotient's tests: 1 to 6, 8, 9 with the given map's number of blocks, 12
-unfoldable pub quotientCheck : Algebra → Map → List ℕ → Check
-quotientCheck a m lent =
-    lowest (algebraTests a ++ (mapTest (a .size) m ∷ spaceTest (cellCount (blocks (a .size) m) (a .arities)) (length lent) ∷ congruenceTest a m ∷ []))
-
--- Quotient: the tables over blocks, and how many blocks there are
+-- Quotient (1 to 6, 8, 9 with the given map's number of blocks, 12): the tables over blocks, and how many blocks there are
 unfoldable pub quotientCall : Algebra → Map → List ℕ → Divided × List ℕ
 quotientCall a m lent =
-    (answered DivideRefused (quotientCheck a m lent) (Blocks (blocks (a .size) m)), lentAfter (quotientCheck a m lent) (quotientCells a m) lent)
-
--- Decompose's tests but 11: 1 to 6, 9
-unfoldable pub decomposeCheck : Algebra → List ℕ → Check
-decomposeCheck a lent = lowest (algebraTests a ++ (spaceTest ((a .size - 1) * a .size) (length lent) ∷ []))
+    serve DivideRefused (algebraTests a ++ (mapTest (a .size) m ∷ spaceTest (cellCount (blocks (a .size) m) (a .arities)) (length lent) ∷ congruenceTest a m ∷ []))
+    (Blocks (blocks (a .size) m)) (quotientCells a m) lent
 
 -- what Decompose finds of an accepted algebra: the factors, or 11 with a pair
 unfoldable pub decomposed : Algebra → Decomposed
@@ -108,15 +87,12 @@ decomposed a =
 unfoldable pub factorBytes : Algebra → List ℕ
 factorBytes a = elim (reducible a) [ true ↦ concat (listed a) | false ↦ [] ]
 
--- Decompose
+-- Decompose (1 to 6, 9, then 11)
 unfoldable pub decomposeCall : Algebra → List ℕ → Decomposed × List ℕ
 decomposeCall a lent =
-    (answered DecomposeRefused (decomposeCheck a lent) (decomposed a), lentAfter (decomposeCheck a lent) (factorBytes a) lent)
+    serve DecomposeRefused (algebraTests a ++ (spaceTest ((a .size - 1) * a .size) (length lent) ∷ [])) (decomposed a) (factorBytes a) lent
 
--- Certify's tests: 1 to 6, 8
-unfoldable pub certifyCheck : Algebra → List ℕ → Check
-certifyCheck a bytes = lowest (algebraTests a ++ (mapsTest (a .size) bytes ∷ []))
-
--- Certify
+-- Certify (1 to 6, 8)
 unfoldable pub certifyCall : Algebra → List ℕ → Certified
-certifyCall a bytes = answered CertifyRefused (certifyCheck a bytes) (elim (certified a (mapsIn (a .size) bytes)) [ true ↦ Yes | false ↦ No ])
+certifyCall a bytes =
+    answered CertifyRefused (lowest (algebraTests a ++ (mapsTest (a .size) bytes ∷ []))) (elim (certified a (mapsIn (a .size) bytes)) [ true ↦ Yes | false ↦ No ])

@@ -4,7 +4,7 @@ use mathlib.Core.List.{List, [], _∷_, _++_}
 use mathlib.Core.Path.{_≡_, refl, sym, _∙_}
 use native.Mathlib.Omega.{arith}
 use lib.Dec.{T}
-use Rattle.equivalence.specs.Refusal.{Test, lowest}
+use Rattle.equivalence.specs.Refusal.{Test, lowest, answered, written, lentAfter, serve}
 use Rattle.equivalence.proofs.Tests.{T?, pick-yes, pick-no}
 use Rattle.equivalence.specs.declared.Refusal.{Refusal}
 use Rattle.equivalence.specs.declared.Check.{Check}
@@ -48,3 +48,15 @@ lowest-failed (t ∷ ts) rest r e =
       | yes h ↦ lowest-here t (ts ++ rest) h ∙ sym (lowest-here t ts h) ∙ e
       | no h ↦ lowest-next t (ts ++ rest) h ∙ lowest-failed ts rest r (sym (lowest-next t ts h) ∙ e)
     ]
+
+-- a call whose tests pass
+pub serve-passed {ℓ} : {A : Type ℓ} (refused : Refusal → A) (tests : List Test) (answer : A) (new lent : List ℕ) → lowest tests ≡ Passed
+    → serve refused tests answer new lent ≡ (answer, written new lent)
+unfolding serve answered lentAfter
+serve-passed refused tests answer new lent e = rw e
+
+-- a call that a test declines
+pub serve-failed {ℓ} : {A : Type ℓ} (refused : Refusal → A) (tests : List Test) (answer : A) (new lent : List ℕ) (r : Refusal) → lowest tests ≡ Failed r
+    → serve refused tests answer new lent ≡ (refused r, lent)
+unfolding serve answered lentAfter
+serve-failed refused tests answer new lent r e = rw e

@@ -61,3 +61,7 @@ written new lent = new ++ drop (length new) lent
 unfoldable pub lentAfter : Check → List ℕ → List ℕ → List ℕ
 lentAfter Passed new lent = written new lent
 lentAfter (Failed r) new lent = lent
+
+-- a call that writes: the answer and the lent bytes afterwards, by its tests, listed by rising number
+unfoldable pub serve {ℓ} : {A : Type ℓ} → (Refusal → A) → List Test → A → List ℕ → List ℕ → A × List ℕ
+serve refused tests answer new lent = (answered refused (lowest tests) answer, lentAfter (lowest tests) new lent)
