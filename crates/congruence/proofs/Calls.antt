@@ -120,8 +120,8 @@ module _ (a : Algebra) (accepted : Accepted a) where
               element (commonPair (quotient a m) .0),
               element (commonPair (quotient a m) .1),
               subst (λ (c : ℕ). (c - 1) * c ≤ length again → decomposeCall (algebraOf c (a .arities) (take (cellCount c (a .arities)) (quotientCall a m tables .1))) again .0
-              ≡ Irreducible (element (commonPair (quotient a m) .0)) (element (commonPair (quotient a m) .1))) b-is
-              (λ g. rw (quotient-algebra a accepted m p tables h) (d again g)) g,
+                  ≡ Irreducible (element (commonPair (quotient a m) .0)) (element (commonPair (quotient a m) .1))) b-is
+                  (λ g. rw (quotient-algebra a accepted m p tables h) (d again g)) g,
             );
       }
 

@@ -1,17 +1,18 @@
 -- Demands 2 and 3, proved of the definitions that the contracts cite.
 use Prim.Native.Nat.{ℕ, _≤_, _<_}
-use mathlib.Core.List.{List, []}
-use mathlib.Core.Logic.{inl, inr}
+use mathlib.Core.List.{List, [], map}
+use mathlib.Core.Logic.{inl, inr, _≢_}
 use mathlib.Core.Path.{ap}
 use native.Mathlib.Omega.{arith}
 use lib.Dec.{T, T-not}
 use lib.ListN.{length, getD}
-use Rattle.equivalence.specs.Equivalence.{Map, isMap, isIdentity}
+use Rattle.equivalence.specs.Equivalence.{Map, isMap, isIdentity, meet, join}
 use Rattle.equivalence.specs.Lists.{every, first, without}
 use Rattle.equivalence.specs.Order.{Pair, pairs}
+use Rattle.equivalence.proofs.Joins.{join-law}
 use Rattle.equivalence.proofs.Lists.{member-at}
-use Rattle.equivalence.proofs.Maps.{holds-of, of-holds, of-isMap, inside-of, of-inside}
-use Rattle.equivalence.proofs.Meets.{meets-of, of-meets}
+use Rattle.equivalence.proofs.Maps.{holds-of, of-holds, isMap-of, of-isMap, inside-of, of-inside}
+use Rattle.equivalence.proofs.Meets.{meet-map, of-meet, meet-greatest, meets-of, of-meets}
 use Rattle.equivalence.proofs.Tests.{T?, left, right}
 use Rattle.algebra.specs.Accepted.{Accepted}
 use Rattle.algebra.specs.Algebra.{Algebra}
@@ -22,19 +23,40 @@ use Rattle.algebra.proofs.Congruences.{congruence-is, congruence-of}
 use Rattle.congruence.specs.Calls.{element}
 use Rattle.congruence.specs.Certify.{certified}
 use Rattle.congruence.specs.Decompose.{listed, reducible, commonPair}
-use Rattle.congruence.specs.Demands.{LeastCongruence, GreatestCongruence, QuotientAtMembers, MaximalApart, Unsplit, HeldByAll, FirstCommonPair, FactorsRight, FactorTheorem}
-use Rattle.congruence.specs.Extremal.{generated, contained}
+use Rattle.congruence.specs.Demands.{LeastCongruence, GreatestCongruence, MeetRight, JoinRight, QuotientAtMembers, MaximalApart, EarliestCongruence, Unsplit, HeldByAll, FirstCommonPair, FactorsRight, FactorTheorem}
+use Rattle.congruence.specs.Extremal.{generated, contained, separated}
 use Rattle.congruence.proofs.Certificates.{listed-certified}
 use Rattle.congruence.proofs.CommonPair.{Common, FirstCommon, commonPair-law, commonPair-one}
 use Rattle.congruence.proofs.Factors.{listed-law, two-at-least, unsplit, decomposed-yes, irreducible-of, of-irreducible}
 use Rattle.congruence.proofs.GreatestCongruence.{contained-law}
 use Rattle.congruence.proofs.LeastCongruence.{Below, generated-law}
 use Rattle.congruence.proofs.Quotients.{onBlocks, block-value, quotient-irreducible}
-use Rattle.congruence.proofs.Separation.{MaximalFor}
+use Rattle.congruence.proofs.Separation.{MaximalFor, separated-earliest, separated-law}
 use Rattle.congruence.specs.declared.Decomposed.{Decomposed}
 use Rattle.congruence.specs.declared.Decomposed.the-variants.{Factors, Irreducible}
 
 -- ---- demand 2
+
+-- Meet is the greatest lower bound
+pub meet-right : (n : ℕ) (a b : Map) → MeetRight n a b (meet n a b)
+meet-right n a b =
+    record {
+      map = isMap-of n (meet n a b) (meet-map n a b);
+      left = inside-of n (meet n a b) a (λ x y l k e. of-meet n a b x y l k e .0);
+      right = inside-of n (meet n a b) b (λ x y l k e. of-meet n a b x y l k e .1);
+      greatest = λ c p q. inside-of n c (meet n a b) (meet-greatest n a b c (of-inside n c a p) (of-inside n c b q));
+    }
+
+-- Join is the least upper bound
+pub join-right : (n : ℕ) (a b : Map) → JoinRight n a b (join n a b)
+join-right n a b =
+    let j = join-law n a b in
+    record {
+      map = isMap-of n (join n a b) (j .map);
+      left = inside-of n a (join n a b) (j .left);
+      right = inside-of n b (join n a b) (j .right);
+      least = λ c m p q. inside-of n (join n a b) c (j .least c (of-isMap n c m) (of-inside n a c p) (of-inside n b c q));
+    }
 
 module _ (a : Algebra) (accepted : Accepted a) where
   -- Generate: it holds the given pairs and lies inside every congruence that holds them
@@ -75,6 +97,16 @@ module _ (a : Algebra) (accepted : Accepted a) where
         right = k;
         apart = λ t. p .apart (of-holds m x y t);
         joined = λ c q h n. holds-of c x y (p .joined c (congruence-is a c q) (of-inside (a .size) m c h) n);
+      }
+
+  -- Separate: the earliest congruence that holds v and w apart
+  pub separated-right : (v w : ℕ) → v < a .size → w < a .size → v ≢ w → EarliestCongruence a v w (separated a v w)
+  separated-right v w l k d =
+      let s = separated-earliest a well v w l k d in
+      record {
+        congruence = congruence-of a (separated a v w) (s .cong);
+        maximal = maximalApart (separated a v w) v w l k (separated-law a well v w l k d);
+        earliest = λ c p h. s .earliest c (congruence-is a c p) (λ e. h (holds-of c v w e));
       }
 
   -- the list is right where the algebra is reducible

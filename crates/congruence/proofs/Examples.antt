@@ -1,6 +1,6 @@
 -- Document 01's examples 1 to 11 of the definitions, computed.
 use Prim.Native.Nat.{ℕ}
-use mathlib.Core.Bool.{true}
+use mathlib.Core.Bool.{true, false}
 use mathlib.Core.List.{[], _∷_}
 use mathlib.Core.Path.{_≡_, refl}
 use Rattle.equivalence.specs.Equivalence.{isMap, holds, inside, roots, blocks, blockOf, mapOf, identity, whole, same, isIdentity, meet, meetAll, maps, best, join}
@@ -54,7 +54,14 @@ pub record Examples : Type 0 where
   -- the calls: the worked text's four requests, and a refusal that writes nothing
   pub calls : (generateCall u (0 ∷ 2 ∷ []) (9 ∷ 9 ∷ 9 ∷ 9 ∷ 9 ∷ []) ≡ (Merges 2, 0 ∷ 1 ∷ 0 ∷ 1 ∷ 9 ∷ []))
       × (generateCall u (0 ∷ 4 ∷ []) (9 ∷ 9 ∷ []) ≡ (GenerateRefused Range, 9 ∷ 9 ∷ []))
-  pub certificate : certified u (listed u) ≡ true
+  -- Certify: yes to what Decompose lists; no to a map that is no congruence, to a list that does not meet in the identity, to a repeated map, and to
+  -- the identity where larger congruences have no pair in common
+  pub certificates : (certified u (listed u) ≡ true)
+      × (certified u ((0 ∷ 1 ∷ 0 ∷ 3 ∷ []) ∷ (0 ∷ 0 ∷ 2 ∷ 2 ∷ []) ∷ []) ≡ false)
+      × (certified u ((0 ∷ 1 ∷ 0 ∷ 1 ∷ []) ∷ []) ≡ false)
+      × (certified u ((0 ∷ 1 ∷ 0 ∷ 1 ∷ []) ∷ (0 ∷ 0 ∷ 2 ∷ 2 ∷ []) ∷ (0 ∷ 1 ∷ 0 ∷ 1 ∷ []) ∷ []) ≡ false)
+      × (certified u ((0 ∷ 1 ∷ 2 ∷ 3 ∷ []) ∷ []) ≡ false)
+      × (certified c ((0 ∷ 1 ∷ 2 ∷ 3 ∷ []) ∷ []) ≡ true)
   pub divided : quotientCells u (0 ∷ 1 ∷ 0 ∷ 1 ∷ []) ≡ 1 ∷ 0 ∷ []
 
 pub examples : Examples
@@ -74,6 +81,6 @@ examples =
       eleven = (refl, refl);
       closure = refl;
       calls = (refl, refl);
-      certificate = refl;
+      certificates = (refl, refl, refl, refl, refl, refl);
       divided = refl;
     }

@@ -31,18 +31,20 @@ pub record MaximalFor (a : Algebra) (m : Map) (x y : ℕ) : Type 0 where
   pub apart : ¬ Holds m x y
   pub joined : (c : Map) → IsCongruence a c → Inside (a .size) m c → c ≢ m → Holds c x y
 
-pub separated-law : (a : Algebra) → WellFormed a → (v w : ℕ) → v < a .size → w < a .size → v ≢ w → MaximalFor a (separated a v w) v w
+-- the congruence that the document names
+pub record EarliestApart (a : Algebra) (v w : ℕ) (m : Map) : Type 0 where
+  pub cong : IsCongruence a m
+  pub apart : ¬ Holds m v w
+  pub earliest : (c : Map) → IsCongruence a c → ¬ Holds c v w → T (notLater (a .size) m c)
+
+-- the definition gives it
+pub separated-earliest : (a : Algebra) → WellFormed a → (v w : ℕ) → v < a .size → w < a .size → v ≢ w → EarliestApart a v w (separated a v w)
 unfolding separated
-separated-law a c v w l k d =
+separated-earliest a c v w l k d =
     record {
       cong = of-congruences a (separated a v w) (mine .0);
       apart = λ e. T-not (holds (separated a v w) v w) (mine .1) (holds-of (separated a v w) v w e);
-      joined = λ e p h g. elim (T? (holds e v w)) [
-        | yes t ↦ of-holds e v w t
-        | no t ↦ absurd (g (notLater-anti (a .size) e (separated a v w) (p .map) (of-congruences a (separated a v w) (mine .0) .map)
-            (larger-notLater (a .size) e (separated a v w) h)
-            (b .before e (keep-member _ (congruences a) e (member-congruences a e p) (not-T (holds e v w) t)))))
-      ];
+      earliest = λ e p h. b .before e (keep-member _ (congruences a) e (member-congruences a e p) (not-T (holds e v w) (λ t. h (of-holds e v w t))));
     }
   where
     b : Best (notLater (a .size)) (keep (λ c. not (holds c v w)) (congruences a)) (separated a v w)
@@ -53,11 +55,19 @@ separated-law a c v w l k d =
     mine : Member (separated a v w) (congruences a) × T (not (holds (separated a v w) v w))
     mine = of-keep (λ c. not (holds c v w)) (congruences a) (separated a v w) (b .member)
 
--- the congruence that the document names
-pub record EarliestApart (a : Algebra) (v w : ℕ) (m : Map) : Type 0 where
-  pub cong : IsCongruence a m
-  pub apart : ¬ Holds m v w
-  pub earliest : (c : Map) → IsCongruence a c → ¬ Holds c v w → T (notLater (a .size) m c)
+-- and so every strictly larger congruence joins v and w: it would be earlier
+pub separated-law : (a : Algebra) → WellFormed a → (v w : ℕ) → v < a .size → w < a .size → v ≢ w → MaximalFor a (separated a v w) v w
+separated-law a c v w l k d =
+    let s = separated-earliest a c v w l k d in
+    record {
+      cong = s .cong;
+      apart = s .apart;
+      joined = λ e p h g. elim (T? (holds e v w)) [
+        | yes t ↦ of-holds e v w t
+        | no t ↦ absurd (g (notLater-anti (a .size) e (separated a v w) (p .map) (s .cong .map) (larger-notLater (a .size) e (separated a v w) h)
+            (s .earliest e p (λ q. t (holds-of e v w q)))))
+      ];
+    }
 
 pub separated-is : (a : Algebra) (v w : ℕ) (m : Map) → EarliestApart a v w m → separated a v w ≡ m
 unfolding separated

@@ -7,8 +7,8 @@ use mathlib.Core.List.{List·Memᴰ as Member}
 use lib.Dec.{T}
 use lib.ListN.{length, getD, take}
 use Rattle.equivalence.specs.Lists.{without, stretch}
-use Rattle.equivalence.specs.Equivalence.{Map, holds, inside, identity, meetAll, blocks, blockOf}
-use Rattle.equivalence.specs.Order.{Pair}
+use Rattle.equivalence.specs.Equivalence.{Map, isMap, holds, inside, identity, meetAll, blocks, blockOf}
+use Rattle.equivalence.specs.Order.{Pair, notLater}
 use Rattle.equivalence.specs.declared.Element.{Element}
 use Rattle.algebra.specs.Algebra.{Algebra, algebraOf, Operation, operations, arguments, value, cellCount}
 use Rattle.algebra.specs.Congruence.{Congruence}
@@ -31,6 +31,20 @@ pub record GreatestCongruence (a : Algebra) (e m : Map) : Type 0 where
   pub within : T (inside (a .size) m e)
   pub greatest : (c : Map) → Congruence a c → T (inside (a .size) c e) → T (inside (a .size) c m)
 
+-- Demand 2, Meet: the greatest equivalence inside both
+pub record MeetRight (n : ℕ) (a b m : Map) : Type 0 where
+  pub map : T (isMap n m)
+  pub left : T (inside n m a)
+  pub right : T (inside n m b)
+  pub greatest : (c : Map) → T (inside n c a) → T (inside n c b) → T (inside n c m)
+
+-- Demand 2, Join: the least equivalence that holds both
+pub record JoinRight (n : ℕ) (a b m : Map) : Type 0 where
+  pub map : T (isMap n m)
+  pub left : T (inside n a m)
+  pub right : T (inside n b m)
+  pub least : (c : Map) → T (isMap n c) → T (inside n a c) → T (inside n b c) → T (inside n m c)
+
 -- Demand 2, Quotient: the cell at the blocks of any members is the block of the result at those members
 pub record QuotientAtMembers (a : Algebra) (m : Map) : Type 0 where
   pub cell : (f : Operation) → Member f (operations a) → (xs : List ℕ) → Member xs (arguments (a .size) (f .arity))
@@ -42,6 +56,12 @@ pub record MaximalApart (a : Algebra) (m : Map) (x y : ℕ) : Type 0 where
   pub right : y < a .size
   pub apart : ¬ T (holds m x y)
   pub joined : (c : Map) → Congruence a c → T (inside (a .size) m c) → ¬ (c ≡ m) → T (holds c x y)
+
+-- Separate: the earliest of the congruences that hold v and w apart, and every strictly larger congruence joins them
+pub record EarliestCongruence (a : Algebra) (v w : ℕ) (m : Map) : Type 0 where
+  pub congruence : Congruence a m
+  pub maximal : MaximalApart a m v w
+  pub earliest : (c : Map) → Congruence a c → ¬ T (holds c v w) → T (notLater (a .size) m c)
 
 -- a non-empty list of congruences, none the identity, that meets in the identity
 pub record Splitting (a : Algebra) (ms : List Map) : Type 0 where
