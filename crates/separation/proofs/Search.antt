@@ -1,0 +1,179 @@
+-- The search's steps: it starts at the identity, settles a pair (held, taken, passed, or skipped since one of its elements is no first member), and ends,
+-- once every row up to v is settled, with the greatest congruence inside "v's block and the rest" (004, Lemma 10).
+use Prim.Native.Nat.{ℕ, _+_, _≤_, _<_}
+use mathlib.Core.Logic.{_⊎_, inl, inr}
+use mathlib.Core.Path.{_≡_, refl, sym, ap, _∙_}
+use native.Mathlib.Decide.{decLt, ℕ-discrete}
+use native.Mathlib.Omega.{arith}
+use Rattle.equivalence.specs.Kernel.{Within}
+use Rattle.equivalence.specs.Lists.{first}
+use Rattle.equivalence.proofs.Kernels.{identity-canonical, identity-within}
+use Rattle.algebra.specs.Algebra.{Algebra}
+use Rattle.algebra.specs.Translations.{Compatible, Closed, Refined}
+use Rattle.separation.specs.Search.{Keeps, Before, Refused, Settled, TwoBlocks, Earliest}
+
+module _ (a : Algebra) (v w : ℕ) where
+  pub settled-start : (f : ℕ → ℕ) → v < a .size → w < a .size → ¬ (v ≡ w) → ((x : ℕ) → x < a .size → f x ≡ x) → Compatible a f → Settled a v w 0 0 f
+  settled-start f lv lw d e c =
+      record {
+        canonical = identity-canonical (a .size) f e;
+        compatible = c;
+        apart = λ h. d (sym (e v lv) ∙ h ∙ e w lw);
+        own = λ g cg k. identity-within (a .size) f g e;
+        refused = λ p q l k b. elim b [ inl o ↦ absurd (omega arith) | inr o ↦ absurd (omega (arith, o .1)) ];
+      }
+
+  module _ (x y : ℕ) (f : ℕ → ℕ) (s : Settled a v w x y f) (lx : x < y) (ly : y < a .size) where
+    -- a pair before (x, y + 1) is before (x, y) or is (x, y)
+    earlier : (p q : ℕ) → Before p q x (y + 1) → Before p q x y ⊎ ((p ≡ x) × (q ≡ y))
+    earlier p q b = elim b [
+      | inl o ↦ inl (inl o)
+      | inr o ↦ elim (decLt q y) [ yes k ↦ inl (inr (o .0, k)) | no k ↦ inr (o .0, omega (arith, o .1)) ]
+    ]
+
+    later : (p q : ℕ) → Before p q x y → Before p q x (y + 1)
+    later p q b = elim b [ inl o ↦ inl o | inr o ↦ inr (o .0, omega (arith, o .1)) ]
+
+    -- f holds the pair already
+    pub settled-held : f x ≡ f y → Settled a v w x (y + 1) f
+    settled-held e =
+        record {
+          canonical = s .canonical;
+          compatible = s .compatible;
+          apart = s .apart;
+          own = λ g c k. s .own g c (λ p q l j b h. k p q l j (later p q b) h);
+          refused = λ p q l j b n. elim (earlier p q b) [
+            | inl o ↦ s .refused p q l j o n
+            | inr o ↦ absurd (n (rw (o .0, o .1) e))
+          ];
+        }
+
+    -- the pair would join v and w
+    pub settled-pass : Refused a v w f x y → Settled a v w x (y + 1) f
+    settled-pass r =
+        record {
+          canonical = s .canonical;
+          compatible = s .compatible;
+          apart = s .apart;
+          own = λ g c k. s .own g c (λ p q l j b h. k p q l j (later p q b) h);
+          refused = λ p q l j b n g c k h. elim (earlier p q b) [
+            | inl o ↦ s .refused p q l j o n g c k h
+            | inr o ↦ r g c (s .own g c (λ i m li lm before e. k i m li lm (rw (o .0, o .1) before) e)) (rw (← o .0, ← o .1) h)
+          ];
+        }
+
+    -- the pair is taken: f′ is the least congruence above f that holds it
+    pub settled-take : (f′ : ℕ → ℕ) → Closed a (λ g. Within (a .size) f g × (g x ≡ g y)) f′ → ¬ (f′ v ≡ f′ w) → Settled a v w x (y + 1) f′
+    settled-take f′ t n =
+        let up : Within (a .size) f f′ = t .good .0 in
+        record {
+          canonical = t .canonical;
+          compatible = t .compatible;
+          apart = n;
+          own = λ g c k. t .least g c (
+            s .own g c (λ p q l j b h. k p q l j (later p q b) (up p q (omega arith) j h)),
+            k x y lx ly (inr (refl, omega arith)) (t .good .1),
+          );
+          refused = λ p q l j b d g c k h. elim (earlier p q b) [
+            | inl o ↦ s .refused p q l j o (λ e. d (up p q (omega arith) j e)) g c (λ i m li lm before e. k i m li lm before (up i m (omega arith) lm e)) h
+            | inr o ↦ absurd (d (rw (o .0, o .1) (t .good .1)))
+          ];
+        }
+
+    -- one of the two is no first member: the pair of their first members is settled, and stands for it
+    pub settled-skip : ¬ ((f x ≡ x) × (f y ≡ y)) → Settled a v w x (y + 1) f
+    settled-skip n = elim (ℕ-discrete (f x) (f y)) [
+      | yes e ↦ settled-held e
+      | no d ↦ settled-pass (λ g c k h.
+          let cx : f x ≤ x = s .canonical .below x (omega arith) in
+          let cy : f y ≤ y = s .canonical .below y ly in
+          let rx : f (f x) ≡ f x = s .canonical .root x (omega arith) in
+          let ry : f (f y) ≡ f y = s .canonical .root y ly in
+          let gx : g x ≡ g (f x) = k x (f x) (omega arith) (omega arith) (sym rx) in
+          let gy : g y ≡ g (f y) = k y (f y) ly (omega arith) (sym ry) in
+          let keeps : (i j : ℕ) → Keeps (a .size) f g i j = λ i j p q l o b e. k p q (omega arith) o e in
+          elim (decLt (f x) (f y)) [
+            | yes l ↦ s .refused (f x) (f y) l (omega arith)
+                (elim (ℕ-discrete (f x) x) [ yes u ↦ inr (u, elim (ℕ-discrete (f y) y) [ yes z ↦ absurd (n (u, z)) | no z ↦ omega arith ]) | no u ↦ inl (omega arith) ])
+                (λ e. d (sym rx ∙ e ∙ ry)) g c (keeps (f x) (f y)) (sym gx ∙ h ∙ gy)
+            | no l ↦ s .refused (f y) (f x) (omega arith) (omega arith) (inl (omega arith))
+                (λ e. d (sym rx ∙ sym e ∙ ry)) g c (keeps (f y) (f x)) (sym gy ∙ sym h ∙ gx)
+          ])
+    ]
+
+  -- the end of a row
+  pub settled-row : (x : ℕ) (f : ℕ → ℕ) → Settled a v w x (a .size) f → Settled a v w (x + 1) (x + 2) f
+  settled-row x f s =
+      let back : (p q : ℕ) → p < q → q < a .size → Before p q (x + 1) (x + 2) → Before p q x (a .size) =
+      λ p q l k b. elim b [
+        | inl o ↦ elim (decLt p x) [ yes i ↦ inl i | no i ↦ inr (omega arith, k) ]
+        | inr o ↦ absurd (omega (arith, o .0, o .1))
+      ] in
+      let on : (p q : ℕ) → Before p q x (a .size) → Before p q (x + 1) (x + 2) =
+      λ p q b. elim b [ inl o ↦ inl (omega arith) | inr o ↦ inl (omega (arith, o .0)) ] in
+      record {
+        canonical = s .canonical;
+        compatible = s .compatible;
+        apart = s .apart;
+        own = λ g c k. s .own g c (λ p q l j b e. k p q l j (on p q b) e);
+        refused = λ p q l j b n g c k h. s .refused p q l j (back p q l j b) n g c k h;
+      }
+
+-- once every pair with v is settled, the rest is 004's Lemma 10
+module _ (a : Algebra) (v w : ℕ) (lv : v < a .size) (lw : w < a .size) (f : ℕ → ℕ) (s : Settled a v w (v + 1) (v + 2) f)
+    (e : ℕ → ℕ) (two : TwoBlocks (a .size) v f e) (h : ℕ → ℕ) (r : Refined a e h) where
+  above : Within (a .size) f h
+  above = r .greatest f (s .compatible) (λ x y lx ly q. elim (ℕ-discrete (f x) (f v)) [
+    | yes z ↦ two .same x y lx ly z (sym q ∙ z)
+    | no z ↦ two .rest x y lx ly z (λ u. z (q ∙ u))
+  ])
+
+  end-apart : ¬ (h v ≡ h w)
+  end-apart q = two .apart v w lv lw refl (λ z. s .apart (sym z)) (r .within v w lv lw q)
+
+  -- of the pairs with an element up to v, h holds no more than f
+  no-more : (p q : ℕ) → p < q → q < a .size → p ≤ v → h p ≡ h q → f p ≡ f q
+  no-more p q l k o i = elim (ℕ-discrete (f p) (f q)) [
+    | yes z ↦ z
+    | no z ↦ absurd (end-apart (s .refused p q l k (inl (omega arith)) z h (r .compatible) (λ i j li lj b u. above i j (omega arith) lj u) i))
+  ]
+
+  -- a congruence that agrees with h on all pairs up to v's row lies within e
+  within-two : (g : ℕ → ℕ) → Compatible a g → (x y : ℕ) → v < x → Keeps (a .size) h g x y → Keeps (a .size) g h x y → Within (a .size) g e
+  within-two g c x y l to from =
+      let up : Within (a .size) f g = s .own g c (λ p q lp lq b u. elim b [
+        | inl o ↦ to p q lp lq (inl (omega arith)) (above p q (omega arith) lq u)
+        | inr o ↦ absurd (omega (arith, o .0, o .1))
+      ]) in
+      let stays : (q : ℕ) → q < a .size → g v ≡ g q → f q ≡ f v =
+      λ q lq u. elim (decLt v q) [
+        | yes o ↦ sym (no-more v q o lq (omega arith) (from v q o lq (inl l) u))
+        | no o ↦ elim (decLt q v) [
+          | yes i ↦ no-more q v i lv (omega arith) (from q v i lv (inl (omega arith)) (sym u))
+          | no i ↦ ap f (omega arith)
+        ]
+      ] in
+      λ p q lp lq u. elim (ℕ-discrete (f p) (f v)) [
+        | yes z ↦ two .same p q lp lq z (stays q lq (sym (up p v lp lv z) ∙ u))
+        | no z ↦ two .rest p q lp lq z (λ o. z (stays p lp (sym (up q v lq lv o) ∙ sym u)))
+      ]
+
+  pub settled-end : Earliest a v w h
+  settled-end =
+      record {
+        canonical = r .canonical;
+        compatible = r .compatible;
+        apart = end-apart;
+        first = λ g c n x y l k to from u. elim (decLt v x) [
+          | yes o ↦ r .greatest g c (within-two g c x y o to from) x y (omega arith) k u
+          | no o ↦ elim (ℕ-discrete (f x) (f y)) [
+            | yes z ↦ above x y (omega arith) k z
+            | no z ↦ absurd (n (s .refused x y l k (inl (omega arith)) z g c (λ p q lp lq b i. to p q lp lq b (above p q (omega arith) lq i)) u))
+          ]
+        ];
+      }
+
+-- which of the two elements is named first does not matter
+pub earliest-swap : (a : Algebra) (v w : ℕ) (f : ℕ → ℕ) → Earliest a v w f → Earliest a w v f
+earliest-swap a v w f e =
+    record { canonical = e .canonical; compatible = e .compatible; apart = λ q. e .apart (sym q); first = λ g c n. e .first g c (λ q. n (sym q)) }

@@ -1,0 +1,1 @@
+// Separate's search.
