@@ -1,5 +1,6 @@
 pub mod AllMaps
 pub mod Best
+pub mod Bytes
 pub mod BlockNumbers
 pub mod Earlier
 pub mod Joins
