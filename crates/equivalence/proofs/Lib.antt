@@ -7,8 +7,10 @@ pub mod Joins
 pub mod Kernels
 pub mod Lists
 pub mod Maps
+pub mod Meeting
 pub mod Meets
 pub mod Pairs
 pub mod Refusals
 pub mod Stretches
 pub mod Tests
+pub mod Writing

@@ -28,7 +28,7 @@ shared-slice-read-if1 : tie.Need-shared-slice-read-if1 Inv-loop μ-loop
 shared-slice-read-if1 c = search needs
 
 shared-slice-read-if1-2 : tie.Need-shared-slice-read-if1-2 Inv-loop μ-loop
-shared-slice-read-if1-2 c = omega (arith, c .before .before .before .before .before .pre .1 .below (c .before .before .before .before .loop .x) (c .before .before .before .loop-test .taken))
+shared-slice-read-if1-2 c = omega (arith, c .before .before .before .before .before .pre .1 .1 .below (c .before .before .before .before .loop .x) (c .before .before .before .loop-test .taken))
 
 returns : tie.Need-returns Inv-loop μ-loop
 returns c = false-is _ (λ t. c .if1 .taken (of-inside-first _ _ _ (search needs) t _ (c .before .before .before .before .loop-test .taken)))
