@@ -1,13 +1,16 @@
 pub mod AllMaps
 pub mod Best
+pub mod Bytes
 pub mod BlockNumbers
 pub mod Earlier
 pub mod Joins
 pub mod Kernels
 pub mod Lists
 pub mod Maps
+pub mod Meeting
 pub mod Meets
 pub mod Pairs
 pub mod Refusals
 pub mod Stretches
 pub mod Tests
+pub mod Writing

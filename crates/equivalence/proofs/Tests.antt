@@ -2,7 +2,7 @@
 use Prim.Native.Nat.{ℕ}
 use mathlib.Core.Bool.{Bool, true, false, not, _&&_, _||_}
 use mathlib.Core.Logic.{_⊎_, inl, inr}
-use mathlib.Core.Path.{_≡_, refl, subst}
+use mathlib.Core.Path.{_≡_, refl, sym, subst}
 use lib.Dec.{T, eqb, eqb-refl}
 
 pub T? : (b : Bool) → Dec (T b)
@@ -56,3 +56,21 @@ module _ {ℓ} {A : Type ℓ} where
   pub pick-no : (b : Bool) (x y : A) → ¬ T b → pick b x y ≡ y
   pick-no true x y t = absurd (t tt)
   pick-no false x y t = refl
+
+-- a flag that a function answers: what it says, and what it must be
+pub T-of : {b : Bool} → b ≡ true → T b
+T-of e = subst T (sym e) tt
+
+pub not-T-of : {b : Bool} → b ≡ false → ¬ T b
+not-T-of e t = subst T e t
+
+pub true-is : (b : Bool) → T b → true ≡ b
+true-is true t = refl
+true-is false t = absurd t
+
+pub false-is : (b : Bool) → ¬ T b → false ≡ b
+false-is true t = absurd (t tt)
+false-is false t = refl
+
+pub and-true : {a b : Bool} → a ≡ true → b ≡ (a && b)
+and-true {a} {b} e = rw e refl

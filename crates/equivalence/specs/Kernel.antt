@@ -3,7 +3,7 @@
 use Prim.Native.Nat.{ℕ, zero, suc, _+_, _≤_, _<_}
 use mathlib.Core.Path.{_≡_}
 use mathlib.Core.Bool.{Bool, true, false}
-use lib.Dec.{eqb}
+use lib.Dec.{eqb, ltb}
 
 -- f names each block by its smallest member: at most the element, and its own name
 pub record Canonical (n : ℕ) (f : ℕ → ℕ) : Type 0 where
@@ -17,6 +17,10 @@ Within n f g = (x y : ℕ) → x < n → y < n → f x ≡ f y → g x ≡ g y
 -- v, or `new` where v is `old`
 unfoldable pub relabel : ℕ → ℕ → ℕ → ℕ
 relabel old new v = elim (eqb v old) [ true ↦ new | false ↦ v ]
+
+-- the element that was seen, or x where none was: 64 stands for none
+unfoldable pub seenOr : ℕ → ℕ → ℕ
+seenOr seen x = elim (ltb seen 64) [ true ↦ seen | false ↦ x ]
 
 -- the first n values are F's, and the rest are as they were
 pub record Filled (n : ℕ) (F : ℕ → ℕ) (f f′ : ℕ → ℕ) : Type 0 where

@@ -1,6 +1,9 @@
 // Equivalences on the elements 0 to n - 1, written as maps; and the types that every layer above shares.
 
 pub mod blocks;
+pub mod lattice;
+pub mod map;
+
 // The reasons to decline, in the order of document 01's table. Reason 11 carries two elements: it is a case of `Decomposed`.
 pub enum Refusal {
     Size,

@@ -1,0 +1,18 @@
+use Prim.Native.Nat.{_-_}
+use mathlib.Core.Path.{sym}
+use borrow.Author.Needs.{needs}
+use Rattle.equivalence.proofs.Meeting.{seenOr-yes, seenOr-no}
+use Rattle.equivalence.proofs.lattice.first_seen.Statement.{statement}
+use Rattle.equivalence.proofs.lattice.first_seen.Tie as tie
+
+cast-result : tie.Need-cast-result
+cast-result c = search needs
+
+returns : tie.Need-returns
+returns c = sym (seenOr-yes _ _ (c .if1 .taken))
+
+returns-2 : tie.Need-returns-2
+returns-2 c = sym (seenOr-no _ _ (c .if1 .left))
+
+pub first-seen-spec : {M : Type 1} → statement M
+first-seen-spec = tie.close (tie.spec cast-result returns returns-2)

@@ -1,0 +1,55 @@
+// Meets and joins of maps, written into lent slices. The maps are the first n bytes of what is handed in.
+ghost use mathlib.Core.Path.{_≡_};
+ghost use mathlib.Core.Bool.{true, false};
+ghost use Prim.Native.Nat.{ℕ, _+_, _*_, _<_, _≤_};
+ghost use lib.ListN.{length};
+ghost use Rattle.equivalence.specs.Equivalence.{byte, meet};
+ghost use Rattle.equivalence.specs.Kernel.{Canonical, Filled, seenOr};
+ghost use Rattle.equivalence.specs.Refusal.{written};
+
+// No element was seen.
+const NONE: u8 = 64;
+
+// The one seen, or x where none was.
+fn first_seen(seen: u8, x: usize) -> u8
+    requires { ⌜ x < 64 ⌝ }
+    ensures { λ r. ⌜ r ≡ seenOr seen x ⌝ }
+{
+    if seen < NONE { seen } else { x as u8 }
+}
+
+// Names each element by the first with its two names; `table` keeps that first one, by the two names.
+fn meet_by(n: usize, a: &[u8], b: &[u8], table: &mut [u8; 4096], out: &mut [u8])
+    requires { ⌜ n ≤ 64 ⌝ }
+    requires { do ⌜ n ≤ (← ⟦a.len()⟧) ⌝ }
+    requires { do ⌜ n ≤ (← ⟦b.len()⟧) ⌝ }
+    requires { do ⌜ n ≤ (← ⟦out.len()⟧) ⌝ }
+    requires { ⌜ Canonical n (byte (now a)) ⌝ }
+    requires { ⌜ Canonical n (byte (now b)) ⌝ }
+    requires { ⌜ length (now table) ≡ 4096 ⌝ }
+    requires { ⌜ ((k : ℕ) → k < 4096 → byte (now table) k ≡ 64) ⌝ }
+    ensures { λ _. ⌜ Filled n (byte (meet n (now (a .entry)) (now (b .entry)))) (byte (now (out .entry))) (byte (now (out .exit))) ⌝ }
+{
+    let mut x = 0;
+    while x < n {
+        let place = a[x] as usize * 64 + b[x] as usize;
+        let first = first_seen(table[place], x);
+        table[place] = first;
+        out[x] = first;
+        x += 1;
+    }
+}
+
+// The meet of a and b goes to the first n bytes of out.
+pub fn meet_into(n: usize, a: &[u8], b: &[u8], out: &mut [u8])
+    requires { ⌜ n ≤ 64 ⌝ }
+    requires { do ⌜ n ≤ (← ⟦a.len()⟧) ⌝ }
+    requires { do ⌜ n ≤ (← ⟦b.len()⟧) ⌝ }
+    requires { do ⌜ n ≤ (← ⟦out.len()⟧) ⌝ }
+    requires { ⌜ Canonical n (byte (now a)) ⌝ }
+    requires { ⌜ Canonical n (byte (now b)) ⌝ }
+    ensures { λ _. ⌜ now (out .exit) ≡ written (meet n (now (a .entry)) (now (b .entry))) (now (out .entry)) ⌝ }
+{
+    let mut table = [NONE; 4096];
+    meet_by(n, a, b, &mut table, out);
+}
