@@ -16,7 +16,8 @@ const MAX_ARITY: u8 = 3;
 
 const MAX_CELLS: usize = 32768;
 
-fn larger(a: u8, b: u8) -> u8
+// The larger of two.
+pub fn larger(a: u8, b: u8) -> u8
     ensures { λ r. ⌜ Larger a b r ⌝ }
 {
     if a < b { b } else { a }
