@@ -1,11 +1,13 @@
 -- Where an operation's cells stand in the algebra's cells, and which argument list stands at a place.
-use Prim.Native.Nat.{ℕ, zero, suc, _+_, _*_, _^_, _<_}
-use mathlib.Core.List.{List, [], _∷_, map, List·Memᴰ as Member, List·Memᴰ·head as here, List·Memᴰ·tail as there, List·Memᴰ·not-nil as not-nil, List·Memᴰ·cases-cons as cases-cons}
+use Prim.Native.Nat.{ℕ, zero, suc, _+_, _*_, _^_, _≤_, _<_}
+use mathlib.Core.List.{List, [], _∷_, _++_, map, List·Memᴰ as Member, List·Memᴰ·head as here, List·Memᴰ·tail as there, List·Memᴰ·not-nil as not-nil, List·Memᴰ·cases-cons as cases-cons}
 use mathlib.Core.Logic.{inl, inr}
-use mathlib.Core.Path.{_≡_, refl, sym, subst, _∙_}
+use mathlib.Core.Path.{_≡_, refl, sym, ap, subst, _∙_}
+use native.Mathlib.Nat.{pow-le-pow-left, pow-le-pow-right}
+use native.Mathlib.Numerals.{add-one}
 use native.Mathlib.Omega.{arith}
-use lib.ListN.{length, getD, take, drop, length-map}
-use lib.Seq.{getD-take, getD-drop, drop-drop}
+use lib.ListN.{length, getD, take, drop, length-map, take-append-drop}
+use lib.Seq.{getD-take, getD-drop, take-suc, take-all, drop-drop}
 use Rattle.equivalence.proofs.Lists.{member-at, map-at}
 use Rattle.equivalence.proofs.Stretches.{stretch-at}
 use Rattle.algebra.specs.Algebra.{Algebra, Operation, cellCount, operationsOf, operations, arguments, place, value}
@@ -65,3 +67,44 @@ arguments-cons n s x k l h =
 -- a fact of every argument list is a fact of each place
 pub every-place : (n s : ℕ) (P : List ℕ → Type 0) → ((k : ℕ) → k < n ^ s → P (getD (arguments n s) k [])) → (xs : List ℕ) → Args n s xs → P xs
 every-place n s P h xs a = let r = place-law n s xs a in subst P (r .1) (h (place n xs) (r .0))
+
+-- ---- where the tables begin
+
+cellCount-append : (n : ℕ) (xs ys : List ℕ) → cellCount n (xs ++ ys) ≡ cellCount n xs + cellCount n ys
+unfolding cellCount
+cellCount-append n [] ys = omega arith
+cellCount-append n (x ∷ xs) ys = omega (arith, cellCount-append n xs ys)
+
+one-table : (n s : ℕ) → cellCount n (s ∷ []) ≡ n ^ s
+unfolding cellCount
+one-table n s = omega arith
+
+-- each table begins where the one before it ends
+pub start-next : (n : ℕ) (arities : List ℕ) (j : ℕ) → j < length arities → cellCount n (take (j + 1) arities) ≡ cellCount n (take j arities) + n ^ getD arities j 0
+start-next n arities j l =
+    rw (add-one j, take-suc arities j 0 l, cellCount-append n (take j arities) (getD arities j 0 ∷ []), one-table n (getD arities j 0)) refl
+
+pub start-first : (n : ℕ) (arities : List ℕ) → cellCount n (take 0 arities) ≡ 0
+unfolding cellCount
+start-first n arities = refl
+
+pub start-last : (n : ℕ) (arities : List ℕ) (j : ℕ) → length arities ≤ j → cellCount n (take j arities) ≡ cellCount n arities
+start-last n arities j l = ap (cellCount n) (take-all j arities l)
+
+-- a table ends within the cells
+pub start-room : (n : ℕ) (arities : List ℕ) (j : ℕ) → j < length arities → cellCount n (take j arities) + n ^ getD arities j 0 ≤ cellCount n arities
+start-room n arities j l =
+    let e : cellCount n arities ≡ cellCount n (take (j + 1) arities) + cellCount n (drop (j + 1) arities) =
+    ap (cellCount n) (sym (take-append-drop (j + 1) arities)) ∙ cellCount-append n (take (j + 1) arities) (drop (j + 1) arities) in
+    omega (arith, start-next n arities j l)
+
+-- powers of n stay small
+pub power-small : (n i : ℕ) → n ≤ 64 → i ≤ 3 → n ^ i ≤ 262144
+power-small n i l li =
+    let a : 64 ^ i ≤ 64 ^ 3 = pow-le-pow-right (omega arith) li in
+    omega (arith, pow-le-pow-left l i)
+
+pub cellCount-small : (n : ℕ) (arities : List ℕ) (j : ℕ) → n ≤ 64 → j ≤ length arities → ((i : ℕ) → i < length arities → getD arities i 0 ≤ 3) → cellCount n (take j arities) ≤ 262144 * j
+cellCount-small n arities zero l k h = omega (arith, start-first n arities)
+cellCount-small n arities (suc j) l k h =
+    rw (← add-one j) (omega (arith, start-next n arities j (omega arith), cellCount-small n arities j l (omega arith) h, power-small n (getD arities j 0) l (h j (omega arith))))

@@ -1,1 +1,97 @@
-// An algebra's tables: whether they are accepted, the walk over translations, the test whether a map is a congruence.
+// An algebra's tables: whether they are accepted.
+ghost use mathlib.Core.Path.{_≡_};
+ghost use Prim.Native.Nat.{ℕ, _^_, _≤_, _<_};
+ghost use lib.ListN.{length, getD};
+ghost use Rattle.equivalence.specs.Refusal.{lowest};
+ghost use Rattle.algebra.specs.Algebra.{algebraOf, cellCount};
+ghost use Rattle.algebra.specs.Accepted.{algebraTests};
+ghost use Rattle.algebra.specs.Largest.{Larger, Largest};
+
+// The largest number of elements, of operations, of arguments and of cells.
+const MAX_SIZE: usize = 64;
+
+const MAX_OPERATIONS: usize = 16;
+
+const MAX_ARITY: u8 = 3;
+
+const MAX_CELLS: usize = 32768;
+
+// The larger of two.
+pub fn larger(a: u8, b: u8) -> u8
+    ensures { λ r. ⌜ Larger a b r ⌝ }
+{
+    if a < b { b } else { a }
+}
+
+// The largest byte of s, or 0. The whole slice is read without an early exit, so that the loop can take many bytes at a time.
+fn largest(s: &[u8]) -> u8
+    ensures { λ r. ⌜ Largest (length (now (s .entry))) (now (s .entry)) r ⌝ }
+{
+    let mut top = 0u8;
+    let mut i = 0;
+    while i < s.len() {
+        top = larger(top, s[i]);
+        i += 1;
+    }
+    top
+}
+
+// n to the power s.
+pub fn power(n: usize, s: usize) -> usize
+    requires { ⌜ n ≤ 64 ⌝ }
+    requires { ⌜ s ≤ 3 ⌝ }
+    ensures { λ r. ⌜ r ≡ n ^ s ⌝ }
+{
+    let mut r = 1;
+    let mut i = 0;
+    while i < s {
+        r = r * n;
+        i += 1;
+    }
+    r
+}
+
+// How many cells the tables have together.
+pub fn cell_count(n: usize, arities: &[u8]) -> usize
+    requires { ⌜ n ≤ 64 ⌝ }
+    requires { ⌜ length (now arities) ≤ 16 ⌝ }
+    requires { ⌜ ((i : ℕ) → i < length (now arities) → getD (now arities) i 0 ≤ 3) ⌝ }
+    ensures { λ r. ⌜ r ≡ cellCount n (now (arities .entry)) ⌝ }
+{
+    let mut sum = 0;
+    let mut j = 0;
+    while j < arities.len() {
+        sum = sum + power(n, arities[j] as usize);
+        j += 1;
+    }
+    sum
+}
+
+// The first of reasons 1 to 6 that applies.
+pub fn check(n: usize, arities: &[u8], cells: &[u8]) -> equivalence::Check
+    ensures { λ r. ⌜ r ≡ lowest (algebraTests (algebraOf n (now (arities .entry)) (now (cells .entry)))) ⌝ }
+{
+    if n < 1 {
+        return equivalence::Check::Failed(equivalence::Refusal::Size);
+    }
+    if n > MAX_SIZE {
+        return equivalence::Check::Failed(equivalence::Refusal::Size);
+    }
+    if arities.len() > MAX_OPERATIONS {
+        return equivalence::Check::Failed(equivalence::Refusal::Operations);
+    }
+    if largest(arities) > MAX_ARITY {
+        return equivalence::Check::Failed(equivalence::Refusal::Arity);
+    }
+    let count = cell_count(n, arities);
+    if count > MAX_CELLS {
+        return equivalence::Check::Failed(equivalence::Refusal::Cells);
+    }
+    if cells.len() != count {
+        return equivalence::Check::Failed(equivalence::Refusal::Length);
+    }
+    if largest(cells) as usize >= n {
+        return equivalence::Check::Failed(equivalence::Refusal::Cell);
+    }
+    equivalence::Check::Passed
+}

@@ -1,0 +1,62 @@
+use Prim.Native.Nat.{_-_, _≤_}
+use mathlib.Core.Path.{_≡_, sym, _∙_}
+use native.Mathlib.Omega.{arith}
+use lib.ListN.{length, getD, take}
+use Rattle.algebra.proofs.Tables.{start-next, start-first, start-last, power-small, cellCount-small}
+use Rattle.algebra.specs.Algebra.{cellCount}
+use Rattle.equivalence.proofs.Tests.{left}
+use Rattle.algebra.proofs.cell_count.Statement.{statement}
+use Rattle.algebra.proofs.cell_count.Tie as tie
+
+abbrev Inv-loop : tie.InvT-loop
+Inv-loop n arities sum₀ j₀ sum j = (j ≤ length arities) × (sum ≡ cellCount n (take j arities))
+
+abbrev μ-loop : tie.MeasureT-loop
+μ-loop n arities sum₀ j₀ sum j = length arities - j
+
+loop-holds : tie.Need-loop-holds Inv-loop μ-loop
+loop-holds c = (omega arith, sym (start-first (c .before .args .n) (c .before .args .arities .now)))
+
+shared-slice-read-power : tie.Need-shared-slice-read-power Inv-loop μ-loop
+shared-slice-read-power c = omega arith
+
+cast-power : tie.Need-cast-power Inv-loop μ-loop
+cast-power c = omega (arith, c .shared-slice-known2 .given (c .before .before .loop .j))
+
+power-requires : tie.Need-power-requires Inv-loop μ-loop
+power-requires c κs = (c .before .before .before .before .pre .0, c .before .before .before .before .pre .1 .1 (c .before .before .loop .j) (c .before .loop-test .taken))
+
+add-sum : tie.Need-add-sum Inv-loop μ-loop
+add-sum c =
+    let n = c .before .before .before .before .before .args .n in
+    let s = c .before .before .before .before .before .args .arities .now in
+    let j = c .before .before .before .loop .j in
+    omega (arith, c .power .ensures, power-small n (getD s j 0) (c .before .before .before .before .before .pre .0) (c .before .before .before .before .before .pre .1 .1 j (c .before .before .loop-test .taken)), cellCount-small n s j (c .before .before .before .before .before .pre .0) (omega arith) (c .before .before .before .before .before .pre .1 .1))
+
+add-j : tie.Need-add-j Inv-loop μ-loop
+add-j c = omega arith
+
+loop-less : tie.Need-loop-less Inv-loop μ-loop
+loop-less c = omega arith
+
+loop-again : tie.Need-loop-again Inv-loop μ-loop
+loop-again c = (omega arith, omega (arith, c .power .ensures, start-next (c .before .before .before .before .before .args .n) (c .before .before .before .before .before .args .arities .now) (c .before .before .before .loop .j) (c .before .before .loop-test .taken)))
+
+returns : tie.Need-returns Inv-loop μ-loop
+returns c = c .before .loop .inv .1 ∙ start-last (c .before .before .before .args .n) (c .before .before .before .args .arities .now) (c .before .loop .j) (c .loop-test .left)
+
+pub cell-count-spec : {M : Type 1} → statement M
+cell-count-spec =
+    tie.close
+    (tie.spec
+    Inv-loop
+    μ-loop
+    loop-holds
+    shared-slice-read-power
+    cast-power
+    power-requires
+    add-sum
+    add-j
+    loop-less
+    loop-again
+    returns)

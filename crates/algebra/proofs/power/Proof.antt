@@ -1,0 +1,39 @@
+use Prim.Native.Nat.{_+_, _*_, _-_, _≤_, _^_}
+use mathlib.Core.Path.{_≡_, refl, sym, ap}
+use native.Mathlib.Omega.{arith}
+use native.Mathlib.Numerals.{add-one}
+use native.Mathlib.Nat.{pow-zero, pow-suc}
+use Rattle.algebra.proofs.Tables.{power-small}
+use Rattle.algebra.proofs.power.Statement.{statement}
+use Rattle.algebra.proofs.power.Tie as tie
+
+abbrev Inv-loop : tie.InvT-loop
+Inv-loop n s r₀ i₀ r i = (i ≤ s) × (r ≡ n ^ i)
+
+abbrev μ-loop : tie.MeasureT-loop
+μ-loop n s r₀ i₀ r i = s - i
+
+loop-holds : tie.Need-loop-holds Inv-loop μ-loop
+loop-holds c = (omega arith, sym (pow-zero _))
+
+mul-r : tie.Need-mul-r Inv-loop μ-loop
+mul-r c =
+    let s = c .before .before in
+    let e : c .before .loop .r * s .args .n ≡ s .args .n ^ (c .before .loop .i + 1) = rw (add-one, pow-suc, c .before .loop .inv .1) refl in
+    omega (arith, power-small (s .args .n) (c .before .loop .i + 1) (s .pre .0) (omega arith))
+
+add-i : tie.Need-add-i Inv-loop μ-loop
+add-i c = omega arith
+
+loop-less : tie.Need-loop-less Inv-loop μ-loop
+loop-less c = omega arith
+
+loop-again : tie.Need-loop-again Inv-loop μ-loop
+loop-again c = (omega arith, rw (add-one, pow-suc, c .before .loop .inv .1) refl)
+
+returns : tie.Need-returns Inv-loop μ-loop
+returns c = rw (c .before .loop .inv .1) (ap (λ k. c .before .before .args .n ^ k) (omega arith))
+
+pub power-spec : {M : Type 1} → statement M
+power-spec =
+    tie.close (tie.spec Inv-loop μ-loop loop-holds mul-r add-i loop-less loop-again returns)
