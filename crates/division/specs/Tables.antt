@@ -31,12 +31,14 @@ unfoldable pub divided : Source → ℕ → ℕ → List ℕ
 divided q zero from = byte (q .numbers) (byte (q .cells) from) ∷ []
 divided q (suc s) from = joined (λ k. divided q s (from + byte (q .firsts) k * q .size ^ s)) (q .blocks)
 
--- every cell is an element, and so is every smallest member
+-- every cell is an element and so is every smallest member; each element has a number and each block a smallest member
 pub record Sound (q : Source) : Type 0 where
   pub most : q .size ≤ 64
   pub few : q .blocks ≤ q .size
   pub cell : (c : ℕ) → c < length (q .cells) → byte (q .cells) c < q .size
   pub first : (k : ℕ) → k < q .blocks → byte (q .firsts) k < q .size
+  pub numbers : q .size ≤ length (q .numbers)
+  pub firsts : q .blocks ≤ length (q .firsts)
 
 -- a table of arity s lies within the cells, and its quotient's within the lent bytes
 pub record Fits (q : Source) (s from : ℕ) (lent : List ℕ) (to : ℕ) : Type 0 where
