@@ -1,3 +1,4 @@
+pub mod Bridges
 pub mod Calls
 pub mod Certificates
 pub mod CommonPair
