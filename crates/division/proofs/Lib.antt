@@ -1,2 +1,3 @@
 pub mod Numbering
+pub mod Operations
 pub mod Walks

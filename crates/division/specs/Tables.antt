@@ -1,10 +1,11 @@
 -- The tables of a quotient as the walk over them writes them, from the first argument inwards.
 use Prim.Native.Nat.{ℕ, zero, suc, _+_, _*_, _^_, _≤_, _<_}
 use mathlib.Core.List.{List, [], _∷_, _++_, map}
-use lib.ListN.{length, take, drop}
+use lib.ListN.{length, getD, take, drop}
 use Rattle.equivalence.specs.Lists.{upTo, concat}
 use Rattle.equivalence.specs.Equivalence.{byte}
 use Rattle.equivalence.specs.Refusal.{written}
+use Rattle.algebra.specs.Algebra.{cellCount}
 
 -- the lent bytes with the new ones from place `at` on
 unfoldable pub laid : List ℕ → ℕ → List ℕ → List ℕ
@@ -44,3 +45,13 @@ pub record Sound (q : Source) : Type 0 where
 pub record Fits (q : Source) (s from : ℕ) (lent : List ℕ) (to : ℕ) : Type 0 where
   pub source : from + q .size ^ s ≤ length (q .cells)
   pub target : to + q .blocks ^ s ≤ length lent
+
+-- the table over blocks of operation j, whose table begins behind those of the operations before it
+abbrev pub dividedAt : Source → List ℕ → ℕ → List ℕ
+dividedAt q arities j = divided q (getD arities j 0) (cellCount (q .size) (take j arities))
+
+-- no arity is above 3, the tables lie within the cells, and their quotients' within the lent bytes
+pub record AllFit (q : Source) (arities lent : List ℕ) : Type 0 where
+  pub arity : (j : ℕ) → j < length arities → getD arities j 0 ≤ 3
+  pub source : cellCount (q .size) arities ≤ length (q .cells)
+  pub target : cellCount (q .blocks) arities ≤ length lent

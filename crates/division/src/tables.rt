@@ -4,7 +4,7 @@ ghost use mathlib.Core.Path.{_≡_};
 ghost use Prim.Native.Nat.{ℕ, _+_, _*_, _^_, _<_, _≤_};
 ghost use lib.ListN.{length};
 ghost use Rattle.equivalence.specs.Equivalence.{byte};
-ghost use Rattle.division.specs.Tables.{laid, divided, sourceOf, Sound, Fits};
+ghost use Rattle.division.specs.Tables.{laid, joined, divided, dividedAt, sourceOf, Sound, Fits, AllFit};
 
 use crate::numbers::block_of;
 use equivalence::Element;
@@ -71,7 +71,7 @@ fn divide_cube(n: usize, b: usize, cells: &[u8], from: usize, numbers: &[u8], fi
 }
 
 // The table of an operation of any arity.
-fn divide_table(s: u8, n: usize, b: usize, cells: &[u8], from: usize, numbers: &[u8], firsts: &[u8], out: &mut [u8], to: usize)
+fn divide_table(s: usize, n: usize, b: usize, cells: &[u8], from: usize, numbers: &[u8], firsts: &[u8], out: &mut [u8], to: usize)
     requires { ⌜ s ≤ 3 ⌝ }
     requires { ⌜ Sound (sourceOf n b (now cells) (now numbers) (now firsts)) ⌝ }
     requires { ⌜ Fits (sourceOf n b (now cells) (now numbers) (now firsts)) s from (now out) to ⌝ }
@@ -96,5 +96,23 @@ fn power(n: usize, s: usize) -> usize
         1 => n,
         2 => n * n,
         _ => n * n * n,
+    }
+}
+
+// The tables of all operations, one after the other.
+pub fn divide_tables(n: usize, b: usize, arities: &[u8], cells: &[u8], numbers: &[u8], firsts: &[u8], out: &mut [u8])
+    requires { ⌜ Sound (sourceOf n b (now cells) (now numbers) (now firsts)) ⌝ }
+    requires { ⌜ AllFit (sourceOf n b (now cells) (now numbers) (now firsts)) (now arities) (now out) ⌝ }
+    ensures { λ _. ⌜ now (out .exit) ≡ laid (now (out .entry)) 0 (joined (dividedAt (sourceOf n b (now (cells .entry)) (now (numbers .entry)) (now (firsts .entry))) (now (arities .entry))) (length (now (arities .entry)))) ⌝ }
+{
+    let mut j = 0;
+    let mut from = 0;
+    let mut to = 0;
+    while j < arities.len() {
+        let s = arities[j] as usize;
+        divide_table(s, n, b, cells, from, numbers, firsts, out, to);
+        from += power(n, s);
+        to += power(b, s);
+        j += 1;
     }
 }

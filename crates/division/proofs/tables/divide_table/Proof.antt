@@ -1,3 +1,5 @@
+use mathlib.Core.Path.{_≡_}
+use native.Mathlib.Omega.{arith}
 use borrow.Author.Needs.{needs}
 use Rattle.division.proofs.tables.divide_table.Statement.{statement}
 use Rattle.division.proofs.tables.divide_table.Tie as tie
@@ -10,19 +12,31 @@ use Rattle.division.proofs.tables.divide_row.Reads as divide-row-reads
 
 -- src/tables.rt:81:14
 divide-cell-requires : tie.Need-divide-cell-requires
-divide-cell-requires c κs = ?
+divide-cell-requires c κs =
+    let a = c .before .before .before .before .before .before in
+    let e : a .args .s ≡ 0 = omega arith in
+    (a .pre .1 .0, rw e at (a .pre .1 .1))
 
 -- src/tables.rt:82:14
 divide-row-requires : tie.Need-divide-row-requires
-divide-row-requires c κs = ?
+divide-row-requires c κs =
+    let a = c .before .before .before .before .before .before in
+    let e : a .args .s ≡ 1 = omega arith in
+    (a .pre .1 .0, rw e at (a .pre .1 .1))
 
 -- src/tables.rt:83:14
 divide-plane-requires : tie.Need-divide-plane-requires
-divide-plane-requires c κs = ?
+divide-plane-requires c κs =
+    let a = c .before .before .before .before .before .before in
+    let e : a .args .s ≡ 2 = omega arith in
+    (a .pre .1 .0, rw e at (a .pre .1 .1))
 
 -- src/tables.rt:84:14
 divide-cube-requires : tie.Need-divide-cube-requires
-divide-cube-requires c κs = ?
+divide-cube-requires c κs =
+    let a = c .before .before .before .before .before .before in
+    let e : a .args .s ≡ 3 = omega arith in
+    (a .pre .1 .0, rw e at (a .pre .1 .1))
 
 -- src/tables.rt:74:1
 same-length : tie.Need-same-length
@@ -30,7 +44,10 @@ same-length c = search needs
 
 -- src/tables.rt:74:1
 returns : tie.Need-returns
-returns c = ?
+returns c =
+    let a = c .before .before .before .before .before .before .before .before .before in
+    let e : a .args .s ≡ 0 = omega arith in
+    rw e (c .before .before .divide-cell .ensures)
 
 -- src/tables.rt:74:1
 same-length-2 : tie.Need-same-length-2
@@ -38,7 +55,10 @@ same-length-2 c = search needs
 
 -- src/tables.rt:74:1
 returns-2 : tie.Need-returns-2
-returns-2 c = ?
+returns-2 c =
+    let a = c .before .before .before .before .before .before .before .before .before in
+    let e : a .args .s ≡ 1 = omega arith in
+    rw e (c .before .before .divide-row .ensures)
 
 -- src/tables.rt:74:1
 same-length-3 : tie.Need-same-length-3
@@ -46,7 +66,10 @@ same-length-3 c = search needs
 
 -- src/tables.rt:74:1
 returns-3 : tie.Need-returns-3
-returns-3 c = ?
+returns-3 c =
+    let a = c .before .before .before .before .before .before .before .before .before in
+    let e : a .args .s ≡ 2 = omega arith in
+    rw e (c .before .before .divide-plane .ensures)
 
 -- src/tables.rt:74:1
 same-length-4 : tie.Need-same-length-4
@@ -54,7 +77,10 @@ same-length-4 c = search needs
 
 -- src/tables.rt:74:1
 returns-4 : tie.Need-returns-4
-returns-4 c = ?
+returns-4 c =
+    let a = c .before .before .before .before .before .before .before .before .before in
+    let e : a .args .s ≡ 3 = omega arith in
+    rw e (c .before .before .divide-cube .ensures)
 
 pub divide-table-spec : {M : Type 1} → statement M
 divide-table-spec =
