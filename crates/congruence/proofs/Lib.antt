@@ -11,3 +11,4 @@ pub mod GreatestCongruence
 pub mod LeastCongruence
 pub mod Quotients
 pub mod Separation
+pub mod Serving
