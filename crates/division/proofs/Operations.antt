@@ -9,13 +9,13 @@ use Rattle.algebra.specs.Algebra.{cellCount}
 use Rattle.division.specs.Tables.{laid, joined, Source, divided, Sound, Fits, dividedAt, AllFit}
 use Rattle.division.proofs.Walks.{joined-none, joined-more, divided-long, Laid, laid-start, laid-more}
 
-cellCount-more : (n : ℕ) (arities : List ℕ) (j : ℕ) → j < length arities → cellCount n (take (suc j) arities) ≡ cellCount n (take j arities) + n ^ getD arities j 0
+pub cellCount-more : (n : ℕ) (arities : List ℕ) (j : ℕ) → j < length arities → cellCount n (take (suc j) arities) ≡ cellCount n (take j arities) + n ^ getD arities j 0
 unfolding cellCount
 cellCount-more n [] j l = absurd (omega arith)
 cellCount-more n (s ∷ rest) zero l = omega arith
 cellCount-more n (s ∷ rest) (suc j) l = omega (arith, cellCount-more n rest j (omega arith))
 
-cellCount-part : (n : ℕ) (arities : List ℕ) (j : ℕ) → cellCount n (take j arities) ≤ cellCount n arities
+pub cellCount-part : (n : ℕ) (arities : List ℕ) (j : ℕ) → cellCount n (take j arities) ≤ cellCount n arities
 unfolding cellCount
 cellCount-part n [] zero = omega arith
 cellCount-part n [] (suc j) = omega arith
