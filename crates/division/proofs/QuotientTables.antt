@@ -3,18 +3,16 @@ use Prim.Native.Nat.{ℕ, zero, suc, _+_, _*_, _^_, _≤_, _<_}
 use mathlib.Core.List.{List, [], _∷_, _++_, map, map-map, map-append, List·Memᴰ as Member, List·Memᴰ·head as here, List·Memᴰ·tail as there}
 use mathlib.Core.Path.{_≡_, refl, sym, ap, _∙_}
 use native.Mathlib.Omega.{arith}
-use lib.Dec.{T}
 use lib.ListN.{length, getD, take, drop, length-map}
 use lib.Seq.{ext-getD, drop-drop}
-use Rattle.equivalence.specs.Equivalence.{Map, byte, isMap, roots, blocks, blockOf}
+use Rattle.equivalence.specs.Equivalence.{Map, byte, blocks, blockOf}
 use Rattle.equivalence.specs.Lists.{upTo, concat}
 use Rattle.equivalence.specs.Refusal.{written}
 use Rattle.equivalence.proofs.BlockNumbers.{blocks-le, smallest, smallest-below}
-use Rattle.equivalence.proofs.Lists.{map-at, table-at, upTo-length, of-upTo}
-use Rattle.equivalence.proofs.Maps.{IsMap, of-isMap}
+use Rattle.equivalence.proofs.Lists.{map-at, table-at, upTo-length}
+use Rattle.equivalence.proofs.Maps.{IsMap}
 use Rattle.algebra.specs.Algebra.{Algebra, Operation, cellCount, operationsOf, operations, arguments, place, value}
-use Rattle.algebra.specs.Accepted.{Accepted}
-use Rattle.algebra.proofs.Accepted.{WellFormed, accepted-wellFormed}
+use Rattle.algebra.proofs.Accepted.{WellFormed}
 use Rattle.algebra.proofs.Arguments.{Args, of-arguments, args-map, place-law}
 use Rattle.algebra.proofs.Tables.{operationAt, value-at}
 use Rattle.division.specs.Numbers.{Numbered}

@@ -5,12 +5,20 @@ ghost use Prim.Native.Nat.{ℕ, _+_, _*_, _^_, _<_, _≤_};
 ghost use lib.ListN.{length};
 ghost use Rattle.equivalence.specs.Equivalence.{byte};
 ghost use Rattle.division.specs.Tables.{laid, joined, divided, dividedAt, sourceOf, Sound, Fits, AllFit};
-
 use crate::numbers::block_of;
 use equivalence::Element;
 
 // Arity 0: the block of the constant.
-fn divide_cell(n: usize, b: usize, cells: &[u8], from: usize, numbers: &[u8], firsts: &[u8], out: &mut [u8], to: usize)
+fn divide_cell(
+    n: usize,
+    b: usize,
+    cells: &[u8],
+    from: usize,
+    numbers: &[u8],
+    firsts: &[u8],
+    out: &mut [u8],
+    to: usize,
+)
     requires { ⌜ Sound (sourceOf n b (now cells) (now numbers) (now firsts)) ⌝ }
     requires { ⌜ Fits (sourceOf n b (now cells) (now numbers) (now firsts)) 0 from (now out) to ⌝ }
     ensures { λ _. ⌜ now (out .exit) ≡ laid (now (out .entry)) to (divided (sourceOf n b (now (cells .entry)) (now (numbers .entry)) (now (firsts .entry))) 0 from) ⌝ }
@@ -21,7 +29,16 @@ fn divide_cell(n: usize, b: usize, cells: &[u8], from: usize, numbers: &[u8], fi
 }
 
 // Arity 1: a row.
-fn divide_row(n: usize, b: usize, cells: &[u8], from: usize, numbers: &[u8], firsts: &[u8], out: &mut [u8], to: usize)
+fn divide_row(
+    n: usize,
+    b: usize,
+    cells: &[u8],
+    from: usize,
+    numbers: &[u8],
+    firsts: &[u8],
+    out: &mut [u8],
+    to: usize,
+)
     requires { ⌜ Sound (sourceOf n b (now cells) (now numbers) (now firsts)) ⌝ }
     requires { ⌜ Fits (sourceOf n b (now cells) (now numbers) (now firsts)) 1 from (now out) to ⌝ }
     ensures { λ _. ⌜ now (out .exit) ≡ laid (now (out .entry)) to (divided (sourceOf n b (now (cells .entry)) (now (numbers .entry)) (now (firsts .entry))) 1 from) ⌝ }
@@ -37,7 +54,16 @@ fn divide_row(n: usize, b: usize, cells: &[u8], from: usize, numbers: &[u8], fir
 }
 
 // Arity 2: a row for each block of the first argument.
-fn divide_plane(n: usize, b: usize, cells: &[u8], from: usize, numbers: &[u8], firsts: &[u8], out: &mut [u8], to: usize)
+fn divide_plane(
+    n: usize,
+    b: usize,
+    cells: &[u8],
+    from: usize,
+    numbers: &[u8],
+    firsts: &[u8],
+    out: &mut [u8],
+    to: usize,
+)
     requires { ⌜ Sound (sourceOf n b (now cells) (now numbers) (now firsts)) ⌝ }
     requires { ⌜ Fits (sourceOf n b (now cells) (now numbers) (now firsts)) 2 from (now out) to ⌝ }
     ensures { λ _. ⌜ now (out .exit) ≡ laid (now (out .entry)) to (divided (sourceOf n b (now (cells .entry)) (now (numbers .entry)) (now (firsts .entry))) 2 from) ⌝ }
@@ -53,7 +79,16 @@ fn divide_plane(n: usize, b: usize, cells: &[u8], from: usize, numbers: &[u8], f
 }
 
 // Arity 3: a plane for each block of the first argument.
-fn divide_cube(n: usize, b: usize, cells: &[u8], from: usize, numbers: &[u8], firsts: &[u8], out: &mut [u8], to: usize)
+fn divide_cube(
+    n: usize,
+    b: usize,
+    cells: &[u8],
+    from: usize,
+    numbers: &[u8],
+    firsts: &[u8],
+    out: &mut [u8],
+    to: usize,
+)
     requires { ⌜ Sound (sourceOf n b (now cells) (now numbers) (now firsts)) ⌝ }
     requires { ⌜ Fits (sourceOf n b (now cells) (now numbers) (now firsts)) 3 from (now out) to ⌝ }
     ensures { λ _. ⌜ now (out .exit) ≡ laid (now (out .entry)) to (divided (sourceOf n b (now (cells .entry)) (now (numbers .entry)) (now (firsts .entry))) 3 from) ⌝ }
@@ -71,7 +106,17 @@ fn divide_cube(n: usize, b: usize, cells: &[u8], from: usize, numbers: &[u8], fi
 }
 
 // The table of an operation of any arity.
-fn divide_table(s: usize, n: usize, b: usize, cells: &[u8], from: usize, numbers: &[u8], firsts: &[u8], out: &mut [u8], to: usize)
+fn divide_table(
+    s: usize,
+    n: usize,
+    b: usize,
+    cells: &[u8],
+    from: usize,
+    numbers: &[u8],
+    firsts: &[u8],
+    out: &mut [u8],
+    to: usize,
+)
     requires { ⌜ s ≤ 3 ⌝ }
     requires { ⌜ Sound (sourceOf n b (now cells) (now numbers) (now firsts)) ⌝ }
     requires { ⌜ Fits (sourceOf n b (now cells) (now numbers) (now firsts)) s from (now out) to ⌝ }
@@ -100,7 +145,15 @@ fn power(n: usize, s: usize) -> usize
 }
 
 // The tables of all operations, one after the other.
-pub fn divide_tables(n: usize, b: usize, arities: &[u8], cells: &[u8], numbers: &[u8], firsts: &[u8], out: &mut [u8])
+pub fn divide_tables(
+    n: usize,
+    b: usize,
+    arities: &[u8],
+    cells: &[u8],
+    numbers: &[u8],
+    firsts: &[u8],
+    out: &mut [u8],
+)
     requires { ⌜ Sound (sourceOf n b (now cells) (now numbers) (now firsts)) ⌝ }
     requires { ⌜ AllFit (sourceOf n b (now cells) (now numbers) (now firsts)) (now arities) (now out) ⌝ }
     ensures { λ _. ⌜ now (out .exit) ≡ laid (now (out .entry)) 0 (joined (dividedAt (sourceOf n b (now (cells .entry)) (now (numbers .entry)) (now (firsts .entry))) (now (arities .entry))) (length (now (arities .entry)))) ⌝ }

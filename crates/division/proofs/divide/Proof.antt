@@ -1,3 +1,4 @@
+-- `division::divide` meets its contract. The blocks are numbered, the tables are walked, and what the walk writes is the quotient's cells.
 use native.Mathlib.Omega.{arith}
 use Rattle.equivalence.proofs.BlockNumbers.{blocks-le}
 use Rattle.equivalence.proofs.Maps.{of-isMap}
@@ -7,35 +8,25 @@ use Rattle.division.proofs.QuotientTables.{written-quotient, numbered-s
 use borrow.Author.Needs.{needs}
 use Rattle.division.proofs.divide.Statement.{statement}
 use Rattle.division.proofs.divide.Tie as tie
-use Rattle.division.proofs.divide.Reads as reads
-use Rattle.division.proofs.divide.Lts as lts
-use Rattle.division.proofs.numbers.number_blocks.Reads as number-blocks-reads
-use Rattle.division.proofs.tables.divide_tables.Reads as divide-tables-reads
 
--- src/lib.rt:29:44
 slice-aggregate-number-blocks : tie.Need-slice-aggregate-number-blocks
 slice-aggregate-number-blocks c = search needs
 
--- src/lib.rt:29:64
 slice-aggregate-number-blocks-2 : tie.Need-slice-aggregate-number-blocks-2
 slice-aggregate-number-blocks-2 c = search needs
 
--- src/lib.rt:29:9
 number-blocks-requires : tie.Need-number-blocks-requires
 number-blocks-requires c κs =
     let s = c .before .before .before .before .before .before in
     let ok = accepted-wellFormed (algebraOf (s .args .n) (s .args .arities .now) (s .args .cells .now)) (s .pre .0) in
     (ok .most, (ok .most, (ok .most, s .pre .1 .0)))
 
--- src/lib.rt:30:49
 slice-aggregate-divide-tables : tie.Need-slice-aggregate-divide-tables
 slice-aggregate-divide-tables c = search needs
 
--- src/lib.rt:30:65
 slice-aggregate-divide-tables-2 : tie.Need-slice-aggregate-divide-tables-2
 slice-aggregate-divide-tables-2 c = search needs
 
--- src/lib.rt:30:5
 divide-tables-requires : tie.Need-divide-tables-requires
 divide-tables-requires c κs =
     let s = c .before .before .before .before .before .before .before .before .before .before .before .before in
@@ -45,18 +36,15 @@ divide-tables-requires c κs =
     let p = of-isMap (s .args .n) (s .args .map .now) (s .pre .1 .0) in
     (numbered-sound a ok (s .args .map .now) p _ _ _ (r .ensures) (omega (arith, ok .most, r .kept .1 .1 .0)) (omega (arith, ok .most, r .kept .1 .1 .1 .0)), numbered-fits a ok (s .args .map .now) p _ _ _ (r .ensures) _ (s .pre .1 .1))
 
--- src/lib.rt:31:5
 cast-result : tie.Need-cast-result
 cast-result c =
     let s = c .before .before .before .before .before .before .before .before .before .before .before .before .before .before .before in
     let ok = accepted-wellFormed (algebraOf (s .args .n) (s .args .arities .now) (s .args .cells .now)) (s .pre .0) in
     omega (arith, ok .most, c .before .before .before .before .before .before .before .before .number-blocks .ensures .count, blocks-le (s .args .n) (s .args .map .now))
 
--- src/lib.rt:20:1
 same-length : tie.Need-same-length
 same-length c = search needs
 
--- src/lib.rt:20:1
 returns : tie.Need-returns
 returns c =
     let s = c .before .before .before .before .before .before .before .before .before .before .before .before .before .before .before in

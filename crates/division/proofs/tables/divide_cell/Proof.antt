@@ -1,6 +1,6 @@
+-- `division::tables::divide_cell` meets its contract. The one byte written is the block number of the cell.
 use Prim.Native.Nat.{_<_}
 use mathlib.Core.Path.{ap, _∙_}
-use mathlib.Core.List.{List, [], _∷_}
 use native.Mathlib.Nat.{pow-zero}
 use native.Mathlib.Omega.{arith}
 use lib.ListN.{length, set}
