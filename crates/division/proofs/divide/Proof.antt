@@ -1,11 +1,11 @@
 -- `division::divide` meets its contract. The blocks are numbered, the tables are walked, and what the walk writes is the quotient's cells.
 use native.Mathlib.Omega.{arith}
+use borrow.Author.Needs.{needs}
 use Rattle.equivalence.proofs.BlockNumbers.{blocks-le}
 use Rattle.equivalence.proofs.Maps.{of-isMap}
 use Rattle.algebra.specs.Algebra.{algebraOf}
 use Rattle.algebra.proofs.Accepted.{accepted-wellFormed}
 use Rattle.division.proofs.QuotientTables.{written-quotient, numbered-sound, numbered-fits}
-use borrow.Author.Needs.{needs}
 use Rattle.division.proofs.divide.Statement.{statement}
 use Rattle.division.proofs.divide.Tie as tie
 

@@ -4,8 +4,8 @@ use mathlib.Core.Path.{_≡_}
 use native.Mathlib.Omega.{arith}
 use lib.ListN.{length-set}
 use lib.Dec.{eqb}
-use Rattle.equivalence.specs.Equivalence.{byte}
 use borrow.Author.Needs.{needs}
+use Rattle.equivalence.specs.Equivalence.{byte}
 use Rattle.division.proofs.Numbering.{Numbering, numbering-none, numbering-more, bit-le}
 use Rattle.division.proofs.numbers.number_blocks.Statement.{statement}
 use Rattle.division.proofs.numbers.number_blocks.Tie as tie

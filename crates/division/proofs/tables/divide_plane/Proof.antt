@@ -4,7 +4,7 @@ use mathlib.Core.Path.{refl, sym}
 use native.Mathlib.Omega.{arith}
 use borrow.Author.Needs.{needs}
 use Rattle.division.specs.Tables.{sourceOf}
-use Rattle.division.proofs.Walks.{Walked, walked-start, walked-fits, walked-more, walked-all, power-one}
+use Rattle.division.proofs.Walks.{Walked, walked-start, walked-fits, walked-more, walked-all, power-one, fits-row, laid-row}
 use Rattle.division.proofs.tables.divide_plane.Statement.{statement}
 use Rattle.division.proofs.tables.divide_plane.Tie as tie
 
@@ -30,7 +30,7 @@ add-divide-row : tie.Need-add-divide-row Inv-loop μ-loop
 add-divide-row c = omega (arith, walked-fits (c .before .before .loop .inv) _ (c .before .loop-test .taken) refl .source)
 
 divide-row-requires : tie.Need-divide-row-requires Inv-loop μ-loop
-divide-row-requires c κs = let r = c .before .before .before .loop .inv in (r .sound, walked-fits r _ (c .before .before .loop-test .taken) (omega arith))
+divide-row-requires c κs = let r = c .before .before .before .loop .inv in fits-row (r .sound) (walked-fits r _ (c .before .before .loop-test .taken) refl)
 
 add-at : tie.Need-add-at Inv-loop μ-loop
 add-at c = let s = c .before .before .before .before .before .before in omega (arith, walked-fits (s .loop .inv) _ (c .before .before .before .before .before .loop-test .taken) refl .target, s .loop .inv .tall)
@@ -42,7 +42,7 @@ loop-less : tie.Need-loop-less Inv-loop μ-loop
 loop-less c = search needs
 
 loop-again : tie.Need-loop-again Inv-loop μ-loop
-loop-again c = walked-more (c .before .before .before .before .before .before .loop .inv) _ _ (c .before .before .before .before .before .loop-test .taken) (omega arith) (c .before .before .divide-row .ensures)
+loop-again c = walked-more (c .before .before .before .before .before .before .loop .inv) _ _ (c .before .before .before .before .before .loop-test .taken) refl (laid-row _ _ _ _ _ (c .before .before .divide-row .ensures))
 
 same-length : tie.Need-same-length Inv-loop μ-loop
 same-length c = c .before .loop .inv .laid .long

@@ -2,6 +2,8 @@
 use mathlib.Core.Path.{_≡_}
 use native.Mathlib.Omega.{arith}
 use borrow.Author.Needs.{needs}
+use Rattle.division.specs.Tables.{divided}
+use Rattle.division.proofs.Walks.{fits-cell, fits-row, laid-row}
 use Rattle.division.proofs.tables.divide_table.Statement.{statement}
 use Rattle.division.proofs.tables.divide_table.Tie as tie
 
@@ -9,13 +11,13 @@ divide-cell-requires : tie.Need-divide-cell-requires
 divide-cell-requires c κs =
     let a = c .before .before .before .before .before .before in
     let e : a .args .s ≡ 0 = omega arith in
-    (a .pre .1 .0, rw e at (a .pre .1 .1))
+    fits-cell (a .pre .1 .0) (rw e at (a .pre .1 .1))
 
 divide-row-requires : tie.Need-divide-row-requires
 divide-row-requires c κs =
     let a = c .before .before .before .before .before .before in
     let e : a .args .s ≡ 1 = omega arith in
-    (a .pre .1 .0, rw e at (a .pre .1 .1))
+    fits-row (a .pre .1 .0) (rw e at (a .pre .1 .1))
 
 divide-plane-requires : tie.Need-divide-plane-requires
 divide-plane-requires c κs =
@@ -33,6 +35,7 @@ same-length : tie.Need-same-length
 same-length c = search needs
 
 returns : tie.Need-returns
+unfolding divided
 returns c =
     let a = c .before .before .before .before .before .before .before .before .before in
     let e : a .args .s ≡ 0 = omega arith in
@@ -45,7 +48,7 @@ returns-2 : tie.Need-returns-2
 returns-2 c =
     let a = c .before .before .before .before .before .before .before .before .before in
     let e : a .args .s ≡ 1 = omega arith in
-    rw e (c .before .before .divide-row .ensures)
+    rw e (laid-row _ _ _ _ _ (c .before .before .divide-row .ensures))
 
 same-length-3 : tie.Need-same-length-3
 same-length-3 c = search needs
