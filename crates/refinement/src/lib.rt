@@ -1,0 +1,3 @@
+// The greatest congruence inside a map, and the test whether a map is a congruence.
+
+mod line;
