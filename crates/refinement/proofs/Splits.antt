@@ -1,14 +1,16 @@
 -- One line: which maps it keeps, and what it splits a map into. Several lines: splits one after the other are one split.
-use Prim.Native.Nat.{ℕ, _+_, _≤_, _<_}
+use Prim.Native.Nat.{ℕ, suc, _+_, _*_, _≤_, _<_}
 use mathlib.Core.Path.{_≡_, refl, sym, ap, subst, _∙_}
 use native.Mathlib.Decide.{decLt, ℕ-discrete}
+use native.Mathlib.Nat.{mul-comm, suc-mul, mul-le-mul-right}
 use native.Mathlib.Omega.{arith}
+use lib.Arith.{digits-lt}
 use lib.ListN.{length, set}
 use lib.Seq.{getD-set-same, getD-set-other}
 use borrow.Author.Count.{below-more}
 use Rattle.equivalence.specs.Equivalence.{Map, byte}
 use Rattle.equivalence.specs.Kernel.{Canonical, Within, names}
-use Rattle.refinement.specs.Splitting.{Keeps, Alike, Split}
+use Rattle.refinement.specs.Splitting.{Keeps, Alike, Lent, Split}
 use Rattle.refinement.proofs.Names.{names-full, names-another}
 
 -- ---- a line that keeps a map
@@ -109,6 +111,26 @@ split-more {b = b} {r} {r′} {Done = Done} also both s u =
     there : r′ ≡ b → r′ ≡ r
     there e = omega (arith, s .more, u .more)
 
+-- what is asked and what is done may be said otherwise
+pub split-said : {n b r : ℕ} {Good Good′ Done Done′ : (ℕ → ℕ) → Type 0} {m m′ : Map} → ((g : ℕ → ℕ) → Good′ g → Good g) → ((g : ℕ → ℕ) → Done g → Done′ g)
+    → Split n Good Done b m m′ r → Split n Good′ Done′ b m m′ r
+split-said ask h s = record {
+  canonical = s .canonical;
+  within = s .within;
+  greatest = λ g good. s .greatest g (ask g good);
+  rest = s .rest;
+  counted = s .counted;
+  more = s .more;
+  still = s .still;
+  done = λ e. h _ (s .done e);
+}
+
+pub split-done : {n b r : ℕ} {Good Done Done′ : (ℕ → ℕ) → Type 0} {m m′ : Map} → ((g : ℕ → ℕ) → Done g → Done′ g) → Split n Good Done b m m′ r → Split n Good Done′ b m m′ r
+split-done h s = split-said (λ g good. good) h s
+
+pub split-good : {n b r : ℕ} {Good Good′ Done : (ℕ → ℕ) → Type 0} {m m′ : Map} → ((g : ℕ → ℕ) → Good′ g → Good g) → Split n Good Done b m m′ r → Split n Good′ Done b m m′ r
+split-good ask s = split-said ask (λ g done. done) s
+
 -- a loop that has split along those below i splits along i
 pub split-next : {n b r r′ i k : ℕ} {P Q : ℕ → (ℕ → ℕ) → Type 0} {m₀ m m′ : Map} → i < k → Split n (λ g. (j : ℕ) → j < k → P j g) (λ g. (j : ℕ) → j < i → Q j g) b m₀ m r
     → Split n (P i) (Q i) r m m′ r′ → Split n (λ g. (j : ℕ) → j < k → P j g) (λ g. (j : ℕ) → j < i + 1 → Q j g) b m₀ m′ r′
@@ -124,3 +146,17 @@ each-written {i} {v} P m l h p x k =
 
 pub alike-copied : {t f : ℕ → ℕ} {x y z : ℕ} → z ≡ y → Alike t f x y → Alike t f x z
 alike-copied e h = rw e h
+
+-- what was split can be split again
+pub lent-again : {n b r : ℕ} {Good Done : (ℕ → ℕ) → Type 0} {m m′ cells : Map} → Lent n m cells → length m′ ≡ length m → Split n Good Done b m m′ r → Lent n m′ cells
+lent-again p e s = record { some = p .some; small = p .small; room = omega (arith, p .room); canonical = s .canonical; below = p .below }
+
+-- ---- room
+
+-- a line of a block lies within the block
+pub line-room : (n d base lo size : ℕ) → base + d * n ≤ size → lo < d → (x : ℕ) → x < n → base + lo + x * d < size
+line-room n d base lo size h l x lx = omega (arith, digits-lt {q = x} {m = n} {r = lo} {c = d} lx l, mul-comm n d)
+
+-- a row lies within the rows
+pub row-room : (n step base r size : ℕ) → base + step * n ≤ size → r < n → base + r * step + step ≤ size
+row-room n step base r size h l = omega (arith, suc-mul r step, mul-le-mul-right {m = suc r} {n = n} step l, mul-comm n step)

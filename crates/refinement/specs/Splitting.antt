@@ -43,6 +43,7 @@ First g r = g r ≡ r
 
 -- what every pass is lent: a map with room for n bytes, and cells below n
 pub record Lent (n : ℕ) (m cells : List ℕ) : Type 0 where
+  pub some : 1 ≤ n
   pub small : n ≤ 64
   pub room : n ≤ length m
   pub canonical : Canonical n (byte m)
