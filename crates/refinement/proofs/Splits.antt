@@ -112,7 +112,7 @@ split-more {b = b} {r} {r′} {Done = Done} also both s u =
     there e = omega (arith, s .more, u .more)
 
 -- what is asked and what is done may be said otherwise
-pub split-said : {n b r : ℕ} {Good Good′ Done Done′ : (ℕ → ℕ) → Type 0} {m m′ : Map} → ((g : ℕ → ℕ) → Good′ g → Good g) → ((g : ℕ → ℕ) → Done g → Done′ g)
+pub split-said : {n b r : ℕ} {Good Good′ Done Done′ : (ℕ → ℕ) → Type 0} {m m′ : Map} → ((g : ℕ → ℕ) → Good′ g → Good g) → ((g : ℕ → ℕ) → Canonical n g → Done g → Done′ g)
     → Split n Good Done b m m′ r → Split n Good′ Done′ b m m′ r
 split-said ask h s = record {
   canonical = s .canonical;
@@ -122,14 +122,8 @@ split-said ask h s = record {
   counted = s .counted;
   more = s .more;
   still = s .still;
-  done = λ e. h _ (s .done e);
+  done = λ e. h _ (s .canonical) (s .done e);
 }
-
-pub split-done : {n b r : ℕ} {Good Done Done′ : (ℕ → ℕ) → Type 0} {m m′ : Map} → ((g : ℕ → ℕ) → Done g → Done′ g) → Split n Good Done b m m′ r → Split n Good Done′ b m m′ r
-split-done h s = split-said (λ g good. good) h s
-
-pub split-good : {n b r : ℕ} {Good Good′ Done : (ℕ → ℕ) → Type 0} {m m′ : Map} → ((g : ℕ → ℕ) → Good′ g → Good g) → Split n Good Done b m m′ r → Split n Good′ Done b m m′ r
-split-good ask s = split-said ask (λ g done. done) s
 
 -- a loop that has split along those below i splits along i
 pub split-next : {n b r r′ i k : ℕ} {P Q : ℕ → (ℕ → ℕ) → Type 0} {m₀ m m′ : Map} → i < k → Split n (λ g. (j : ℕ) → j < k → P j g) (λ g. (j : ℕ) → j < i → Q j g) b m₀ m r
@@ -147,9 +141,9 @@ each-written {i} {v} P m l h p x k =
 pub alike-copied : {t f : ℕ → ℕ} {x y z : ℕ} → z ≡ y → Alike t f x y → Alike t f x z
 alike-copied e h = rw e h
 
--- what was split can be split again
-pub lent-again : {n b r : ℕ} {Good Done : (ℕ → ℕ) → Type 0} {m m′ cells : Map} → Lent n m cells → length m′ ≡ length m → Split n Good Done b m m′ r → Lent n m′ cells
-lent-again p e s = record { some = p .some; small = p .small; room = omega (arith, p .room); canonical = s .canonical; below = p .below }
+-- a map that was split is lent again
+pub lent-again : {n : ℕ} {m m′ cells : Map} → Lent n m cells → length m′ ≡ length m → Canonical n (byte m′) → Lent n m′ cells
+lent-again p e c = record { some = p .some; small = p .small; room = omega (arith, p .room); canonical = c; below = p .below }
 
 -- ---- room
 

@@ -6,7 +6,7 @@ use native.Mathlib.Nat.{pow-zero, pow-suc, one-mul, mul-le-mul}
 use native.Mathlib.Omega.{arith}
 use Rattle.equivalence.specs.Equivalence.{Map}
 use Rattle.refinement.specs.Splitting.{Block, Rows, Planes, Table, Any, First, Split}
-use Rattle.refinement.proofs.Splits.{split-more, split-good}
+use Rattle.refinement.proofs.Splits.{split-more, split-said}
 
 -- ---- powers up to the third
 
@@ -37,11 +37,11 @@ table-of cells base e h = rw e h
 module _ {n b r r′ : ℕ} {m₀ m m′ : Map} (cells : List ℕ) (base : ℕ) where
   pub table-two : Split n (Block n cells base n) (Block n cells base n) b m₀ m r
       → Split n (Rows Any n cells base 1) (λ g. Rows (First g) n cells base 1 g) r m m′ r′ → TableSplit n cells base 2 b m₀ m′ r′
-  table-two s u = split-more (λ g h. h .1) (λ g p q. (p, q)) (split-good (λ g h. h .0) s) u
+  table-two s u = split-more (λ g h. h .1) (λ g p q. (p, q)) (split-said (λ g h. h .0) (λ g c h. h) s) u
 
   pub table-three : {m″ : Map} {r″ : ℕ} → Split n (Block n cells base (n * n)) (Block n cells base (n * n)) b m₀ m r
       → Split n (Rows Any n cells base n) (λ g. Rows (First g) n cells base n g) r m m′ r′
       → Split n (Planes Any n cells base) (λ g. Planes (First g) n cells base g) r′ m′ m″ r″ → TableSplit n cells base 3 b m₀ m″ r″
   table-three s u v =
       split-more (λ g h. h .2) (λ g p q. (p .0, p .1, q))
-      (split-more {Both = λ g. (Block n cells base (n * n) g × Rows (First g) n cells base n g)} (λ g h. h .1) (λ g p q. (p, q)) (split-good (λ g h. h .0) s) u) v
+      (split-more {Both = λ g. (Block n cells base (n * n) g × Rows (First g) n cells base n g)} (λ g h. h .1) (λ g p q. (p, q)) (split-said (λ g h. h .0) (λ g c h. h) s) u) v

@@ -32,7 +32,7 @@ fn split_row(m: &mut [u8], n: usize, count: usize, cells: &[u8], base: usize, d:
     requires { ⌜ count ≡ names n (byte (now m)) ⌝ }
     requires { ⌜ base + d * n * n ≤ length (now cells) ⌝ }
     requires { ⌜ r < n ⌝ }
-    ensures { λ s. ⌜ Split n (λ g. Block n (now (cells .entry)) (base + r * (d * n)) d g) (λ g. (First g r → Block n (now (cells .entry)) (base + r * (d * n)) d g)) count (now (m .entry)) (now (m .exit)) s ⌝ }
+    ensures { λ s. ⌜ Split n (λ g. (Any r → Block n (now (cells .entry)) (base + r * (d * n)) d g)) (λ g. (First g r → Block n (now (cells .entry)) (base + r * (d * n)) d g)) count (now (m .entry)) (now (m .exit)) s ⌝ }
 {
     if m[r] as usize != r {
         return count;
@@ -62,7 +62,7 @@ fn split_plane(m: &mut [u8], n: usize, count: usize, cells: &[u8], base: usize, 
     requires { ⌜ count ≡ names n (byte (now m)) ⌝ }
     requires { ⌜ base + n * n * n ≤ length (now cells) ⌝ }
     requires { ⌜ p < n ⌝ }
-    ensures { λ s. ⌜ Split n (λ g. Rows Any n (now (cells .entry)) (base + p * (n * n)) 1 g) (λ g. (First g p → Rows (First g) n (now (cells .entry)) (base + p * (n * n)) 1 g)) count (now (m .entry)) (now (m .exit)) s ⌝ }
+    ensures { λ s. ⌜ Split n (λ g. (Any p → Rows Any n (now (cells .entry)) (base + p * (n * n)) 1 g)) (λ g. (First g p → Rows (First g) n (now (cells .entry)) (base + p * (n * n)) 1 g)) count (now (m .entry)) (now (m .exit)) s ⌝ }
 {
     if m[p] as usize != p {
         return count;

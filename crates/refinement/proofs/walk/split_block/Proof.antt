@@ -3,7 +3,7 @@ use mathlib.Core.Path.{_≡_, refl}
 use native.Mathlib.Omega.{arith}
 use lib.ListN.{length}
 use Rattle.refinement.specs.Splitting.{line, Keeps, Block, Split}
-use Rattle.refinement.proofs.Splits.{split-none, split-next, split-done, lent-again, line-room}
+use Rattle.refinement.proofs.Splits.{split-none, split-next, split-said, lent-again, line-room}
 use Rattle.refinement.proofs.walk.split_block.Statement.{statement}
 use Rattle.refinement.proofs.walk.split_block.Tie as tie
 
@@ -27,7 +27,7 @@ split-line-requires c κs =
     let s = c .before .before .before .before .before in
     let a = s .args in
     let l = c .before .before .loop in
-    (lent-again (s .pre .0) (l .inv .1) (l .inv .2), (l .inv .2 .counted, line-room (a .n) (a .d) (a .base) (l .lo) (length (a .cells .now)) (s .pre .1 .1) (c .before .loop-test .taken)))
+    (lent-again (s .pre .0) (l .inv .1) (l .inv .2 .canonical), (l .inv .2 .counted, line-room (a .n) (a .d) (a .base) (l .lo) (length (a .cells .now)) (s .pre .1 .1) (c .before .loop-test .taken)))
 
 add-lo : tie.Need-add-lo Inv-loop μ-loop
 add-lo c = omega arith
@@ -46,7 +46,7 @@ same-length : tie.Need-same-length Inv-loop μ-loop
 same-length c = omega arith
 
 returns : tie.Need-returns Inv-loop μ-loop
-returns c = split-done (λ g h lo l. h lo (omega arith)) (c .before .loop .inv .2)
+returns c = split-said (λ g good. good) (λ g k h lo l. h lo (omega arith)) (c .before .loop .inv .2)
 
 pub split-block-spec : {M : Type 1} → statement M
 split-block-spec =

@@ -2,7 +2,7 @@ use Prim.Native.Nat.{_+_, _*_, _≤_}
 use native.Mathlib.Omega.{arith}
 use lib.ListN.{length}
 use borrow.Author.Needs.{needs}
-use Rattle.refinement.proofs.Splits.{split-done, row-room}
+use Rattle.refinement.proofs.Splits.{split-said, row-room}
 use Rattle.refinement.proofs.walk.split_plane.Statement.{statement}
 use Rattle.refinement.proofs.walk.split_plane.Tie as tie
 
@@ -35,7 +35,7 @@ same-length : tie.Need-same-length
 same-length c = search needs
 
 returns-2 : tie.Need-returns-2
-returns-2 c = split-done (λ g h e. h) (c .before .before .split-rows .ensures)
+returns-2 c = split-said (λ g h. h tt) (λ g k h e. h) (c .before .before .split-rows .ensures)
 
 pub split-plane-spec : {M : Type 1} → statement M
 split-plane-spec =

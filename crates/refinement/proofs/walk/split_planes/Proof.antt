@@ -3,7 +3,7 @@ use mathlib.Core.Path.{_≡_, refl}
 use native.Mathlib.Omega.{arith}
 use lib.ListN.{length}
 use Rattle.refinement.specs.Splitting.{Rows, Planes, Any, First, Split}
-use Rattle.refinement.proofs.Splits.{split-none, split-next, split-done, split-good, lent-again}
+use Rattle.refinement.proofs.Splits.{split-none, split-next, split-said, lent-again}
 use Rattle.refinement.proofs.walk.split_planes.Statement.{statement}
 use Rattle.refinement.proofs.walk.split_planes.Tie as tie
 
@@ -21,7 +21,7 @@ split-plane-requires : tie.Need-split-plane-requires Inv-loop μ-loop
 split-plane-requires c κs =
     let p = c .before .before .before .before .before .pre in
     let l = c .before .before .loop in
-    (lent-again (p .0) (l .inv .1) (l .inv .2), (l .inv .2 .counted, (p .1 .1, c .before .loop-test .taken)))
+    (lent-again (p .0) (l .inv .1) (l .inv .2 .canonical), (l .inv .2 .counted, (p .1 .1, c .before .loop-test .taken)))
 
 add-p : tie.Need-add-p Inv-loop μ-loop
 add-p c = omega arith
@@ -34,13 +34,13 @@ loop-again c =
     let a = c .before .before .before .before .before .before .before .before .args in
     let l = c .before .before .before .before .before .loop in
     let Plane : (ℕ → Type 0) → ℕ → (ℕ → ℕ) → Type 0 = λ Row k g. (Row k → Rows Row (a .n) (a .cells .now) (a .base + k * (a .n * a .n)) 1 g) in
-    (omega arith, omega arith, split-next {P = Plane Any} {Q = λ k g. Plane (First g) k g} (c .before .before .before .before .loop-test .taken) (l .inv .2) (split-good (λ g h. h tt) (c .before .before .split-plane .ensures)))
+    (omega arith, omega arith, split-next {P = Plane Any} {Q = λ k g. Plane (First g) k g} (c .before .before .before .before .loop-test .taken) (l .inv .2) (c .before .before .split-plane .ensures))
 
 same-length : tie.Need-same-length Inv-loop μ-loop
 same-length c = omega arith
 
 returns : tie.Need-returns Inv-loop μ-loop
-returns c = split-done (λ g h p l. h p (omega arith)) (c .before .loop .inv .2)
+returns c = split-said (λ g good. good) (λ g k h p l. h p (omega arith)) (c .before .loop .inv .2)
 
 pub split-planes-spec : {M : Type 1} → statement M
 split-planes-spec =

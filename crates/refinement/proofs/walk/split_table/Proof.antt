@@ -37,7 +37,7 @@ split-rows-requires : tie.Need-split-rows-requires
 split-rows-requires c κs =
     let s = c .before .before .before .before .before .before .before .before .before .before in
     let k = c .before .before .before .split-block2 in
-    (lent-again (s .pre .0) (omega arith) (k .ensures), (k .ensures .counted, omega (arith, binary s (c .before .before .before .before .before .if3 .taken))))
+    (lent-again (s .pre .0) (omega arith) (k .ensures .canonical), (k .ensures .counted, omega (arith, binary s (c .before .before .before .before .before .if3 .taken))))
 
 same-length-2 : tie.Need-same-length-2
 same-length-2 c = search needs
@@ -57,14 +57,13 @@ split-rows-requires-2 : tie.Need-split-rows-requires-2
 split-rows-requires-2 c κs =
     let s = c .before .before .before .before .before .before .before .before .before .before in
     let k = c .before .before .before .split-block3 in
-    (lent-again (s .pre .0) (omega arith) (k .ensures), (k .ensures .counted, ternary s (omega arith)))
+    (lent-again (s .pre .0) (omega arith) (k .ensures .canonical), (k .ensures .counted, ternary s (omega arith)))
 
 split-planes-requires : tie.Need-split-planes-requires
 split-planes-requires c κs =
     let s = c .before .before .before .before .before .before .before .before .before .before .before .before .before .before in
-    let k = c .before .before .before .before .before .before .before .split-block3 in
     let l = c .before .before .before .split-rows2 in
-    (lent-again (lent-again (s .pre .0) (omega arith) (k .ensures)) (omega arith) (l .ensures), (l .ensures .counted, ternary s (omega arith)))
+    (lent-again (s .pre .0) (omega arith) (l .ensures .canonical), (l .ensures .counted, ternary s (omega arith)))
 
 same-length-3 : tie.Need-same-length-3
 same-length-3 c = search needs
