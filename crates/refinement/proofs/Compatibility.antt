@@ -1,17 +1,19 @@
 -- Where the lines of every table keep a map whose earlier arguments are first members, it is compatible with every operation; and what is
 -- compatible is kept along every line.
-use Prim.Native.Nat.{ℕ, zero, suc, _+_, _*_, _≤_, _<_, _/_, _%_}
+use Prim.Native.Nat.{ℕ, zero, suc, _+_, _*_, _^_, _≤_, _<_, _/_, _%_}
 use mathlib.Core.List.{List, [], _∷_, _++_}
 use mathlib.Core.Path.{_≡_, refl, sym, ap, _∙_}
 use native.Mathlib.Nat.{pow-zero, mod-lt, div-lt-iff-lt-mul, div-add-mod', one-mul}
+use native.Mathlib.Numerals.{add-one}
 use native.Mathlib.Omega.{arith}
 use lib.Arith.{digits-lt}
-use lib.ListN.{length, getD}
+use lib.ListN.{length, getD, take}
+use Rattle.equivalence.specs.Equivalence.{Map, byte}
 use Rattle.equivalence.specs.Kernel.{Canonical}
-use Rattle.algebra.specs.Algebra.{Algebra, place}
+use Rattle.algebra.specs.Algebra.{Algebra, cellCount, place}
 use Rattle.algebra.specs.Translations.{AllBelow, tableStart, result, Compatible}
 use Rattle.algebra.proofs.Accepted.{WellFormed}
-use Rattle.refinement.specs.Splitting.{line, Table, Any, First}
+use Rattle.refinement.specs.Splitting.{line, Table, Any, First, Lent}
 use Rattle.refinement.proofs.Tables.{power-one, power-two}
 
 -- ---- places by arity
@@ -183,3 +185,33 @@ module _ (a : Algebra) (w : WellFormed a) (g : ℕ → ℕ) (c : Compatible a g)
 
 pub compatible-tables : (a : Algebra) → WellFormed a → (g : ℕ → ℕ) → Compatible a g → Tables Any a g (length (a .arities))
 compatible-tables a w g c j l = compatible-table a w g c j l (getD (a .arities) j 0) refl
+
+-- ---- where the tables begin
+
+start-suc : (n : ℕ) (ss : List ℕ) (j : ℕ) → j < length ss → cellCount n (take (suc j) ss) ≡ cellCount n (take j ss) + n ^ getD ss j 0
+unfolding cellCount
+start-suc n [] j l = absurd (omega arith)
+start-suc n (s ∷ rest) zero l = omega arith
+start-suc n (s ∷ rest) (suc j) l = omega (arith, start-suc n rest j (omega arith))
+
+start-most : (n : ℕ) (ss : List ℕ) (j : ℕ) → cellCount n (take j ss) ≤ cellCount n ss
+unfolding cellCount
+start-most n [] zero = omega arith
+start-most n [] (suc j) = omega arith
+start-most n (s ∷ rest) zero = omega arith
+start-most n (s ∷ rest) (suc j) = omega (arith, start-most n rest j)
+
+-- each table begins where the one before it ends
+pub start-next : (a : Algebra) (j : ℕ) → j < length (a .arities) → tableStart a (j + 1) ≡ tableStart a j + a .size ^ getD (a .arities) j 0
+start-next a j l = rw (add-one j) (start-suc (a .size) (a .arities) j l)
+
+pub table-room : (a : Algebra) → WellFormed a → (j : ℕ) → j < length (a .arities) → tableStart a j + a .size ^ getD (a .arities) j 0 ≤ length (a .cells)
+table-room a w j l = omega (arith, start-suc (a .size) (a .arities) j l, start-most (a .size) (a .arities) (suc j), w .filled)
+
+pub start-zero : (a : Algebra) → tableStart a 0 ≡ 0
+unfolding cellCount
+start-zero a = refl
+
+-- what is lent to the walk over an accepted algebra
+pub accepted-lent : (a : Algebra) → WellFormed a → (m : Map) → a .size ≤ length m → Canonical (a .size) (byte m) → Lent (a .size) m (a .cells)
+accepted-lent a w m r c = record { some = w .some; small = w .most; room = r; canonical = c; below = w .below }

@@ -34,6 +34,9 @@ TableSplit n cells base s b m m′ r = Split n (Table Any n cells base s) (λ g.
 pub table-of : {n s k b r : ℕ} {m m′ : Map} (cells : List ℕ) (base : ℕ) → s ≡ k → TableSplit n cells base k b m m′ r → TableSplit n cells base s b m m′ r
 table-of cells base e h = rw e h
 
+pub table-from : {n b r base start : ℕ} {m m′ : Map} (cells : List ℕ) (s : ℕ) → base ≡ start → TableSplit n cells base s b m m′ r → TableSplit n cells start s b m m′ r
+table-from cells s e h = rw e at h
+
 module _ {n b r r′ : ℕ} {m₀ m m′ : Map} (cells : List ℕ) (base : ℕ) where
   pub table-two : Split n (Block n cells base n) (Block n cells base n) b m₀ m r
       → Split n (Rows Any n cells base 1) (λ g. Rows (First g) n cells base 1 g) r m m′ r′ → TableSplit n cells base 2 b m₀ m′ r′

@@ -4,9 +4,10 @@ ghost use mathlib.Core.Path.{_≡_};
 ghost use Prim.Native.Nat.{ℕ, _+_, _*_, _^_, _<_, _≤_};
 ghost use lib.ListN.{length};
 ghost use Rattle.equivalence.specs.Equivalence.{byte};
-ghost use Rattle.equivalence.specs.Kernel.{names};
+ghost use Rattle.equivalence.specs.Kernel.{Canonical, names};
 ghost use Rattle.algebra.specs.Accepted.{Accepted};
 ghost use Rattle.algebra.specs.Algebra.{algebraOf};
+ghost use Rattle.algebra.specs.Translations.{Compatible};
 ghost use Rattle.refinement.specs.Splitting.{Block, Rows, Planes, Table, Any, First, Lent, Split};
 use super::line::split_line;
 
@@ -125,4 +126,24 @@ fn table_size(n: usize, s: usize) -> usize
         return n * n;
     }
     n * n * n
+}
+
+// The lines of every table of an accepted algebra.
+pub fn split_all(m: &mut [u8], n: usize, count: usize, arities: &[u8], cells: &[u8]) -> usize
+    requires { ⌜ Accepted (algebraOf n (now arities) (now cells)) ⌝ }
+    requires { ⌜ n ≤ length (now m) ⌝ }
+    requires { ⌜ Canonical n (byte (now m)) ⌝ }
+    requires { ⌜ count ≡ names n (byte (now m)) ⌝ }
+    ensures { λ r. ⌜ Split n (Compatible (algebraOf n (now (arities .entry)) (now (cells .entry)))) (Compatible (algebraOf n (now (arities .entry)) (now (cells .entry)))) count (now (m .entry)) (now (m .exit)) r ⌝ }
+{
+    let mut found = count;
+    let mut base = 0;
+    let mut j = 0;
+    while j < arities.len() {
+        let s = arities[j] as usize;
+        found = split_table(m, n, found, cells, base, s);
+        base = base + table_size(n, s);
+        j += 1;
+    }
+    found
 }
