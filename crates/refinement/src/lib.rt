@@ -1,0 +1,4 @@
+// The greatest congruence inside a map, and the test whether a map is a congruence.
+
+mod line;
+mod walk;
