@@ -2,3 +2,4 @@ pub mod Names
 pub mod Splits
 pub mod Tables
 pub mod Compatibility
+pub mod Refinements

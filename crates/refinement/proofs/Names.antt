@@ -55,9 +55,9 @@ names-another zero f f′ h w l p q = absurd (omega arith)
 names-another (suc n) f f′ h w l p q =
     elim (ℕ-discrete w n) [
       | yes e ↦
-        let s : bit (eqb (f n) n) ≡ 0 = ap bit (ne-eqb (f n) n (rw e at q)) in
-        let t : bit (eqb (f′ n) n) ≡ 1 = ap bit (eq-eqb (f′ n) n (rw e at p)) in
-        omega (arith, names-more n f f′ (λ x k. h x (omega arith)))
+          let s : bit (eqb (f n) n) ≡ 0 = ap bit (ne-eqb (f n) n (rw e at q)) in
+          let t : bit (eqb (f′ n) n) ≡ 1 = ap bit (eq-eqb (f′ n) n (rw e at p)) in
+          omega (arith, names-more n f f′ (λ x k. h x (omega arith)))
       | no e ↦ omega (arith, names-another n f f′ (λ x k. h x (omega arith)) w (omega arith) p q, bit-more f f′ n (h n (omega arith)))
     ]
 
@@ -65,6 +65,6 @@ names-another (suc n) f f′ h w l p q =
 pub names-within : (n : ℕ) (f f′ : ℕ → ℕ) → Canonical n f → Canonical n f′ → Within n f f′ → names n f′ ≤ names n f
 names-within n f f′ c c′ w =
     names-more n f′ f (λ x l e.
-        let k : f x < n = omega (arith, c .below x l) in
-        let s : f′ (f x) ≡ f′ x = w (f x) x k l (c .root x l) in
-        omega (arith, c .below x l, c′ .below (f x) k))
+    let k : f x < n = omega (arith, c .below x l) in
+    let s : f′ (f x) ≡ f′ x = w (f x) x k l (c .root x l) in
+    omega (arith, c .below x l, c′ .below (f x) k))

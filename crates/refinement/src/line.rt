@@ -49,7 +49,16 @@ fn broken(m: &[u8], n: usize, cells: &[u8], base: usize, d: usize) -> usize
 }
 
 // Whether y is in the block named `name`, and its image in the block named `image`.
-fn is_alike(m: &[u8], n: usize, cells: &[u8], base: usize, d: usize, name: u8, image: u8, y: usize) -> bool
+fn is_alike(
+    m: &[u8],
+    n: usize,
+    cells: &[u8],
+    base: usize,
+    d: usize,
+    name: u8,
+    image: u8,
+    y: usize,
+) -> bool
     requires { ⌜ Lent n (now m) (now cells) ⌝ }
     requires { ⌜ OnLine n (now cells) base d ⌝ }
     requires { ⌜ y < n ⌝ }
@@ -111,7 +120,14 @@ fn split(m: &mut [u8], n: usize, cells: &[u8], base: usize, d: usize)
 }
 
 // Splits m, which has `count` blocks, along the line if that does not keep it; gives the number of blocks.
-pub fn split_line(m: &mut [u8], n: usize, count: usize, cells: &[u8], base: usize, d: usize) -> usize
+pub fn split_line(
+    m: &mut [u8],
+    n: usize,
+    count: usize,
+    cells: &[u8],
+    base: usize,
+    d: usize,
+) -> usize
     requires { ⌜ Lent n (now m) (now cells) ⌝ }
     requires { ⌜ count ≡ names n (byte (now m)) ⌝ }
     requires { ⌜ OnLine n (now cells) base d ⌝ }

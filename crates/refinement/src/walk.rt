@@ -28,7 +28,15 @@ fn split_block(m: &mut [u8], n: usize, count: usize, cells: &[u8], base: usize, 
 }
 
 // Row r of the rows of d * n cells from `base`, if r is a first member.
-fn split_row(m: &mut [u8], n: usize, count: usize, cells: &[u8], base: usize, d: usize, r: usize) -> usize
+fn split_row(
+    m: &mut [u8],
+    n: usize,
+    count: usize,
+    cells: &[u8],
+    base: usize,
+    d: usize,
+    r: usize,
+) -> usize
     requires { ⌜ Lent n (now m) (now cells) ⌝ }
     requires { ⌜ count ≡ names n (byte (now m)) ⌝ }
     requires { ⌜ base + d * n * n ≤ length (now cells) ⌝ }

@@ -27,7 +27,7 @@ record Turn (n size base d x first : ℕ) (cells : ℕ → ℕ) : Type 0 where
 
 turn : (c : tie.In-loop Inv-loop μ-loop)
     → let a = c .before .before .args in
-      Turn (a .n) (length (a .cells .now)) (a .base) (a .d) (c .before .loop .x) (byte (a .m .now) (c .before .loop .x)) (byte (a .cells .now))
+    Turn (a .n) (length (a .cells .now)) (a .base) (a .d) (c .before .loop .x) (byte (a .m .now) (c .before .loop .x)) (byte (a .cells .now))
 turn c =
     let s = c .before .before in
     let a = s .args in

@@ -75,8 +75,7 @@ loop-again : tie.Need-loop-again Inv-loop μ-loop
 loop-again c =
     let s = c .before .before .before .before .before .before .before .before .before .before .before in
     let l = c .before .before .before .before .before .before .before .loop in
-    let a = algebra s in
-    (
+    let a = algebra s in (
       omega arith,
       omega (arith, start-next a (l .j) (c .before .before .before .before .before .before .loop-test .taken), c .table-size .ensures),
       omega arith,
