@@ -55,6 +55,14 @@ lowest-failed (t ∷ ts) rest r e =
       | no h ↦ lowest-next t (ts ++ rest) h ∙ lowest-failed ts rest r (sym (lowest-next t ts h) ∙ e)
     ]
 
+-- where two lists of tests pass one after the other, both pass
+pub passed-append : (ts rest : List Test) → lowest (ts ++ rest) ≡ Passed → (lowest ts ≡ Passed) × (lowest rest ≡ Passed)
+passed-append [] rest e = (lowest-none, e)
+passed-append (t ∷ ts) rest e =
+    let p = of-passed t (ts ++ rest) e in
+    let r = passed-append ts rest (p .1) in
+    (lowest-next t ts (p .0) ∙ r .0, r .1)
+
 -- a call whose tests pass
 pub serve-passed {ℓ} : {A : Type ℓ} (refused : Refusal → A) (tests : List Test) (answer : A) (new lent : List ℕ) → lowest tests ≡ Passed
     → serve refused tests answer new lent ≡ (answer, written new lent)
