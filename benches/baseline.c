@@ -105,10 +105,12 @@ struct closing {
 };
 
 /* What a trial must keep apart: for each first member its block, and the
- * elements that its block must not meet. */
+ * elements that its block must not meet; and what each merge of the queue made
+ * of the latter, to take it back. */
 struct apart {
     uint64_t members[MAX_SIZE];
     uint64_t enemies[MAX_SIZE];
+    uint64_t enemies_before[MAX_SIZE];
 };
 
 static void start_identity(struct closing *c, unsigned n)
@@ -132,6 +134,7 @@ INLINE int merge(struct closing *c, struct apart *s, unsigned p, unsigned q)
         if (s->enemies[low] & s->members[high]) {
             return 1;
         }
+        s->enemies_before[c->tail] = s->enemies[low];
         s->members[low] |= s->members[high];
         s->enemies[low] |= s->enemies[high];
     }
@@ -444,6 +447,7 @@ uint32_t baseline_contained(size_t n, const uint8_t *arities, size_t arities_len
 
 /* ---- Separate --------------------------------------------------------- */
 
+/* A congruence, its first members, and what it must keep apart. */
 struct trial {
     struct closing c;
     struct apart s;
@@ -462,18 +466,32 @@ static void start_trial(struct trial *t, unsigned n, unsigned v, unsigned w)
     t->firsts = everything(n);
 }
 
-/* What an accepted trial leaves: its first members, again the fixed arguments. */
-static void settle(struct trial *t)
+/* Joins x and y if that joins nothing that must be apart; else all is as it
+ * was, but x and y are apart for good. */
+static void try_join(struct trial *t, const struct algebra *al, unsigned x, unsigned y)
 {
-    unsigned count = 0;
-    for (unsigned k = 0; k < t->c.tail; k++) {
-        t->firsts &= ~bit(t->c.large[k]);
-    }
-    for (uint64_t rest = t->firsts; rest; rest &= rest - 1) {
-        t->c.live[count++] = (uint8_t)lowest(rest);
-    }
-    t->c.live_count = count;
+    uint8_t map[MAX_SIZE], live[MAX_SIZE];
+    const unsigned live_count = t->c.live_count, blocks = t->c.blocks;
+    memcpy(map, t->c.map, MAX_SIZE);
+    memcpy(live, t->c.live, MAX_SIZE);
     t->c.head = t->c.tail = 0;
+    if (!close_apart(&t->c, &t->s, al, x, y)) {
+        /* The elements still live are just the first members now. */
+        for (unsigned k = 0; k < t->c.tail; k++) {
+            t->firsts &= ~bit(t->c.large[k]);
+        }
+        return;
+    }
+    memcpy(t->c.map, map, MAX_SIZE);
+    memcpy(t->c.live, live, MAX_SIZE);
+    t->c.live_count = live_count;
+    t->c.blocks = blocks;
+    for (unsigned k = t->c.tail; k-- > 0;) {
+        t->s.members[t->c.small[k]] &= ~t->s.members[t->c.large[k]];
+        t->s.enemies[t->c.small[k]] = t->s.enemies_before[k];
+    }
+    t->s.enemies[x] |= t->s.members[y];
+    t->s.enemies[y] |= t->s.members[x];
 }
 
 /* Whether each block is the one of x or may not be joined with it. */
@@ -514,42 +532,30 @@ static void finish(const struct trial *t, const struct algebra *al, unsigned x, 
  * order, each joined if that joins nothing that must be apart. */
 static void separate(const struct algebra *al, unsigned v, unsigned w, uint8_t *out)
 {
-    struct trial store[2], *now = &store[0], *next = &store[1];
+    struct trial t;
     const unsigned n = al->n;
-    start_trial(now, n, v, w);
+    start_trial(&t, n, v, w);
     for (unsigned x = 0; x + 1 < n; x++) {
-        if (now->c.map[x] != x) {
+        if (t.c.map[x] != x) {
             continue;
         }
-        uint64_t rest = now->firsts & ~everything(x + 1);
-        while (rest) {
+        for (uint64_t rest = t.firsts & ~everything(x + 1); rest; rest &= t.firsts & (rest - 1)) {
             const unsigned y = lowest(rest);
-            rest &= rest - 1;
-            if (now->s.enemies[x] & now->s.members[y]) {
+            if (t.s.enemies[x] & t.s.members[y]) {
                 continue;
             }
-            *next = *now;
-            if (close_apart(&next->c, &next->s, al, x, y)) {
-                now->s.enemies[x] |= now->s.members[y];
-                now->s.enemies[y] |= now->s.members[x];
-            } else {
-                struct trial *const old = now;
-                now = next;
-                next = old;
-                settle(now);
-                rest &= now->firsts;
-            }
-            if (all_settled(now, v, n)) {
-                finish(now, al, v, out);
+            try_join(&t, al, x, y);
+            if (all_settled(&t, v, n)) {
+                finish(&t, al, v, out);
                 return;
             }
-            if (all_settled(now, w, n)) {
-                finish(now, al, w, out);
+            if (all_settled(&t, w, n)) {
+                finish(&t, al, w, out);
                 return;
             }
         }
     }
-    memcpy(out, now->c.map, n);
+    memcpy(out, t.c.map, n);
 }
 
 uint32_t baseline_separate(size_t n, const uint8_t *arities, size_t arities_len,

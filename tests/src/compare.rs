@@ -1,6 +1,8 @@
 //! The four C functions of a static library against the reference: the number
 //! that comes back and every lent byte, with guard bytes around each slice.
 
+use std::time::Instant;
+
 use outside_tests::algebras::{self, Named};
 use outside_tests::random::Rng;
 use outside_tests::reference::algebra::{reason, Algebra};
@@ -113,6 +115,8 @@ struct Comparison<'a> {
     library: Library,
     reference: Reference<Plain>,
     suite: &'a mut Suite,
+    reducible: u32,
+    irreducible: u32,
 }
 
 impl Comparison<'_> {
@@ -171,7 +175,20 @@ impl Comparison<'_> {
     fn decompose(&mut self, algebra: &Algebra) {
         let n = algebra.n;
         let length = self.length((n - 1) * n);
-        self.of(algebra, Question::Decompose, length);
+        let answer = self.of(algebra, Question::Decompose, length);
+        match answer.number & 255 {
+            0 => self.reducible += 1,
+            11 => self.irreducible += 1,
+            _ => {}
+        }
+    }
+
+    /// Decompose must have met both kinds of algebras.
+    fn check_kinds(&mut self) {
+        let (reducible, irreducible) = (self.reducible, self.irreducible);
+        self.suite.check(reducible.min(irreducible) * 10 >= reducible.max(irreducible), || {
+            format!("  too few of a kind: {reducible} reducible, {irreducible} irreducible")
+        });
     }
 
     fn each(&mut self, algebra: &Algebra, times: usize) {
@@ -277,7 +294,7 @@ fn document_refusals(library: Library, suite: &mut Suite) {
 
 /// Ways to make a good call bad; several may come together.
 fn damage(call: &mut Call, rng: &mut Rng) {
-    match rng.below(16) {
+    match rng.below(17) {
         0 => call.n = *rng.pick(&[0, 65, 66, 127, 128, 255, 256, 260, 1 << 16, 1 << 32, usize::MAX]),
         1 => call.n = call.n.wrapping_add(1 << rng.within(8, 63)),
         2 => call.arities = (0..rng.within(17, 40)).map(|_| rng.below(4) as u8).collect(),
@@ -287,6 +304,10 @@ fn damage(call: &mut Call, rng: &mut Rng) {
             call.arities[i] = rng.byte();
         }
         5 => call.arities.push(rng.below(4) as u8),
+        13 => {
+            call.n = rng.within(32, 64);
+            call.arities = vec![*rng.pick(&[2, 3]); rng.clone().within(1, 16)];
+        }
         6 => {
             call.cells.pop();
         }
@@ -417,10 +438,27 @@ fn small_stack(library: Library, suite: &mut Suite) {
     }
 }
 
-pub fn suites(run: &mut Run, library: Library) {
+/// Decompose of any accepted algebra takes less than a second.
+fn within_a_second(library: Library, suite: &mut Suite) {
+    let mut list = algebras::workloads(&mut suite.rng);
+    for _ in 0..60 {
+        list.push(algebras::any(64, 32_768, &mut suite.rng));
+    }
+    for one in list {
+        let Algebra { n, arities, cells } = one.algebra.clone();
+        let call = Call { n, arities, cells, question: Question::Decompose, lent: vec![0; n * n] };
+        let begin = Instant::now();
+        ask(&library, &call, &mut suite.rng);
+        let taken = begin.elapsed();
+        suite.check(taken.as_secs_f64() < 1.0, || format!("  {}: {taken:?}, {:?}", one.name, one.algebra));
+    }
+}
+
+/// All suites of one library. `share` divides the number of random cases.
+pub fn suites(run: &mut Run, library: Library, share: usize) {
     let name = |part: &str| format!("{}: {part}", library.name);
     fn with<'a>(library: Library, suite: &'a mut Suite) -> Comparison<'a> {
-        Comparison { library, reference: Reference::default(), suite }
+        Comparison { library, reference: Reference::default(), suite, reducible: 0, irreducible: 0 }
     }
     run.suite(&name("document 01's examples"), |s| document_examples(library, s));
     run.suite(&name("document 01's refusals and edges"), |s| document_refusals(library, s));
@@ -433,33 +471,36 @@ pub fn suites(run: &mut Run, library: Library) {
     });
     run.suite(&name("random algebras, n to 6"), |s| {
         let mut comparison = with(library, s);
-        for _ in 0..4000 {
+        for _ in 0..20_000 / share {
             let one = algebras::any(6, 300, &mut comparison.suite.rng);
             comparison.each(&one.algebra, 4);
             if comparison.suite.is_over() {
                 break;
             }
         }
+        comparison.check_kinds();
     });
     run.suite(&name("random algebras, n to 20"), |s| {
         let mut comparison = with(library, s);
-        for _ in 0..500 {
+        for _ in 0..2400 / share {
             let one = algebras::any(20, 8000, &mut comparison.suite.rng);
             comparison.each(&one.algebra, 6);
             if comparison.suite.is_over() {
                 break;
             }
         }
+        comparison.check_kinds();
     });
     run.suite(&name("random algebras, n to 64"), |s| {
         let mut comparison = with(library, s);
-        for _ in 0..60 {
+        for _ in 0..300 / share {
             let one = algebras::any(64, 9000, &mut comparison.suite.rng);
             comparison.each(&one.algebra, 8);
             if comparison.suite.is_over() {
                 break;
             }
         }
+        comparison.check_kinds();
     });
     run.suite(&name("full-size algebras"), |s| {
         let list = algebras::workloads(&mut s.rng);
@@ -470,7 +511,7 @@ pub fn suites(run: &mut Run, library: Library) {
     });
     run.suite(&name("every pair and every short map, n to 4"), |s| {
         let mut comparison = with(library, s);
-        for round in 0..60 {
+        for round in 0..300 {
             let one = algebras::any(4, 100, &mut comparison.suite.rng);
             let n = one.algebra.n;
             for v in 0..n + 2 {
@@ -480,7 +521,7 @@ pub fn suites(run: &mut Run, library: Library) {
                 }
             }
             // Every list of bytes up to n + 1 long, most of them no maps.
-            for length in (0..=n + 1).take(if round < 12 { 6 } else { 3 }) {
+            for length in (0..=n + 1).take(if round < 60 { 6 } else { 3 }) {
                 for code in 0..(n + 1).pow(length as u32) {
                     let map = (0..length).map(|i| (code / (n + 1).pow(i as u32) % (n + 1)) as u8);
                     comparison.of(&one.algebra, Question::Contained(map.collect()), n);
@@ -490,7 +531,7 @@ pub fn suites(run: &mut Run, library: Library) {
     });
     run.suite(&name("every length of the output"), |s| {
         let mut comparison = with(library, s);
-        for _ in 0..25 {
+        for _ in 0..200 {
             let one = algebras::any(7, 300, &mut comparison.suite.rng);
             let n = one.algebra.n;
             for length in 0..n * n + 3 {
@@ -505,7 +546,7 @@ pub fn suites(run: &mut Run, library: Library) {
     run.suite(&name("bad input"), |s| {
         let mut comparison = with(library, s);
         let mut refused = [0u32; 256];
-        for _ in 0..60_000 {
+        for _ in 0..300_000 / share {
             let rng = &mut comparison.suite.rng;
             let mut call = good_call(rng, 5);
             for _ in 0..rng.within(1, 3) {
@@ -535,10 +576,10 @@ pub fn suites(run: &mut Run, library: Library) {
     });
     run.suite(&name("demand 3"), |s| {
         let mut list = algebras::structured(16, &mut s.rng);
-        for _ in 0..600 {
+        for _ in 0..4000 / share {
             list.push(algebras::any(8, 600, &mut s.rng));
         }
-        for _ in 0..25 {
+        for _ in 0..100 / share {
             list.push(algebras::any(40, 5000, &mut s.rng));
         }
         for one in list {
@@ -550,11 +591,12 @@ pub fn suites(run: &mut Run, library: Library) {
         }
     });
     run.suite(&name("demand 3, full-size algebras"), |s| {
-        for one in algebras::workloads(&mut s.rng) {
+        for one in algebras::workloads(&mut s.rng).into_iter().step_by(share) {
             demand_three(library, s, &one);
         }
     });
     run.suite(&name("a stack of 256 KiB"), |s| small_stack(library, s));
+    run.suite(&name("a second for Decompose"), |s| within_a_second(library, s));
     run.suite(&name("merges are n minus the blocks"), |s| {
         for _ in 0..3000 {
             let mut call = good_call(&mut s.rng, 12);

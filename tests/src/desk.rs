@@ -47,14 +47,14 @@ pub fn suites(run: &mut Run, program: &str) {
         }
     });
     run.suite("desk: valid texts", |s| {
-        for _ in 0..600 {
+        for _ in 0..1500 {
             let text = texts::valid(8, 300, &mut s.rng);
             compare(s, program, &text);
             if s.is_over() {
                 break;
             }
         }
-        for _ in 0..40 {
+        for _ in 0..80 {
             let text = texts::valid(64, 8000, &mut s.rng);
             compare(s, program, &text);
         }
@@ -77,7 +77,7 @@ pub fn suites(run: &mut Run, program: &str) {
         }
     });
     run.suite("desk: damaged texts", |s| {
-        for _ in 0..3000 {
+        for _ in 0..8000 {
             let mut text = texts::valid(6, 100, &mut s.rng);
             for _ in 0..s.rng.within(1, 2) {
                 text = texts::damaged(&text, &mut s.rng);

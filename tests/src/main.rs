@@ -1,9 +1,10 @@
 //! Runs the comparisons.
 //!
-//!   outside-tests [--seed N] [--only PART] [--desk PATH] [--require NAME,NAME]
+//!   outside-tests [--seed N] [--only PART] [--desk PATH] [--require NAME,NAME] [--stop]
 //!
 //! What is not linked, or not given, is left out: `baseline`, `worksheet`,
-//! `probe`, `desk`. With --require a part that is left out is a failure.
+//! `probe`, `desk`. With --require a part that is left out is a failure. With
+//! --stop the first suite that fails is the last one.
 
 mod compare;
 mod desk;
@@ -19,12 +20,18 @@ struct Options {
     only: Option<String>,
     desk: Option<String>,
     required: Vec<String>,
+    stop: bool,
 }
 
 fn options() -> Result<Options, String> {
-    let mut options = Options { seed: 20_250_101, only: None, desk: None, required: Vec::new() };
+    let mut options =
+        Options { seed: 20_250_101, only: None, desk: None, required: Vec::new(), stop: false };
     let mut words = std::env::args().skip(1);
     while let Some(word) = words.next() {
+        if word == "--stop" {
+            options.stop = true;
+            continue;
+        }
         let value = words.next().ok_or(format!("{word} needs a value"))?;
         match word.as_str() {
             "--seed" => options.seed = value.parse().map_err(|_| format!("no number: {value}"))?,
@@ -43,11 +50,13 @@ fn main() {
         std::process::exit(2);
     });
     let required = |name: &str| options.required.iter().any(|r| r == name);
-    let mut run = Run::new(options.seed, options.only.clone());
+    let mut run = Run::new(options.seed, options.only.clone(), options.stop);
     self_check::suites(&mut run);
-    for (name, library) in [("baseline", ffi::baseline()), ("worksheet", ffi::worksheet())] {
+    for (name, library, share) in
+        [("baseline", ffi::baseline(), 4), ("worksheet", ffi::worksheet(), 1)]
+    {
         match library {
-            Some(library) => compare::suites(&mut run, library),
+            Some(library) => compare::suites(&mut run, library, share),
             None => run.left_out(name, "not linked", required(name)),
         }
     }

@@ -1,9 +1,7 @@
 //! The services that only the probe makes callable (tests/PROBE.md).
 
-use outside_tests::report::Run;
-
 #[cfg(not(have_probe))]
-pub fn suites(_run: &mut Run) -> bool {
+pub fn suites(_run: &mut outside_tests::report::Run) -> bool {
     false
 }
 
@@ -23,8 +21,8 @@ mod linked {
     use outside_tests::reference::Engine;
     use outside_tests::report::{Run, Suite};
 
-    use crate::compare::Guarded;
-    use crate::ffi::probe;
+    use crate::compare::{ask, Call, Guarded, Question};
+    use crate::ffi::{probe, worksheet, Library};
 
     /// A map, sometimes damaged into none.
     fn some_map(n: usize, rng: &mut Rng) -> Vec<u8> {
@@ -163,7 +161,10 @@ mod linked {
                 let i = rng.below(a.cells.len());
                 a.cells[i] = rng.byte();
             }
-            6 => a.arities = vec![3; 16],
+            6 => {
+                a.n = 64;
+                a.arities = vec![3];
+            }
             _ => {}
         }
         a
@@ -172,7 +173,7 @@ mod linked {
     fn quotients(s: &mut Suite) {
         let mut reference = Reference::<Plain>::default();
         let mut seen = [0u32; 256];
-        for round in 0..6000 {
+        for round in 0..20_000 {
             let (limit, cells) = if round % 100 == 0 { (64, 6000) } else { (7, 400) };
             let a = some_algebra(limit, cells, &mut s.rng);
             let mut given = some_map(a.n, &mut s.rng);
@@ -218,7 +219,7 @@ mod linked {
     fn certificates(s: &mut Suite) {
         let mut reference = Reference::<Plain>::default();
         let mut seen = [0u32; 3];
-        for round in 0..6000 {
+        for round in 0..20_000 {
             let (limit, cells) = if round % 100 == 0 { (40, 3000) } else { (6, 300) };
             let a = some_algebra(limit, cells, &mut s.rng);
             let n = a.n;
@@ -329,7 +330,7 @@ mod linked {
     fn sequences(s: &mut Suite) {
         let mut reference = Reference::<Plain>::default();
         let mut seen = [0u32; 256];
-        for round in 0..700 {
+        for round in 0..4000 {
             let limit = if round % 30 == 0 { 64 } else { 6 };
             let n = s.rng.within(1, limit);
             let (_, mut now) = bench::start(n);
@@ -375,7 +376,7 @@ mod linked {
                 break;
             }
         }
-        for number in [0, 1, 2, 3, 5, 6, 7, 8, 13] {
+        for number in [0, 1, 2, 3, 4, 5, 6, 7, 8, 13] {
             s.check(seen[number] > 0, || format!("  no case with reason {number}"));
         }
     }
@@ -453,6 +454,46 @@ mod linked {
         }
     }
 
+    /// Demand 3 through the product's own calls: Decompose; Quotient by each
+    /// factor as listed; Decompose on what that gave, which must be refusal 11.
+    fn demand_three(s: &mut Suite, library: Library) {
+        let mut list = algebras::structured(16, &mut s.rng);
+        list.extend(algebras::workloads(&mut s.rng));
+        for _ in 0..3000 {
+            list.push(algebras::any(10, 1000, &mut s.rng));
+        }
+        for one in list {
+            let Algebra { n, arities, cells } = one.algebra.clone();
+            let decompose = |n: usize, cells: &[u8], rng: &mut Rng| {
+                let lent = rng.bytes((n - 1) * n);
+                let (arities, cells) = (arities.clone(), cells.to_vec());
+                ask(&library, &Call { n, arities, cells, question: Question::Decompose, lent }, rng)
+            };
+            let (answer, untouched) = decompose(n, &cells, &mut s.rng);
+            let [reason, count, _, _] = answer.number.to_le_bytes();
+            s.check(untouched && (reason == 0 || reason == 11), || format!("  {}: {answer:?}", one.name));
+            for i in 0..count as usize {
+                let factor = &answer.lent[i * n..(i + 1) * n];
+                let mut tables = vec![0; cells.len()];
+                let number = unsafe {
+                    probe::probe_quotient(
+                        n, arities.as_ptr(), arities.len(), cells.as_ptr(), cells.len(),
+                        factor.as_ptr(), n, tables.as_mut_ptr(), tables.len(),
+                    )
+                };
+                let b = number as usize / 256;
+                tables.truncate(arities.iter().map(|&k| b.pow(k as u32)).sum());
+                let (again, untouched) = decompose(b, &tables, &mut s.rng);
+                s.check(number & 255 == 0 && again.number & 255 == 11 && untouched, || {
+                    format!("  {} {:?}\n  factor {factor:?}: quotient {number}, then {again:?}", one.name, one.algebra)
+                });
+            }
+            if s.is_over() {
+                break;
+            }
+        }
+    }
+
     pub fn suites(run: &mut Run) -> bool {
         run.suite("probe: document 01's values", documents);
         run.suite("probe: meet", |s| two_maps(s, probe::probe_meet, false));
@@ -463,6 +504,9 @@ mod linked {
         run.suite("probe: certify", certificates);
         run.suite("probe: bench start", starts);
         run.suite("probe: bench add and clear", sequences);
+        if let Some(library) = worksheet() {
+            run.suite("probe: demand 3 through the product's own calls", |s| demand_three(s, library));
+        }
         true
     }
 }

@@ -42,20 +42,25 @@ impl Suite {
 pub struct Run {
     seed: u64,
     only: Option<String>,
+    stop: bool,
     passed: u32,
     failed: u32,
     cases: u64,
 }
 
 impl Run {
-    pub fn new(seed: u64, only: Option<String>) -> Run {
+    /// `only` names a part of the suites' names; with `stop` the first failure is the last suite.
+    pub fn new(seed: u64, only: Option<String>, stop: bool) -> Run {
         println!("seed {seed}");
-        Run { seed, only, passed: 0, failed: 0, cases: 0 }
+        Run { seed, only, stop, passed: 0, failed: 0, cases: 0 }
     }
 
     /// Runs a suite, with a seed of its own made from the run's and its name.
     pub fn suite(&mut self, name: &str, body: impl FnOnce(&mut Suite)) {
         if self.only.as_ref().is_some_and(|part| !name.contains(part.as_str())) {
+            return;
+        }
+        if self.stop && self.failed > 0 {
             return;
         }
         let seed = name

@@ -164,8 +164,8 @@ fn many(s: &mut Suite, limit: usize, cells: usize, times: usize) {
 pub fn suites(run: &mut Run) {
     run.suite("reference: document 01's examples, by brute force", examples::<Brute>);
     run.suite("reference: document 01's examples, plain", examples::<Plain>);
-    run.suite("reference: brute force and plain agree, n to 5", |s| many(s, 5, 300, 500));
-    run.suite("reference: brute force and plain agree, n to 6", |s| many(s, 6, 80, 60));
+    run.suite("reference: brute force and plain agree, n to 5", |s| many(s, 5, 300, 6000));
+    run.suite("reference: brute force and plain agree, n to 6", |s| many(s, 6, 250, 1000));
     run.suite("reference: pair places", |s| {
         let mut next = 0;
         for (x, y) in map::pairs(64) {

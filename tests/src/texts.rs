@@ -139,7 +139,11 @@ pub fn known() -> Vec<(Vec<u8>, Vec<u8>)> {
     // Bytes from 128 on.
     known.push((b"[size 4]\n[decompos\xE9]\n".to_vec(), b"[refused 14]\n".to_vec()));
     known.push((b"[size \xB2]\n".to_vec(), b"[refused 14]\n".to_vec()));
-    // The limit: 65,536 bytes are read, one more is too much.
+    // The limit: 65,536 bytes are read, one more is too much, whatever the lines say.
+    for length in 65_530..65_545 {
+        let (text, answer) = many_lines(length);
+        known.push((text, if length > 65_536 { b"[refused 14]\n".to_vec() } else { answer }));
+    }
     known.extend([65_535, 65_536, 65_537].map(|length| {
         let text = of_length(length);
         let answer = if length > 65_536 {
@@ -172,6 +176,22 @@ pub fn of_length(length: usize) -> Vec<u8> {
     );
     assert_eq!(text.len(), length);
     text.into_bytes()
+}
+
+/// A text of this length with many requests, and its answer below the limit.
+fn many_lines(length: usize) -> (Vec<u8>, Vec<u8>) {
+    let requests = 3000;
+    let mut text = "[size 4]\n".to_string();
+    if length % 2 == 0 {
+        // The lengths of all other lines add up to an odd number.
+        text += "[op 0 3]\n";
+    }
+    text += &"[separate 1 1]\n".repeat(requests);
+    let rest = length - text.len() - "[contained]\n".len();
+    text += &format!("[contained{}]\n", " 0".repeat(rest / 2));
+    assert_eq!(text.len(), length);
+    let answer = "[refused 10]\n".repeat(requests) + "[refused 8]\n";
+    (text.into_bytes(), answer.into_bytes())
 }
 
 /// As `of_length`, filled up by unary operation lines of 17 bytes.

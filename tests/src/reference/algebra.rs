@@ -46,20 +46,24 @@ impl Algebra {
         list
     }
 
-    /// Calls `f` with (table, place of x = 0, distance of neighbouring x) of each
-    /// translation: an operation with all arguments but one fixed.
-    pub fn translations<'a>(&'a self, mut f: impl FnMut(&'a [u8], usize, usize)) {
+    /// Each translation, an operation with all arguments but one fixed, as the
+    /// place of x = 0 among the cells and the distance of neighbouring x.
+    pub fn translations(&self) -> Vec<(usize, usize)> {
         let n = self.n;
+        let mut list = Vec::new();
+        let mut at = 0;
         for (s, table) in self.operations() {
             for varied in 0..s {
                 let step = n.pow((s - 1 - varied) as u32);
                 for place in 0..table.len() {
                     if place / step % n == 0 {
-                        f(table, place, step);
+                        list.push((at + place, step));
                     }
                 }
             }
+            at += table.len();
         }
+        list
     }
 
     /// The definition: replacing one argument by an equivalent element always

@@ -11,6 +11,7 @@ use super::Engine;
 
 pub struct Plain {
     algebra: Algebra,
+    translations: Vec<(usize, usize)>,
     /// The principal congruence of each pair, in the order of pairs.
     principal: OnceCell<Vec<Map>>,
 }
@@ -30,25 +31,26 @@ fn merge(map: &mut [u8], x: usize, y: usize) -> bool {
     true
 }
 
-/// Merges through all translations, again and again until nothing changes.
-fn close(algebra: &Algebra, map: &mut [u8]) {
-    let mut changed = true;
-    while changed && blocks(map) > 1 {
-        changed = false;
-        algebra.translations(|table, base, step| {
-            for x in 0..algebra.n {
-                let first = map[x] as usize;
-                if first != x {
-                    let p = table[base + first * step] as usize;
-                    let q = table[base + x * step] as usize;
-                    changed |= merge(map, p, q);
+impl Plain {
+    /// Merges through all translations, again and again until nothing changes.
+    fn close(&self, map: &mut [u8]) {
+        let cells = &self.algebra.cells;
+        let mut changed = true;
+        while changed && blocks(map) > 1 {
+            changed = false;
+            for &(base, step) in &self.translations {
+                for x in 0..map.len() {
+                    let first = map[x] as usize;
+                    if first != x {
+                        let p = cells[base + first * step] as usize;
+                        let q = cells[base + x * step] as usize;
+                        changed |= merge(map, p, q);
+                    }
                 }
             }
-        });
+        }
     }
-}
 
-impl Plain {
     fn principal(&self) -> &[Map] {
         self.principal
             .get_or_init(|| pairs(self.algebra.n).map(|pair| self.least(&[pair])).collect())
@@ -61,7 +63,11 @@ impl Plain {
 
 impl Engine for Plain {
     fn new(algebra: &Algebra) -> Plain {
-        Plain { algebra: algebra.clone(), principal: OnceCell::new() }
+        Plain {
+            algebra: algebra.clone(),
+            translations: algebra.translations(),
+            principal: OnceCell::new(),
+        }
     }
 
     fn least(&self, pairs: &[(usize, usize)]) -> Map {
@@ -69,7 +75,7 @@ impl Engine for Plain {
         for &(x, y) in pairs {
             merge(&mut map, x, y);
         }
-        close(&self.algebra, &mut map);
+        self.close(&mut map);
         map
     }
 
@@ -107,15 +113,14 @@ impl Engine for Plain {
     }
 
     fn respects(&self, map: &[u8]) -> bool {
-        let mut good = true;
-        self.algebra.translations(|table, base, step| {
-            for x in 0..self.algebra.n {
-                let p = table[base + x * step] as usize;
-                let q = table[base + map[x] as usize * step] as usize;
-                good &= holds(map, p, q);
-            }
-        });
-        good
+        let cells = &self.algebra.cells;
+        self.translations.iter().all(|&(base, step)| {
+            (0..map.len()).all(|x| {
+                let p = cells[base + x * step] as usize;
+                let q = cells[base + map[x] as usize * step] as usize;
+                holds(map, p, q)
+            })
+        })
     }
 
     /// The strictly larger congruences all hold a common new pair if the
