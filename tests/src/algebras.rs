@@ -90,22 +90,29 @@ pub fn atoms(k: usize) -> Algebra {
 pub fn pentagon() -> Algebra {
     let below = |x: usize, y: usize| x == y || x == 0 || y == 4 || (x, y) == (1, 2);
     let meet = move |a: &[usize]| {
-        (0..5).filter(|&z| below(z, a[0]) && below(z, a[1]))
-            .max_by_key(|&z| (0..5).filter(|&u| below(u, z)).count()).unwrap()
+        (0..5)
+            .filter(|&z| below(z, a[0]) && below(z, a[1]))
+            .max_by_key(|&z| (0..5).filter(|&u| below(u, z)).count())
+            .unwrap()
     };
     let join = move |a: &[usize]| {
-        (0..5).filter(|&z| below(a[0], z) && below(a[1], z))
-            .min_by_key(|&z| (0..5).filter(|&u| below(u, z)).count()).unwrap()
+        (0..5)
+            .filter(|&z| below(a[0], z) && below(a[1], z))
+            .min_by_key(|&z| (0..5).filter(|&u| below(u, z)).count())
+            .unwrap()
     };
     build(5, &[(2, &meet), (2, &join)])
 }
 
 pub fn median(n: usize) -> Algebra {
-    build(n, &[(3, &|a| {
-        let mut b = [a[0], a[1], a[2]];
-        b.sort();
-        b[1]
-    })])
+    build(
+        n,
+        &[(3, &|a| {
+            let mut b = [a[0], a[1], a[2]];
+            b.sort();
+            b[1]
+        })],
+    )
 }
 
 /// x - y + z.
@@ -166,8 +173,7 @@ pub fn lifted(n: usize, blocks: usize, arities: &[u8], rng: &mut Rng) -> Algebra
     let mut cells = Vec::new();
     for (s, table) in small.operations() {
         for place in 0..n.pow(s as u32) {
-            let given: Vec<usize> =
-                arguments_of(place, s, n).into_iter().map(|x| number[x]).collect();
+            let given: Vec<usize> = arguments_of(place, s, n).into_iter().map(|x| number[x]).collect();
             let block = table[place_of(&given, b)] as usize;
             let members: Vec<usize> = (0..n).filter(|&x| number[x] == block).collect();
             cells.push(*rng.pick(&members) as u8);
@@ -233,10 +239,10 @@ pub fn structured(limit: usize, rng: &mut Rng) -> Vec<Named> {
         list.push(named(format!("cycle of {n}"), build(n, &[(1, &|a| (a[0] + 1) % n)])));
         list.push(named(format!("counter to {n}"), build(n, &[(1, &|a| (a[0] + 1).min(n - 1))])));
         list.push(named(format!("tree of {n}"), build(n, &[(1, &|a| a[0] / 2)])));
-        list.push(named(format!("up and down on {n}"), build(n, &[
-            (1, &|a| (a[0] + 1).min(n - 1)),
-            (1, &|a| a[0].saturating_sub(1)),
-        ])));
+        list.push(named(
+            format!("up and down on {n}"),
+            build(n, &[(1, &|a| (a[0] + 1).min(n - 1)), (1, &|a| a[0].saturating_sub(1))]),
+        ));
         list.push(named(format!("minimum on {n}"), build(n, &[(2, &|a| a[0].min(a[1]))])));
         list.push(named(format!("null semigroup {n}"), build(n, &[(2, &|_| 0)])));
         list.push(named(format!("constants over {n}"), build(n, &[(0, &|_| n - 1), (0, &|_| 0)])));
@@ -276,10 +282,8 @@ pub fn structured(limit: usize, rng: &mut Rng) -> Vec<Named> {
             list.push(named(name, algebra));
         }
     }
-    let with_names: Vec<Named> = list
-        .iter()
-        .map(|one| named(format!("{}, renamed", one.name), renamed(&one.algebra, rng)))
-        .collect();
+    let with_names: Vec<Named> =
+        list.iter().map(|one| named(format!("{}, renamed", one.name), renamed(&one.algebra, rng))).collect();
     list.extend(with_names);
     list
 }

@@ -124,7 +124,9 @@ impl Comparison<'_> {
         let wanted = expected(&mut self.reference, call);
         let (answer, untouched) = ask(&self.library, call, &mut self.suite.rng);
         self.suite.check(answer == wanted && untouched, || {
-            format!("  {call:?}\n  found    {answer:?}\n  expected {wanted:?}\n  all else untouched: {untouched}")
+            format!(
+                "  {call:?}\n  found    {answer:?}\n  expected {wanted:?}\n  all else untouched: {untouched}"
+            )
         });
         answer
     }
@@ -335,7 +337,8 @@ fn damage(call: &mut Call, rng: &mut Rng) {
                 3 => *bytes = rng.bytes(rng.clone().below(70)),
                 _ if !bytes.is_empty() => {
                     let i = rng.below(bytes.len());
-                    bytes[i] = if rng.once_in(2) { rng.byte() } else { rng.below(call.n.clamp(1, 255)) as u8 };
+                    bytes[i] =
+                        if rng.once_in(2) { rng.byte() } else { rng.below(call.n.clamp(1, 255)) as u8 };
                 }
                 _ => {}
             },

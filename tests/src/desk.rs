@@ -1,7 +1,9 @@
 //! The desk program against the reference's transcript.
 
+use std::fs::File;
 use std::io::{Read, Write};
 use std::process::{Command, Stdio};
+use std::time::Duration;
 
 use outside_tests::algebras;
 use outside_tests::reference::desk::transcript;
@@ -9,8 +11,9 @@ use outside_tests::report::{Run, Suite};
 
 use crate::texts;
 
-/// Runs the program on an input: what it wrote, and whether it ended well.
-fn run_program(program: &str, input: &[u8]) -> (Vec<u8>, bool) {
+/// Runs the program on an input that comes in pieces of this length: what it
+/// wrote, and whether it ended well.
+fn run_in_pieces(program: &str, input: &[u8], piece: usize) -> (Vec<u8>, bool) {
     let mut child = Command::new(program)
         .stdin(Stdio::piped())
         .stdout(Stdio::piped())
@@ -22,7 +25,14 @@ fn run_program(program: &str, input: &[u8]) -> (Vec<u8>, bool) {
     std::thread::scope(|scope| {
         // A program may end before it has read all: its input is then closed.
         scope.spawn(move || {
-            let _ = stdin.write_all(input);
+            for part in input.chunks(piece) {
+                if stdin.write_all(part).is_err() {
+                    break;
+                }
+                if piece < input.len() {
+                    std::thread::sleep(Duration::from_micros(300));
+                }
+            }
         });
         stdout.read_to_end(&mut output).unwrap();
     });
@@ -34,7 +44,11 @@ fn compare(s: &mut Suite, program: &str, input: &[u8]) {
 }
 
 fn expect(s: &mut Suite, program: &str, input: &[u8], expected: &[u8]) {
-    let (found, ended_well) = run_program(program, input);
+    expect_in_pieces(s, program, input, expected, usize::MAX);
+}
+
+fn expect_in_pieces(s: &mut Suite, program: &str, input: &[u8], expected: &[u8], piece: usize) {
+    let (found, ended_well) = run_in_pieces(program, input, piece);
     s.check(found == expected && ended_well, || {
         format!("{}\n  ended well: {ended_well}", texts::difference(input, &found, expected))
     });
@@ -119,6 +133,23 @@ pub fn suites(run: &mut Run, program: &str) {
             compare(s, program, &vec![b'\n'; length]);
             let bytes = s.rng.bytes(length);
             compare(s, program, &bytes);
+        }
+    });
+    run.suite("desk: input in pieces, and none", |s| {
+        let worked = texts::worked();
+        for piece in [1, 7, 50] {
+            expect_in_pieces(s, program, &worked, &transcript(&worked), piece);
+        }
+        for length in [30_000, 65_536, 65_537, 70_001] {
+            let text = texts::of_length(length);
+            for piece in [997, 4096, 65_536] {
+                expect_in_pieces(s, program, &text, &transcript(&text), piece);
+            }
+        }
+        // Nothing to read, and a read that fails: a directory.
+        for input in [Stdio::null(), Stdio::from(File::open(".").unwrap())] {
+            let done = Command::new(program).stdin(input).output().unwrap();
+            s.same("no input", (done.stdout, done.status.success()), (b"[refused 14]\n".to_vec(), true));
         }
     });
     run.suite("desk: full-size answers", |s| {

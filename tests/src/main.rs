@@ -24,8 +24,7 @@ struct Options {
 }
 
 fn options() -> Result<Options, String> {
-    let mut options =
-        Options { seed: 20_250_101, only: None, desk: None, required: Vec::new(), stop: false };
+    let mut options = Options { seed: 20_250_101, only: None, desk: None, required: Vec::new(), stop: false };
     let mut words = std::env::args().skip(1);
     while let Some(word) = words.next() {
         if word == "--stop" {
@@ -52,9 +51,7 @@ fn main() {
     let required = |name: &str| options.required.iter().any(|r| r == name);
     let mut run = Run::new(options.seed, options.only.clone(), options.stop);
     self_check::suites(&mut run);
-    for (name, library, share) in
-        [("baseline", ffi::baseline(), 4), ("worksheet", ffi::worksheet(), 1)]
-    {
+    for (name, library, share) in [("baseline", ffi::baseline(), 4), ("worksheet", ffi::worksheet(), 1)] {
         match library {
             Some(library) => compare::suites(&mut run, library, share),
             None => run.left_out(name, "not linked", required(name)),

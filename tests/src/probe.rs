@@ -83,11 +83,8 @@ mod linked {
             let (a, b) = (some_map(n, &mut s.rng), some_map(n, &mut s.rng));
             let length = some_length(n.min(64), &mut s.rng);
             let lent = s.rng.bytes(length);
-            let wanted = if is_join {
-                reference.join(n, &a, &b, &lent)
-            } else {
-                reference.meet(n, &a, &b, &lent)
-            };
+            let wanted =
+                if is_join { reference.join(n, &a, &b, &lent) } else { reference.meet(n, &a, &b, &lent) };
             let (found, untouched) = of_maps(f, n, &a, &b, &lent, &mut s.rng);
             s.check(found == wanted && untouched, || {
                 format!("  n = {n}, {a:?}, {b:?}, lent {lent:?}\n  found    {found:?}\n  expected {wanted:?}\n  all else untouched: {untouched}")
@@ -100,11 +97,8 @@ mod linked {
         for a in brute::maps(4) {
             for b in brute::maps(4) {
                 let lent = [9; 5];
-                let wanted = if is_join {
-                    reference.join(4, &a, &b, &lent)
-                } else {
-                    reference.meet(4, &a, &b, &lent)
-                };
+                let wanted =
+                    if is_join { reference.join(4, &a, &b, &lent) } else { reference.meet(4, &a, &b, &lent) };
                 let found = of_maps(f, 4, &a, &b, &lent, &mut s.rng);
                 s.same("two maps", found, (wanted, true));
             }
@@ -124,12 +118,14 @@ mod linked {
             let (mut ga, mut gb) = (Guarded::new(&a, &mut s.rng), Guarded::new(&b, &mut s.rng));
             let mut out = Guarded::new(&lent, &mut s.rng);
             let (al, bl, ol) = (ga.len(), gb.len(), out.len());
-            let found = unsafe {
-                probe::probe_prefer(n, ga.pointer(), al, gb.pointer(), bl, out.pointer(), ol)
-            };
+            let found =
+                unsafe { probe::probe_prefer(n, ga.pointer(), al, gb.pointer(), bl, out.pointer(), ol) };
             let untouched = ga.is_intact() && gb.is_intact() && out.is_intact_around();
             s.check(found == length && out.content() == wanted && untouched, || {
-                format!("  n = {n}, {a:?}, {b:?}\n  found    {found} {:?}\n  expected {length} {wanted:?}", out.content())
+                format!(
+                    "  n = {n}, {a:?}, {b:?}\n  found    {found} {:?}\n  expected {length} {wanted:?}",
+                    out.content()
+                )
             });
             if s.is_over() {
                 break;
@@ -187,8 +183,7 @@ mod linked {
                 given = engine.least(&pairs);
             }
             let b = given.iter().enumerate().filter(|(x, &f)| *x == f as usize).count();
-            let wanted: usize =
-                a.arities.iter().take(16).map(|&k| b.pow(k.min(3) as u32)).sum();
+            let wanted: usize = a.arities.iter().take(16).map(|&k| b.pow(k.min(3) as u32)).sum();
             let length = some_length(wanted.min(40_000), &mut s.rng);
             let lent = s.rng.bytes(length);
             let expected = reference.quotient(a.n, &a.arities, &a.cells, &given, &lent);
@@ -198,11 +193,18 @@ mod linked {
             let (al, cl, ml, ol) = (ar.len(), ce.len(), mp.len(), out.len());
             let number = unsafe {
                 probe::probe_quotient(
-                    a.n, ar.pointer(), al, ce.pointer(), cl, mp.pointer(), ml, out.pointer(), ol,
+                    a.n,
+                    ar.pointer(),
+                    al,
+                    ce.pointer(),
+                    cl,
+                    mp.pointer(),
+                    ml,
+                    out.pointer(),
+                    ol,
                 )
             };
-            let untouched =
-                ar.is_intact() && ce.is_intact() && mp.is_intact() && out.is_intact_around();
+            let untouched = ar.is_intact() && ce.is_intact() && mp.is_intact() && out.is_intact_around();
             let found = Answer { number, lent: out.content() };
             s.check(found == expected && untouched, || {
                 format!("  {a:?}\n  map {given:?}, lent {lent:?}\n  found    {found:?}\n  expected {expected:?}\n  all else untouched: {untouched}")
@@ -228,16 +230,21 @@ mod linked {
                 Ok(yes) => 256 * yes as u32,
                 Err(refusal) => refusal,
             };
-            seen[match expected { 256 => 0, 0 => 1, _ => 2 }] += 1;
+            seen[match expected {
+                256 => 0,
+                0 => 1,
+                _ => 2,
+            }] += 1;
             let (mut ar, mut ce) = (Guarded::new(&a.arities, &mut s.rng), Guarded::new(&a.cells, &mut s.rng));
             let mut mp = Guarded::new(&maps, &mut s.rng);
             let (al, cl, ml) = (ar.len(), ce.len(), mp.len());
-            let found = unsafe {
-                probe::probe_certify(n, ar.pointer(), al, ce.pointer(), cl, mp.pointer(), ml)
-            };
+            let found =
+                unsafe { probe::probe_certify(n, ar.pointer(), al, ce.pointer(), cl, mp.pointer(), ml) };
             let untouched = ar.is_intact() && ce.is_intact() && mp.is_intact();
             s.check(found == expected && untouched, || {
-                format!("  {a:?}\n  maps {maps:?}\n  found {found}, expected {expected}, untouched {untouched}")
+                format!(
+                    "  {a:?}\n  maps {maps:?}\n  found {found}, expected {expected}, untouched {untouched}"
+                )
             });
             if s.is_over() {
                 break;
@@ -313,7 +320,11 @@ mod linked {
         let wanted = image(&expected.1);
         let good = number == expected.0 && guarded.content() == wanted && guarded.is_intact_around();
         s.check(good, || {
-            format!("  {what}\n  found    {number} {:?}\n  expected {} {wanted:?}", guarded.content(), expected.0)
+            format!(
+                "  {what}\n  found    {number} {:?}\n  expected {} {wanted:?}",
+                guarded.content(),
+                expected.0
+            )
         });
     }
 
@@ -358,11 +369,21 @@ mod linked {
                     }
                     let (x, y) = (s.rng.below(n + s.rng.clone().below(2)), s.rng.below(n));
                     what = format!("add {x} {y} to {sheet}, {a:?}, of {now:?}");
-                    let (mut ar, mut ce) = (Guarded::new(&a.arities, &mut s.rng), Guarded::new(&a.cells, &mut s.rng));
+                    let (mut ar, mut ce) =
+                        (Guarded::new(&a.arities, &mut s.rng), Guarded::new(&a.cells, &mut s.rng));
                     let (al, cl) = (ar.len(), ce.len());
                     number = unsafe {
                         probe::probe_bench_add(
-                            out.pointer(), IMAGE, a.n, ar.pointer(), al, ce.pointer(), cl, sheet, x, y,
+                            out.pointer(),
+                            IMAGE,
+                            a.n,
+                            ar.pointer(),
+                            al,
+                            ce.pointer(),
+                            cl,
+                            sheet,
+                            x,
+                            y,
                         )
                     };
                     s.check(ar.is_intact() && ce.is_intact(), || format!("  {what}: tables changed"));
@@ -412,7 +433,16 @@ mod linked {
             let mut out = Guarded::new(&image(&full), &mut s.rng);
             let found = unsafe {
                 probe::probe_bench_add(
-                    out.pointer(), IMAGE, 2, std::ptr::null(), 0, std::ptr::null(), 0, 5, x, 1,
+                    out.pointer(),
+                    IMAGE,
+                    2,
+                    std::ptr::null(),
+                    0,
+                    std::ptr::null(),
+                    0,
+                    5,
+                    x,
+                    1,
                 )
             };
             let mut after = full.clone();
@@ -427,7 +457,15 @@ mod linked {
             let mut out = vec![7u8; 14];
             let found = unsafe {
                 probe::probe_quotient(
-                    4, [1u8].as_ptr(), 1, u.as_ptr(), 4, given.as_ptr(), 4, out.as_mut_ptr(), length,
+                    4,
+                    [1u8].as_ptr(),
+                    1,
+                    u.as_ptr(),
+                    4,
+                    given.as_ptr(),
+                    4,
+                    out.as_mut_ptr(),
+                    length,
                 )
             };
             s.same("cells 1 0 3 2, map 0 1 0 3", (found, out), (number, vec![7; 14]));
@@ -435,7 +473,15 @@ mod linked {
         let mut out = vec![7u8; 4];
         let found = unsafe {
             probe::probe_quotient(
-                4, [1u8].as_ptr(), 1, u.as_ptr(), 4, [0u8, 1, 0, 1].as_ptr(), 4, out.as_mut_ptr(), 4,
+                4,
+                [1u8].as_ptr(),
+                1,
+                u.as_ptr(),
+                4,
+                [0u8, 1, 0, 1].as_ptr(),
+                4,
+                out.as_mut_ptr(),
+                4,
             )
         };
         s.same("quotient by 0 1 0 1", (found, out), (512, vec![1, 0, 7, 7]));
@@ -477,15 +523,25 @@ mod linked {
                 let mut tables = vec![0; cells.len()];
                 let number = unsafe {
                     probe::probe_quotient(
-                        n, arities.as_ptr(), arities.len(), cells.as_ptr(), cells.len(),
-                        factor.as_ptr(), n, tables.as_mut_ptr(), tables.len(),
+                        n,
+                        arities.as_ptr(),
+                        arities.len(),
+                        cells.as_ptr(),
+                        cells.len(),
+                        factor.as_ptr(),
+                        n,
+                        tables.as_mut_ptr(),
+                        tables.len(),
                     )
                 };
                 let b = number as usize / 256;
                 tables.truncate(arities.iter().map(|&k| b.pow(k as u32)).sum());
                 let (again, untouched) = decompose(b, &tables, &mut s.rng);
                 s.check(number & 255 == 0 && again.number & 255 == 11 && untouched, || {
-                    format!("  {} {:?}\n  factor {factor:?}: quotient {number}, then {again:?}", one.name, one.algebra)
+                    format!(
+                        "  {} {:?}\n  factor {factor:?}: quotient {number}, then {again:?}",
+                        one.name, one.algebra
+                    )
                 });
             }
             if s.is_over() {

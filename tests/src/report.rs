@@ -63,9 +63,7 @@ impl Run {
         if self.stop && self.failed > 0 {
             return;
         }
-        let seed = name
-            .bytes()
-            .fold(self.seed, |hash, b| (hash ^ b as u64).wrapping_mul(0x0100_0000_01B3));
+        let seed = name.bytes().fold(self.seed, |hash, b| (hash ^ b as u64).wrapping_mul(0x0100_0000_01B3));
         let mut suite = Suite { rng: Rng::new(seed), cases: 0, mismatches: 0 };
         let begin = Instant::now();
         let ended = catch_unwind(AssertUnwindSafe(|| body(&mut suite))).is_ok();

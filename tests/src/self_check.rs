@@ -20,7 +20,11 @@ fn examples<E: Engine>(s: &mut Suite) {
     let r = &mut Reference::<E>::default();
     let (u, c, one): (&[u8], &[u8], &[u8]) = (&[1, 0, 3, 2], &[1, 2, 3, 0], &[1]);
     let lent = [7u8; 14];
-    let show = |s: &mut Suite, what: &str, answer: outside_tests::reference::service::Answer, number: u32, written: &[u8]| {
+    let show = |s: &mut Suite,
+                what: &str,
+                answer: outside_tests::reference::service::Answer,
+                number: u32,
+                written: &[u8]| {
         let mut after = lent.to_vec();
         after[..written.len()].copy_from_slice(written);
         s.same(what, (answer.number, answer.lent), (number, after));

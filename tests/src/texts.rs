@@ -5,7 +5,8 @@ use outside_tests::algebras;
 use outside_tests::random::Rng;
 use outside_tests::reference::algebra::Algebra;
 
-const WORKED: &str = "[size 4]\n[op 1 [1 0 3 2]]\n[generate [0 2]]\n[contained 0 0 0 3]\n[separate 0 2]\n[decompose]\n";
+const WORKED: &str =
+    "[size 4]\n[op 1 [1 0 3 2]]\n[generate [0 2]]\n[contained 0 0 0 3]\n[separate 0 2]\n[decompose]\n";
 const WORKED_ANSWER: &str =
     "[generated 2 [0 1 0 1]]\n[map 0 0 2 3]\n[map 0 0 2 2]\n[factors [0 1 0 1] [0 0 2 2]]\n";
 
@@ -45,12 +46,45 @@ pub fn known() -> Vec<(Vec<u8>, Vec<u8>)> {
     add("[size 4]\n[op 1 [1 2 3 0]]\n[decompose]\n", "[refused 11 0 2]\n");
     add("[size 3]\n[op 2 [[0 0 0] [0 1 1] [0 1 2]]]\n[decompose]\n", "[factors [0 1 1] [0 0 2]]\n");
     for bad in [
-        "[size 4]\r\n", " [size 4]\n", "[size 4] \n", "[size  4]\n", "[ size 4]\n", "[size 4 ]\n", "[Size 4]\n",
-        "[size\t4]\n", "[size 04]\n", "[size +4]\n", "[size 256]\n", "[size 4][size 4]\n", "[size 4] [op 0 0]\n",
-        "size 4\n", "[size]\n", "[size ]\n", "[size 4 4]\n", "[size [4]]\n", "[]\n", "[\n", "]\n", "[sizes 4]\n",
-        "[siz 4]\n", "[size 4]]\n", "[[size 4]]\n", "[size four]\n", "[size 4a]\n", "[size 65]", "[size 0]",
-        "[op 1 [0]]\n", "[op 4 ", "[generate]\n", "[decompose]\n", "\0\n", "[size 4]\0\n", "[size 1000]\n",
-        "[size 18446744073709551620]\n", "[size -1]\n", "[size 4\n]\n",
+        "[size 4]\r\n",
+        " [size 4]\n",
+        "[size 4] \n",
+        "[size  4]\n",
+        "[ size 4]\n",
+        "[size 4 ]\n",
+        "[Size 4]\n",
+        "[size\t4]\n",
+        "[size 04]\n",
+        "[size +4]\n",
+        "[size 256]\n",
+        "[size 4][size 4]\n",
+        "[size 4] [op 0 0]\n",
+        "size 4\n",
+        "[size]\n",
+        "[size ]\n",
+        "[size 4 4]\n",
+        "[size [4]]\n",
+        "[]\n",
+        "[\n",
+        "]\n",
+        "[sizes 4]\n",
+        "[siz 4]\n",
+        "[size 4]]\n",
+        "[[size 4]]\n",
+        "[size four]\n",
+        "[size 4a]\n",
+        "[size 65]",
+        "[size 0]",
+        "[op 1 [0]]\n",
+        "[op 4 ",
+        "[generate]\n",
+        "[decompose]\n",
+        "\0\n",
+        "[size 4]\0\n",
+        "[size 1000]\n",
+        "[size 18446744073709551620]\n",
+        "[size -1]\n",
+        "[size 4\n]\n",
     ] {
         add(bad, "[refused 14]\n");
     }
@@ -113,22 +147,67 @@ pub fn known() -> Vec<(Vec<u8>, Vec<u8>)> {
     add("[size 4]\n[generate [0 1] [1 0] [2 2]]\n", "[generated 1 [0 0 2 3]]\n");
     add("[size 4]\n[generate [3 1] [0 0]]\n", "[generated 1 [0 1 2 1]]\n");
     for bad in [
-        "[generate ]", "[generate []]", "[generate 0 1]", "[generate [0 1]", "[generate [0 1] ]", "[generate [0 1 2]]",
-        "[generate [0]]", "[generate[0 1]]", "[generate [0 1][1 2]]", "[generate [0 1]  [1 2]]", "[generate [256 0]]",
-        "[generate [9 0] [0]]", "[generate [[0 1]]]", "[generate [0 01]]", "[generated]", "[Generate]", "[generate [0,1]]",
-        "[generate [0 1 ]]", "[generate [ 0 1]]", "[contained ]", "[contained [0 1 2 3]]", "[contained 0 1 2 3 ]",
-        "[contained 0 1 2 256]", "[contained 0  1 2 3]", "[contains 0 1 2 3]", "[separate]", "[separate 1]",
-        "[separate 1 2 3]", "[separate [1 2]]", "[separate 1 256]", "[separate 1 2 ]", "[decompose ]", "[decompose 1]",
-        "[decompose]]", "[decompose] [decompose]", "decompose", "[meet]", "[quit]", "[op]", "[op 1]", "[]", "[[decompose]]", "#",
+        "[generate ]",
+        "[generate []]",
+        "[generate 0 1]",
+        "[generate [0 1]",
+        "[generate [0 1] ]",
+        "[generate [0 1 2]]",
+        "[generate [0]]",
+        "[generate[0 1]]",
+        "[generate [0 1][1 2]]",
+        "[generate [0 1]  [1 2]]",
+        "[generate [256 0]]",
+        "[generate [9 0] [0]]",
+        "[generate [[0 1]]]",
+        "[generate [0 01]]",
+        "[generated]",
+        "[Generate]",
+        "[generate [0,1]]",
+        "[generate [0 1 ]]",
+        "[generate [ 0 1]]",
+        "[contained ]",
+        "[contained [0 1 2 3]]",
+        "[contained 0 1 2 3 ]",
+        "[contained 0 1 2 256]",
+        "[contained 0  1 2 3]",
+        "[contains 0 1 2 3]",
+        "[separate]",
+        "[separate 1]",
+        "[separate 1 2 3]",
+        "[separate [1 2]]",
+        "[separate 1 256]",
+        "[separate 1 2 ]",
+        "[decompose ]",
+        "[decompose 1]",
+        "[decompose]]",
+        "[decompose] [decompose]",
+        "decompose",
+        "[meet]",
+        "[quit]",
+        "[op]",
+        "[op 1]",
+        "[]",
+        "[[decompose]]",
+        "#",
     ] {
-        add(&format!("[size 4]\n[generate [0 1]]\n{bad}\n[decompose]\n"), "[generated 1 [0 0 2 3]]\n[refused 14]\n");
+        add(
+            &format!("[size 4]\n[generate [0 1]]\n{bad}\n[decompose]\n"),
+            "[generated 1 [0 0 2 3]]\n[refused 14]\n",
+        );
     }
     add("[size 4]\n[generate [255 0]]\n[generate]\n", "[refused 7]\n[generated 0 [0 1 2 3]]\n");
     add("[size 4]\n[generate [4 0]]\n[generate [0 3]]\n", "[refused 7]\n[generated 1 [0 1 2 0]]\n");
     add("[size 4]\n[contained]\n[contained 0 0 0 0]\n", "[refused 8]\n[map 0 0 0 0]\n");
     add("[size 4]\n[contained 0 0 0]\n[contained 0 0 0 0 0]\n", "[refused 8]\n[refused 8]\n");
-    add("[size 4]\n[contained 0 2 2 3]\n[contained 0 1 2 4]\n[contained 0 255 0 0]\n", "[refused 8]\n[refused 8]\n[refused 8]\n");
-    add("[size 4]\n[separate 1 1]\n[separate 5 5]\n[separate 3 0]\n", "[refused 10]\n[refused 7]\n[map 0 0 0 3]\n");
+    add(
+        "[size 4]\n[contained 0 2 2 3]\n[contained 0 1 2 4]\n[contained 0 255 0 0]\n",
+        "[refused 8]\n[refused 8]\n[refused 8]\n",
+    );
+    add(
+        "[size 4]\n[separate 1 1]\n[separate 5 5]\n[separate 3 0]\n",
+        "[refused 10]\n[refused 7]\n[map 0 0 0 3]\n",
+    );
     add("[size 1]\n[separate 0 0]\n[separate 0 1]\n[contained 0]\n", "[refused 10]\n[refused 7]\n[map 0]\n");
     let long = format!("[contained{}]\n", repeated(" 0", 260));
     add(&format!("[size 4]\n{long}[contained 0 0 0 0]\n"), "[refused 8]\n[map 0 0 0 0]\n");
@@ -146,11 +225,8 @@ pub fn known() -> Vec<(Vec<u8>, Vec<u8>)> {
     }
     known.extend([65_535, 65_536, 65_537].map(|length| {
         let text = of_length(length);
-        let answer = if length > 65_536 {
-            b"[refused 14]\n".to_vec()
-        } else {
-            b"[generated 1 [0 1 1 3]]\n".to_vec()
-        };
+        let answer =
+            if length > 65_536 { b"[refused 14]\n".to_vec() } else { b"[generated 1 [0 1 1 3]]\n".to_vec() };
         (text, answer)
     }));
     known
@@ -224,8 +300,7 @@ fn table(cells: &[u8], arity: u8, n: usize) -> String {
     if arity == 0 {
         return cells[0].to_string();
     }
-    let rows: Vec<String> =
-        cells.chunks(cells.len() / n).map(|part| table(part, arity - 1, n)).collect();
+    let rows: Vec<String> = cells.chunks(cells.len() / n).map(|part| table(part, arity - 1, n)).collect();
     format!("[{}]", rows.join(" "))
 }
 
@@ -241,13 +316,16 @@ pub fn head(algebra: &Algebra) -> String {
 /// One request line, mostly one that is answered.
 pub fn request(n: usize, rng: &mut Rng) -> String {
     let element = |rng: &mut Rng| {
-        if rng.once_in(40) { rng.below(256) } else { rng.below(n) }
+        if rng.once_in(40) {
+            rng.below(256)
+        } else {
+            rng.below(n)
+        }
     };
     match rng.below(4) {
         0 => {
             let count = if rng.once_in(20) { rng.below(200) } else { rng.below(4) };
-            let pairs: String =
-                (0..count).map(|_| format!(" [{} {}]", element(rng), element(rng))).collect();
+            let pairs: String = (0..count).map(|_| format!(" [{} {}]", element(rng), element(rng))).collect();
             format!("[generate{pairs}]\n")
         }
         1 => {

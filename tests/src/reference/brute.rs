@@ -32,10 +32,7 @@ pub fn maps(n: usize) -> Vec<Map> {
 
 /// The one member that stands to every member as asked.
 fn only<'a>(list: &[&'a Map], stands: impl Fn(&Map, &Map) -> bool) -> &'a Map {
-    let best: Vec<&&Map> = list
-        .iter()
-        .filter(|a| list.iter().all(|b| a == &b || stands(a, b)))
-        .collect();
+    let best: Vec<&&Map> = list.iter().filter(|a| list.iter().all(|b| a == &b || stands(a, b))).collect();
     assert_eq!(best.len(), 1, "an extremal map must exist and be unique");
     best[0]
 }
@@ -44,20 +41,13 @@ impl Engine for Brute {
     fn new(algebra: &Algebra) -> Brute {
         let maps = maps(algebra.n);
         assert!(maps.iter().all(|m| is_map(algebra.n, m)));
-        let congruences = maps
-            .iter()
-            .filter(|m| algebra.is_congruence(m))
-            .cloned()
-            .collect();
+        let congruences = maps.iter().filter(|m| algebra.is_congruence(m)).cloned().collect();
         Brute { algebra: algebra.clone(), maps, congruences }
     }
 
     fn least(&self, pairs: &[(usize, usize)]) -> Map {
-        let list: Vec<&Map> = self
-            .congruences
-            .iter()
-            .filter(|m| pairs.iter().all(|&(x, y)| holds(m, x, y)))
-            .collect();
+        let list: Vec<&Map> =
+            self.congruences.iter().filter(|m| pairs.iter().all(|&(x, y)| holds(m, x, y))).collect();
         only(&list, |a, b| inside(a, b)).clone()
     }
 
@@ -73,12 +63,8 @@ impl Engine for Brute {
 
     fn common_pair(&self) -> Option<(usize, usize)> {
         let n = self.algebra.n;
-        pairs(n).find(|&(x, y)| {
-            self.congruences
-                .iter()
-                .filter(|m| **m != identity(n))
-                .all(|m| holds(m, x, y))
-        })
+        pairs(n)
+            .find(|&(x, y)| self.congruences.iter().filter(|m| **m != identity(n)).all(|m| holds(m, x, y)))
     }
 
     fn respects(&self, map: &[u8]) -> bool {
@@ -97,18 +83,13 @@ impl Engine for Brute {
     }
 
     fn join(&self, a: &[u8], b: &[u8]) -> Map {
-        let list: Vec<&Map> = self
-            .maps
-            .iter()
-            .filter(|m| inside(a, m) && inside(b, m))
-            .collect();
+        let list: Vec<&Map> = self.maps.iter().filter(|m| inside(a, m) && inside(b, m)).collect();
         only(&list, |p, q| inside(p, q)).clone()
     }
 
     fn meet(&self, a: &[u8], b: &[u8]) -> Map {
-        let same = |m: &&Map| {
-            pairs(a.len()).all(|(x, y)| holds(m, x, y) == (holds(a, x, y) && holds(b, x, y)))
-        };
+        let same =
+            |m: &&Map| pairs(a.len()).all(|(x, y)| holds(m, x, y) == (holds(a, x, y) && holds(b, x, y)));
         let list: Vec<&Map> = self.maps.iter().filter(same).collect();
         assert_eq!(list.len(), 1);
         list[0].clone()
@@ -124,8 +105,7 @@ impl Engine for Brute {
         for (s, table) in self.algebra.operations() {
             let mut of_blocks: Vec<Option<usize>> = vec![None; b.pow(s as u32)];
             for (place, &value) in table.iter().enumerate() {
-                let given: Vec<usize> =
-                    arguments_of(place, s, n).into_iter().map(number).collect();
+                let given: Vec<usize> = arguments_of(place, s, n).into_iter().map(number).collect();
                 let cell = &mut of_blocks[place_of(&given, b)];
                 let result = number(value as usize);
                 assert!(cell.is_none_or(|old| old == result), "quotient by no congruence");

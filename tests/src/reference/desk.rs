@@ -151,9 +151,7 @@ impl Desk {
     fn line(&mut self, line: &Line) {
         match self.n {
             None => self.size_line(line),
-            Some(n) if !self.requested && line.bytes.starts_with(b"[op ") => {
-                self.operation_line(line, n)
-            }
+            Some(n) if !self.requested && line.bytes.starts_with(b"[op ") => self.operation_line(line, n),
             Some(n) => self.request(line, n),
         }
     }
@@ -248,8 +246,7 @@ impl Desk {
                 let Some(&[v, w]) = numbers(items).as_deref() else {
                     return self.end(14);
                 };
-                let answer =
-                    self.reference.separate(n, &arities, &cells, v as usize, w as usize, &lent);
+                let answer = self.reference.separate(n, &arities, &cells, v as usize, w as usize, &lent);
                 self.map_or_refusal(answer, n);
             }
             "decompose" if items.is_empty() => {
@@ -293,9 +290,7 @@ fn read_table(item: &Item, s: u8, n: usize, cells: &mut Vec<u8>) -> bool {
             cells.push(*value);
             true
         }
-        Bracket(rows) if s > 0 => {
-            rows.len() == n && rows.iter().all(|row| read_table(row, s - 1, n, cells))
-        }
+        Bracket(rows) if s > 0 => rows.len() == n && rows.iter().all(|row| read_table(row, s - 1, n, cells)),
         _ => false,
     }
 }

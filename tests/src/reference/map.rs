@@ -30,10 +30,7 @@ pub fn blocks(map: &[u8]) -> usize {
 
 /// The map of the equivalence "has the same label".
 pub fn of_labels<T: PartialEq>(labels: &[T]) -> Map {
-    labels
-        .iter()
-        .map(|l| labels.iter().position(|k| k == l).unwrap() as u8)
-        .collect()
+    labels.iter().map(|l| labels.iter().position(|k| k == l).unwrap() as u8).collect()
 }
 
 /// The pairs (x, y) with x < y < n, in order.
@@ -48,9 +45,7 @@ pub fn inside(a: &[u8], b: &[u8]) -> bool {
 
 /// Whether a is the earlier of two different equivalences.
 pub fn is_earlier(a: &[u8], b: &[u8]) -> bool {
-    pairs(a.len())
-        .find(|&(x, y)| holds(a, x, y) != holds(b, x, y))
-        .is_some_and(|(x, y)| holds(a, x, y))
+    pairs(a.len()).find(|&(x, y)| holds(a, x, y) != holds(b, x, y)).is_some_and(|(x, y)| holds(a, x, y))
 }
 
 /// The first pair that a map holds.

@@ -52,8 +52,7 @@ impl Plain {
     }
 
     fn principal(&self) -> &[Map] {
-        self.principal
-            .get_or_init(|| pairs(self.algebra.n).map(|pair| self.least(&[pair])).collect())
+        self.principal.get_or_init(|| pairs(self.algebra.n).map(|pair| self.least(&[pair])).collect())
     }
 
     fn principals(&self) -> impl Iterator<Item = ((usize, usize), &Map)> {
@@ -63,11 +62,7 @@ impl Plain {
 
 impl Engine for Plain {
     fn new(algebra: &Algebra) -> Plain {
-        Plain {
-            algebra: algebra.clone(),
-            translations: algebra.translations(),
-            principal: OnceCell::new(),
-        }
+        Plain { algebra: algebra.clone(), translations: algebra.translations(), principal: OnceCell::new() }
     }
 
     fn least(&self, pairs: &[(usize, usize)]) -> Map {

@@ -63,8 +63,7 @@ impl<E: Engine> Reference<E> {
         if lent.len() < n {
             return Answer::refused(9, lent);
         }
-        let list: Vec<(usize, usize)> =
-            pairs.chunks(2).map(|p| (p[0] as usize, p[1] as usize)).collect();
+        let list: Vec<(usize, usize)> = pairs.chunks(2).map(|p| (p[0] as usize, p[1] as usize)).collect();
         let map = self.engine(n, arities, cells).least(&list);
         Answer::written(n - blocks(&map), &map, lent)
     }
@@ -84,7 +83,15 @@ impl<E: Engine> Reference<E> {
         Answer::written(0, &result, lent)
     }
 
-    pub fn separate(&mut self, n: usize, arities: &[u8], cells: &[u8], v: usize, w: usize, lent: &[u8]) -> Answer {
+    pub fn separate(
+        &mut self,
+        n: usize,
+        arities: &[u8],
+        cells: &[u8],
+        v: usize,
+        w: usize,
+        lent: &[u8],
+    ) -> Answer {
         let refusal = reason(n, arities, cells);
         if refusal != 0 {
             return Answer::refused(refusal, lent);
@@ -165,7 +172,15 @@ impl<E: Engine> Reference<E> {
     }
 
     /// The least congruence that holds an old map and a pair.
-    pub fn least_above(&mut self, n: usize, arities: &[u8], cells: &[u8], old: &[u8], x: usize, y: usize) -> Map {
+    pub fn least_above(
+        &mut self,
+        n: usize,
+        arities: &[u8],
+        cells: &[u8],
+        old: &[u8],
+        x: usize,
+        y: usize,
+    ) -> Map {
         let mut list: Vec<(usize, usize)> =
             old.iter().enumerate().map(|(e, &first)| (e, first as usize)).collect();
         list.push((x, y));
