@@ -1,7 +1,8 @@
 /* Congruences and subdirect factors of a finite algebra.
  *
- * Link with libworksheet.a. The functions take no memory of their own, keep no
- * state between calls and may be called from several threads at once.
+ * Link with libworksheet.a. The functions allocate nothing, keep no state
+ * between calls and may be called from several threads at once. None takes
+ * more than 256 KiB of stack.
  *
  * The algebra. Every function first takes an algebra with the elements
  * 0 .. n - 1, where n is 1 to 64:
