@@ -1,7 +1,7 @@
 -- The laws of a map that grows with its queue: which name a merge takes away; nothing done, one step after another, a merge with its
 -- push; and loops over the two slices.
 use Prim.Native.Nat.{ℕ, _+_, _<_}
-use mathlib.Core.List.{List}
+use mathlib.Core.List.{List, map}
 use mathlib.Core.Logic.{inl, inr}
 use mathlib.Core.Path.{_≡_, refl, sym, ap, subst, _∙_}
 use native.Mathlib.Decide.{decLt, ℕ-discrete}
@@ -95,6 +95,10 @@ grown-more {t = t} h a b = record {
   rest = λ x l. b .rest x l ∙ a .rest x l;
 }
 
+-- growth by steps of which the later ones know more
+pub grown-first : {n : ℕ} {Good More : (ℕ → ℕ) → Type 0} {s t : State} → ((g : ℕ → ℕ) → Good g → More g) → Queued n s → Grown n More s t → Grown n Good s t
+grown-first {Good = Good} h q d = grown-more h (grown-none Good q) d
+
 -- a merge of two elements apart, with the larger name put behind the queue
 module _ {n a b k r : ℕ} {f′ : ℕ → ℕ} (m q : List ℕ) (la : a < n) (lb : b < n) (s : Ready n k m q) (h : byte m a ≡ byte m b → ⊥) (larger : Larger (byte m a) (byte m b) r)
     (d : Merged n a b (byte m) f′) where
@@ -152,3 +156,7 @@ pub since-more : {n k₀ k k′ : ℕ} {Good More : (ℕ → ℕ) → Type 0} {m
     → Since n Good m₀ q₀ k₀ m q k → length m′ ≡ length m → length q′ ≡ length q → Grown n More (state m q k) (state m′ q′ k′)
     → Since n Good m₀ q₀ k₀ m′ q′ k′
 since-more h s a b d = record { map-long = a ∙ s .map-long; queue-long = b ∙ s .queue-long; grown = grown-more h (s .grown) d }
+
+pub ready-grown : {n k k′ : ℕ} {Good : (ℕ → ℕ) → Type 0} {m q m′ q′ : List ℕ} → Ready n k m q → length m′ ≡ length m → length q′ ≡ length q
+    → Grown n Good (state m q k) (state m′ q′ k′) → Ready n k′ m′ q′
+ready-grown r a b d = since-ready r (record { map-long = a; queue-long = b; grown = d })
