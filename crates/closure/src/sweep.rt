@@ -113,3 +113,69 @@ fn binary(
     let len = line(m, n, queue, start, cells, live, count, n, o + x, o + y);
     line(m, n, queue, len, cells, live, count, 1, o + x * n, o + y * n)
 }
+
+// A table of arity 3 at o.
+fn ternary(
+    m: &mut [u8],
+    n: usize,
+    queue: &mut [u8],
+    start: usize,
+    limit: usize,
+    cells: &[u8],
+    live: &[u8],
+    count: usize,
+    o: usize,
+    x: usize,
+    y: usize,
+    v: usize,
+    w: usize,
+) -> usize
+    requires { ⌜ Ready n start (now m) (now queue) ⌝ }
+    requires { ⌜ Bounded n limit start v w (byte (now m)) ⌝ }
+    requires { ⌜ Contexts n (now cells) (now live) count ⌝ }
+    requires { ⌜ TableFits n (now cells) o 3 x y ⌝ }
+    ensures { λ r. ⌜ Grown n (OnTable n (now (cells .entry)) (now (live .entry)) count o 3 x y) (state (now (m .entry)) (now (queue .entry)) start) (state (now (m .exit)) (now (queue .exit)) r) ⌝ }
+    ensures { λ _. ⌜ Unless v w (OnTable n (now (cells .entry)) (now (live .entry)) count o 3 x y) (byte (now (m .exit))) ⌝ }
+{
+    let area = n * n;
+    let a = plane(m, n, queue, start, limit, cells, live, count, area, n, o + x, o + y, v, w);
+    let b = plane(m, n, queue, a, limit, cells, live, count, area, 1, o + x * n, o + y * n, v, w);
+    plane(m, n, queue, b, limit, cells, live, count, n, 1, o + x * area, o + y * area, v, w)
+}
+
+// The table of an operation of arity s, at o.
+fn table(
+    m: &mut [u8],
+    n: usize,
+    queue: &mut [u8],
+    start: usize,
+    limit: usize,
+    cells: &[u8],
+    live: &[u8],
+    count: usize,
+    o: usize,
+    s: usize,
+    x: usize,
+    y: usize,
+    v: usize,
+    w: usize,
+) -> usize
+    requires { ⌜ Ready n start (now m) (now queue) ⌝ }
+    requires { ⌜ Bounded n limit start v w (byte (now m)) ⌝ }
+    requires { ⌜ Contexts n (now cells) (now live) count ⌝ }
+    requires { ⌜ s ≤ 3 ⌝ }
+    requires { ⌜ TableFits n (now cells) o s x y ⌝ }
+    ensures { λ r. ⌜ Grown n (OnTable n (now (cells .entry)) (now (live .entry)) count o s x y) (state (now (m .entry)) (now (queue .entry)) start) (state (now (m .exit)) (now (queue .exit)) r) ⌝ }
+    ensures { λ _. ⌜ Unless v w (OnTable n (now (cells .entry)) (now (live .entry)) count o s x y) (byte (now (m .exit))) ⌝ }
+{
+    if s == 3 {
+        return ternary(m, n, queue, start, limit, cells, live, count, o, x, y, v, w);
+    }
+    if s == 2 {
+        return binary(m, n, queue, start, cells, live, count, o, x, y);
+    }
+    if s == 1 {
+        return crate::queue::join(m, n, queue, start, cells[o + x], cells[o + y]);
+    }
+    start
+}
