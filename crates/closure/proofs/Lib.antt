@@ -1,2 +1,4 @@
 pub mod Queues
 pub mod Sweeps
+pub mod Images
+pub mod Closings

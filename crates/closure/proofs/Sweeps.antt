@@ -104,10 +104,10 @@ bounded-since b s = bounded-grown b (s .grown)
 
 -- ---- tables
 
-power-one : (n : ℕ) → n ^ 1 ≡ n
+pub power-one : (n : ℕ) → n ^ 1 ≡ n
 power-one n = rw (pow-suc n 0, pow-zero n) (omega arith)
 
-power-two : (n : ℕ) → n ^ 2 ≡ n * n
+pub power-two : (n : ℕ) → n ^ 2 ≡ n * n
 power-two n = rw (pow-suc n 1, power-one n) refl
 
 power-three : (n : ℕ) → n ^ 3 ≡ n * n * n

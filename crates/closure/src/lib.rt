@@ -4,3 +4,4 @@
 // translation whose other arguments are still in use; after that b is in use no more.
 pub mod queue;
 pub mod sweep;
+pub mod rounds;

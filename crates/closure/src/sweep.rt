@@ -6,7 +6,9 @@ ghost use Prim.Native.Nat.{ℕ, _+_, _*_, _<_, _≤_};
 ghost use lib.ListN.{length};
 ghost use Rattle.equivalence.specs.Equivalence.{byte};
 ghost use Rattle.closure.specs.Queue.{state, Ready, Grown};
-ghost use Rattle.closure.specs.Contexts.{OnLine, OnPlane, OnTable, Contexts, LineFits, PlaneFits, TableFits, Unless, Halts, Bounded};
+ghost use Rattle.algebra.specs.Algebra.{algebraOf};
+ghost use Rattle.algebra.specs.Accepted.{Accepted};
+ghost use Rattle.closure.specs.Contexts.{Listed, OperationsIn, OnLine, OnPlane, OnTable, Contexts, LineFits, PlaneFits, TableFits, Unless, Halts, Bounded};
 
 // Is nothing more to be done?
 pub fn halted(m: &[u8], len: usize, limit: usize, v: usize, w: usize) -> bool
@@ -178,4 +180,44 @@ fn table(
         return crate::queue::join(m, n, queue, start, cells[o + x], cells[o + y]);
     }
     start
+}
+
+// Every operation.
+pub fn operations(
+    m: &mut [u8],
+    n: usize,
+    queue: &mut [u8],
+    start: usize,
+    limit: usize,
+    arities: &[u8],
+    cells: &[u8],
+    live: &[u8],
+    count: usize,
+    x: usize,
+    y: usize,
+    v: usize,
+    w: usize,
+) -> usize
+    requires { ⌜ Ready n start (now m) (now queue) ⌝ }
+    requires { ⌜ Bounded n limit start v w (byte (now m)) ⌝ }
+    requires { ⌜ Contexts n (now cells) (now live) count ⌝ }
+    requires { ⌜ Accepted (algebraOf n (now arities) (now cells)) ⌝ }
+    requires { ⌜ x < n ⌝ }
+    requires { ⌜ y < n ⌝ }
+    ensures { λ r. ⌜ Grown n (OperationsIn (algebraOf n (now (arities .entry)) (now (cells .entry))) (length (now (arities .entry))) (Listed (now (live .entry)) count) x y) (state (now (m .entry)) (now (queue .entry)) start) (state (now (m .exit)) (now (queue .exit)) r) ⌝ }
+    ensures { λ _. ⌜ Unless v w (OperationsIn (algebraOf n (now (arities .entry)) (now (cells .entry))) (length (now (arities .entry))) (Listed (now (live .entry)) count) x y) (byte (now (m .exit))) ⌝ }
+{
+    let mut len = start;
+    let mut o = 0;
+    let mut j = 0;
+    while j < arities.len() {
+        if halted(m, len, limit, v, w) {
+            return len;
+        }
+        let s = arities[j] as usize;
+        len = table(m, n, queue, len, limit, cells, live, count, o, s, x, y, v, w);
+        o = o + algebra::power(n, s);
+        j += 1;
+    }
+    len
 }
