@@ -1,22 +1,25 @@
 -- Why the queue is enough: once each queued element has gone, with the name of its block, through the translations whose other arguments
 -- were still in use, the map is a congruence. Every argument list is led, one argument at a time and in the order of the queue, to the
 -- list of the names of its blocks.
-use Prim.Native.Nat.{ℕ, zero, suc, _+_, _≤_, _<_}
+use Prim.Native.Nat.{ℕ, zero, suc, _+_, _-_, _≤_, _<_}
 use mathlib.Core.List.{List, [], _∷_, _++_, map, append-assoc, map-append}
 use mathlib.Core.Logic.{_⊎_, inl, inr}
 use mathlib.Core.Path.{_≡_, refl, sym, ap, subst, _∙_, ap₂}
 use native.Mathlib.Decide.{ℕ-discrete}
 use native.Mathlib.Omega.{arith}
-use lib.ListN.{length, getD, length-append}
+use lib.ListN.{length, getD, set, length-append}
+use lib.Seq.{getD-set-same, getD-set-other}
+use Rattle.equivalence.specs.Equivalence.{byte}
 use Rattle.equivalence.specs.Kernel.{Canonical, Within, relabel}
 use Rattle.equivalence.proofs.Kernels.{relabel-same, relabel-other}
 use Rattle.algebra.specs.Algebra.{Algebra}
 use Rattle.algebra.specs.Translations.{result, Compatible}
 use Rattle.algebra.proofs.Accepted.{WellFormed}
+use Rattle.algebra.proofs.Congruences.{cells-below}
 use Rattle.closure.specs.Closing.{Begun, Retired}
-use Rattle.closure.specs.Contexts.{Listed, All, ImagesIn, OperationsIn, Joined, Unless}
+use Rattle.closure.specs.Contexts.{Listed, All, ImagesIn, OperationsIn, Contexts, Joined, Unless}
 use Rattle.closure.specs.Queue.{State, InQueue, Queued, Grown}
-use Rattle.closure.proofs.Images.{all-map, all-below, below-all, all-append, images-kept}
+use Rattle.closure.proofs.Images.{all-map, all-below, below-all, all-append, images-kept, listed-below}
 use Rattle.closure.proofs.Queues.{name-back, in-queue-kept}
 use Rattle.closure.proofs.Sweeps.{joined-kept}
 
@@ -235,3 +238,38 @@ running-compatible a ok {s = s} r all q u x y lx ly e j lj pre post z p h =
     named a ok r all q u j lj (pre ++ (x ∷ post)) (long x) (whole x lx)
     ∙ ap (λ (t : List ℕ). s .map (result a j t)) (map-append (s .map) pre (x ∷ post) ∙ ap (λ (b : ℕ). map (s .map) pre ++ (b ∷ map (s .map) post)) e ∙ sym (map-append (s .map) pre (y ∷ post)))
     ∙ sym (named a ok r all q u j lj (pre ++ (y ∷ post)) (long y) (whole y ly))
+
+-- ---- the list of elements in use
+
+pub retired-none : {b : ℕ} (live : List ℕ) (count : ℕ) → Retired b live count live count
+retired-none live count = record { fewer = omega arith; kept = λ c m h. m; old = λ i l. (i, (l, refl)) }
+
+-- the last takes the place of b, which stands at i
+pub retired-swap : {b : ℕ} (live : List ℕ) (count i : ℕ) → count ≤ length live → i < count → byte live i ≡ b → Retired b live count (set live i (byte live (count - 1))) (count - 1)
+retired-swap {b} live count i room l e =
+    let last = byte live (count - 1) in
+    let new : byte (set live i last) i ≡ last = getD-set-same live i last 0 (omega arith) in
+    let rest : (h : ℕ) → (h ≡ i → ⊥) → byte (set live i last) h ≡ byte live h = λ h d. getD-set-other live i h last 0 d in
+    record {
+      fewer = omega arith;
+      kept = λ c m h. elim (ℕ-discrete (m .0) (count - 1)) [
+        | yes z ↦ elim (ℕ-discrete i (count - 1)) [
+          | yes y ↦ absurd (h (sym (m .1 .1) ∙ ap (byte live) (z ∙ sym y) ∙ e))
+          | no y ↦ (i, (omega arith, new ∙ ap (byte live) (sym z) ∙ m .1 .1))
+        ]
+        | no z ↦ (m .0, (omega (arith, m .1 .0), rest (m .0) (λ y. h (sym (m .1 .1) ∙ ap (byte live) y ∙ e)) ∙ m .1 .1))
+      ];
+      old = λ h lh. elim (ℕ-discrete h i) [
+        | yes z ↦ (count - 1, (omega arith, sym (ap (byte (set live i last)) z ∙ new)))
+        | no z ↦ (h, (omega arith, sym (rest h z)))
+      ];
+    }
+
+pub retired-contexts : {n b : ℕ} {cells live live′ : List ℕ} {count count′ : ℕ} → length live′ ≡ length live → Contexts n cells live count → Retired b live count live′ count′ → Contexts n cells live′ count′
+retired-contexts {n} {b} {cells} {live} {live′} e k r = record {
+  size = k .size;
+  cells-most = k .cells-most;
+  cells-below = k .cells-below;
+  live-room = omega (arith, k .live-room, r .fewer);
+  live-below = λ i l. listed-below k (byte live′ i) (r .old i l);
+}

@@ -10,7 +10,7 @@ use Rattle.equivalence.specs.Equivalence.{byte}
 use Rattle.equivalence.specs.Kernel.{Within}
 use Rattle.algebra.specs.Accepted.{Accepted}
 use Rattle.algebra.specs.Algebra.{Algebra, place}
-use Rattle.algebra.specs.Translations.{AllBelow, tableStart, result}
+use Rattle.algebra.specs.Translations.{AllBelow, tableStart, result, Compatible}
 use Rattle.algebra.proofs.Accepted.{WellFormed, accepted-wellFormed}
 use Rattle.algebra.proofs.Strides.{place-lt}
 use Rattle.algebra.proofs.Tables.{start-room}
@@ -190,6 +190,17 @@ module _ (a : Algebra) (ok : WellFormed a) (j : ℕ) (lj : j < length (a .aritie
     pub images-whole : {x y : ℕ} {f : ℕ → ℕ} → x < a .size → y < a .size → ((c : ℕ) → c < a .size → f c ≡ 0) → ImagesIn a j L x y f
     images-whole {x} {y} lx ly z pre post e p q =
         z (result a j (pre ++ (x ∷ post))) (image-below x lx pre post e p q) ∙ sym (z (result a j (pre ++ (y ∷ post))) (image-below y ly pre post e p q))
+
+-- with one block left everything is compatible
+pub compatible-whole : (a : Algebra) → WellFormed a → (f : ℕ → ℕ) → ((c : ℕ) → c < a .size → f c ≡ 0) → Compatible a f
+compatible-whole a ok f z x y lx ly e j lj pre post s p q =
+    images-whole a ok j lj {L = λ c. c < a .size} (λ c l. l) lx ly z pre post s (below-all (a .size) pre p) (below-all (a .size) post q)
+
+-- what is compatible joins the images of two elements that it joins
+pub compatible-images : (a : Algebra) {L : ℕ → Type 0} → ((c : ℕ) → L c → c < a .size) → (g : ℕ → ℕ) → Compatible a g → (x y : ℕ) → x < a .size → y < a .size → g x ≡ g y
+    → OperationsIn a (length (a .arities)) L x y g
+compatible-images a small g h x y lx ly e j lj pre post s p q =
+    h x y lx ly e j lj pre post s (all-below (a .size) pre (all-map small pre p)) (all-below (a .size) post (all-map small post q))
 
 -- ---- the pass over all operations
 

@@ -81,7 +81,7 @@ loop-again c =
     let d = c .before .before .before .before .before .table .ensures .0 in (
       omega (arith, k),
       omega (arith, c .power .ensures, l .inv .1, start-next (c .before .before .before .before .before .before .before .before .before .before .before .before .before .before .before .before .before .before .before .args .n) (c .before .before .before .before .before .before .before .before .before .before .before .before .before .before .before .before .before .before .before .args .arities .now) (l .j) k),
-      since-more (λ g good. operation-table a (p .1 .0) (c .before .before .before .before .before .before .before .before .before .before .before .before .before .before .before .before .before .before .before .args .live .now) (c .before .before .before .before .before .before .before .before .before .before .before .before .before .before .before .before .before .before .before .args .count) (p .0) (c .before .before .before .before .before .before .before .before .before .before .before .before .before .before .before .before .before .before .before .args .x) (c .before .before .before .before .before .before .before .before .before .before .before .before .before .before .before .before .before .before .before .args .y) (p .1 .1 .0) (p .1 .1 .1) g (l .j) (l .o) k (l .inv .1) good) (l .inv .2) (c .before .before .before .before .before .table .kept .0) (c .before .before .before .before .before .table .kept .1 .1 .0) d,
+      since-more (λ g good h. operation-table a (p .1 .0) (c .before .before .before .before .before .before .before .before .before .before .before .before .before .before .before .before .before .before .before .args .live .now) (c .before .before .before .before .before .before .before .before .before .before .before .before .before .before .before .before .before .before .before .args .count) (p .0) (c .before .before .before .before .before .before .before .before .before .before .before .before .before .before .before .before .before .before .before .args .x) (c .before .before .before .before .before .before .before .before .before .before .before .before .before .before .before .before .before .before .before .args .y) (p .1 .1 .0) (p .1 .1 .1) g (l .j) (l .o) k (l .inv .1) good) (l .inv .2) (c .before .before .before .before .before .table .kept .0) (c .before .before .before .before .before .table .kept .1 .1 .0) d,
       λ u. operations-more a (p .1 .0) (c .before .before .before .before .before .before .before .before .before .before .before .before .before .before .before .before .before .before .before .args .live .now) (c .before .before .before .before .before .before .before .before .before .before .before .before .before .before .before .before .before .before .before .args .count) (p .0) (c .before .before .before .before .before .before .before .before .before .before .before .before .before .before .before .before .before .before .before .args .x) (c .before .before .before .before .before .before .before .before .before .before .before .before .before .before .before .before .before .before .before .args .y) (p .1 .1 .0) (p .1 .1 .1) _ _ (l .j) (l .o) k (l .inv .1) (d .within) (c .before .before .before .before .before .table .ensures .1 u)
         (l .inv .3 (joined-kept (c .before .before .before .before .before .before .before .before .before .before .before .before .before .before .before .before .before .before .before .pre .1 .0 .left) (c .before .before .before .before .before .before .before .before .before .before .before .before .before .before .before .before .before .before .before .pre .1 .0 .right) (d .within) u)),
     )

@@ -67,7 +67,7 @@ returns c =
     let b = c .before .before .before .before .before .before .before .before .before .before .before .before .before .before .before .before .before .before .before .before .before .before .before .before .before .pre .1 .0 in
     let second = c .before .before .before .before .before .before .before .before .before .before .before .plane2 .ensures .0 .within in
     let third = c .before .before .before .before .plane3 .ensures .0 .within in (
-      grown-more (λ g good. good .1 .1) (grown-more (λ g good. good .1 .0) (grown-first (λ g good. good .0) (c .before .before .before .before .before .before .before .before .before .before .before .before .before .before .before .before .before .before .before .before .before .before .before .before .before .pre .0 .queued) (c .before .before .before .before .before .before .before .before .before .before .before .before .before .before .before .before .before .before .plane .ensures .0)) (c .before .before .before .before .before .before .before .before .before .before .before .plane2 .ensures .0)) (c .before .before .before .before .plane3 .ensures .0),
+      grown-more (λ g good h. good .1 .1) (grown-more (λ g good h. good .1 .0) (grown-first (λ g good h. good .0) (c .before .before .before .before .before .before .before .before .before .before .before .before .before .before .before .before .before .before .before .before .before .before .before .before .before .pre .0 .queued) (c .before .before .before .before .before .before .before .before .before .before .before .before .before .before .before .before .before .before .plane .ensures .0)) (c .before .before .before .before .before .before .before .before .before .before .before .plane2 .ensures .0)) (c .before .before .before .before .plane3 .ensures .0),
       λ u.
         let u2 = joined-kept (b .left) (b .right) third u in
         let u1 = joined-kept (b .left) (b .right) second u2 in (
