@@ -226,7 +226,7 @@ module _ (a : Algebra) (ok : WellFormed a) {v w k : ℕ} {s : State} {live : Lis
   named xs e p =
       replaced a j f Element (r .base) base-small base-images [] xs (omega arith) tt p
       ∙ settled (s .size) 0 (omega arith) (map (r .base) xs) (map-length (r .base) xs ∙ e)
-        (all-mapped Element (InUse 0) (r .base) (λ x l. record { small = base-small x l; name = r .canonical .root x l; waiting = λ i li. absurd (omega arith) }) xs p)
+      (all-mapped Element (InUse 0) (r .base) (λ x l. record { small = base-small x l; name = r .canonical .root x l; waiting = λ i li. absurd (omega arith) }) xs p)
       ∙ ap (λ (z : List ℕ). f (result a j z)) (map-twice f (r .base) Element (λ x l. r .within (r .base x) x (base-small x l) l (r .canonical .root x l)) xs p)
 
 pub running-compatible : (a : Algebra) → WellFormed a → {v w k : ℕ} {s : State} {live : List ℕ} {count : ℕ} → Running a v w k s live count → s .size ≤ k → Queued (a .size) s

@@ -124,29 +124,33 @@ module _ (a : Algebra) (j : ℕ) (live : List ℕ) (count x y : ℕ) (g : ℕ �
   table-of (suc zero) l e h =
       sym (cell-at (x ∷ []) (tableStart a j + x) (omega (arith, place-one (a .size) x))) ∙ h [] [] (omega arith) tt tt
       ∙ cell-at (y ∷ []) (tableStart a j + y) (omega (arith, place-one (a .size) y))
-  table-of (suc (suc zero)) l e h =
-      (λ i li. let b = byte live i in
-      sym (cell-at (b ∷ x ∷ []) (tableStart a j + x + b * a .size) (omega (arith, place-two (a .size) b x))) ∙ h (b ∷ []) [] (omega arith) (listed i li, tt) tt
-      ∙ cell-at (b ∷ y ∷ []) (tableStart a j + y + b * a .size) (omega (arith, place-two (a .size) b y)),
-      λ i li. let b = byte live i in
-      sym (cell-at (x ∷ b ∷ []) (tableStart a j + x * a .size + b * 1) (omega (arith, place-two (a .size) x b))) ∙ h [] (b ∷ []) (omega arith) tt (listed i li, tt)
-      ∙ cell-at (y ∷ b ∷ []) (tableStart a j + y * a .size + b * 1) (omega (arith, place-two (a .size) y b)))
-  table-of (suc (suc (suc zero))) l e h =
-      (λ i li k lk. let b = byte live i in
-      let d = byte live k in
-      sym (cell-at (b ∷ d ∷ x ∷ []) (tableStart a j + x + b * (a .size * a .size) + d * a .size) (omega (arith, place-three (a .size) b d x)))
-      ∙ h (b ∷ d ∷ []) [] (omega arith) (listed i li, (listed k lk, tt)) tt
-      ∙ cell-at (b ∷ d ∷ y ∷ []) (tableStart a j + y + b * (a .size * a .size) + d * a .size) (omega (arith, place-three (a .size) b d y)),
-      (λ i li k lk. let b = byte live i in
-      let d = byte live k in
-      sym (cell-at (b ∷ x ∷ d ∷ []) (tableStart a j + x * a .size + b * (a .size * a .size) + d * 1) (omega (arith, place-three (a .size) b x d)))
-      ∙ h (b ∷ []) (d ∷ []) (omega arith) (listed i li, tt) (listed k lk, tt)
-      ∙ cell-at (b ∷ y ∷ d ∷ []) (tableStart a j + y * a .size + b * (a .size * a .size) + d * 1) (omega (arith, place-three (a .size) b y d)),
+  table-of (suc (suc zero)) l e h = (
+    λ i li. let b = byte live i in
+        sym (cell-at (b ∷ x ∷ []) (tableStart a j + x + b * a .size) (omega (arith, place-two (a .size) b x))) ∙ h (b ∷ []) [] (omega arith) (listed i li, tt) tt
+        ∙ cell-at (b ∷ y ∷ []) (tableStart a j + y + b * a .size) (omega (arith, place-two (a .size) b y)),
+    λ i li. let b = byte live i in
+        sym (cell-at (x ∷ b ∷ []) (tableStart a j + x * a .size + b * 1) (omega (arith, place-two (a .size) x b))) ∙ h [] (b ∷ []) (omega arith) tt (listed i li, tt)
+        ∙ cell-at (y ∷ b ∷ []) (tableStart a j + y * a .size + b * 1) (omega (arith, place-two (a .size) y b)),
+  )
+  table-of (suc (suc (suc zero))) l e h = (
+    λ i li k lk. let b = byte live i in
+        let d = byte live k in
+        sym (cell-at (b ∷ d ∷ x ∷ []) (tableStart a j + x + b * (a .size * a .size) + d * a .size) (omega (arith, place-three (a .size) b d x)))
+        ∙ h (b ∷ d ∷ []) [] (omega arith) (listed i li, (listed k lk, tt)) tt
+        ∙ cell-at (b ∷ d ∷ y ∷ []) (tableStart a j + y + b * (a .size * a .size) + d * a .size) (omega (arith, place-three (a .size) b d y)),
+    (
       λ i li k lk. let b = byte live i in
-      let d = byte live k in
-      sym (cell-at (x ∷ b ∷ d ∷ []) (tableStart a j + x * (a .size * a .size) + b * a .size + d * 1) (omega (arith, place-three (a .size) x b d)))
-      ∙ h [] (b ∷ d ∷ []) (omega arith) tt (listed i li, (listed k lk, tt))
-      ∙ cell-at (y ∷ b ∷ d ∷ []) (tableStart a j + y * (a .size * a .size) + b * a .size + d * 1) (omega (arith, place-three (a .size) y b d))))
+          let d = byte live k in
+          sym (cell-at (b ∷ x ∷ d ∷ []) (tableStart a j + x * a .size + b * (a .size * a .size) + d * 1) (omega (arith, place-three (a .size) b x d)))
+          ∙ h (b ∷ []) (d ∷ []) (omega arith) (listed i li, tt) (listed k lk, tt)
+          ∙ cell-at (b ∷ y ∷ d ∷ []) (tableStart a j + y * a .size + b * (a .size * a .size) + d * 1) (omega (arith, place-three (a .size) b y d)),
+      λ i li k lk. let b = byte live i in
+          let d = byte live k in
+          sym (cell-at (x ∷ b ∷ d ∷ []) (tableStart a j + x * (a .size * a .size) + b * a .size + d * 1) (omega (arith, place-three (a .size) x b d)))
+          ∙ h [] (b ∷ d ∷ []) (omega arith) tt (listed i li, (listed k lk, tt))
+          ∙ cell-at (y ∷ b ∷ d ∷ []) (tableStart a j + y * (a .size * a .size) + b * a .size + d * 1) (omega (arith, place-three (a .size) y b d)),
+    ),
+  )
   table-of (suc (suc (suc (suc s)))) l e h = absurd (omega arith)
 
   pub images-table : getD (a .arities) j 0 ≤ 3 → ImagesIn a j (Listed live count) x y g → OnTable (a .size) (a .cells) live count (tableStart a j) (getD (a .arities) j 0) x y g

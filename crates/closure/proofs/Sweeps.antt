@@ -15,9 +15,6 @@ use Rattle.equivalence.proofs.Kernels.{names-positive}
 use Rattle.closure.specs.Contexts.{OnLine, OnPlane, Contexts, LineFits, PlaneFits, TableFits, Joined, Unless, Halts, Bounded}
 use Rattle.closure.specs.Queue.{State, Grown}
 use Rattle.closure.proofs.Queues.{Since}
-use borrow.Author.Tests.{eq-eqb}
-use borrow.Author.Tests.{eq-eqb}
-use borrow.Author.Tests.{eq-eqb}
 
 -- what a loop has shown of each index passed stays so under f′, and holds at one more
 pub each-more : (J : ℕ → (ℕ → ℕ) → Type 0) (f f′ : ℕ → ℕ) {i : ℕ} → ((j : ℕ) → j < i → J j f → J j f′)
@@ -147,6 +144,7 @@ module _ {n : ℕ} {cells : List ℕ} {o x y : ℕ} where
   binary-place h = (omega (arith, h .room, power-two n, two-digits n x x (h .left) (h .left)), omega (arith, h .room, power-two n, two-digits n y y (h .right) (h .right)))
 
   pub ternary-place : TableFits n cells o 3 x y → ((o + x * n < length cells) × (o + y * n < length cells)) × ((o + x * (n * n) < length cells) × (o + y * (n * n) < length cells))
-  ternary-place h =
-      ((omega (arith, h .room, power-three n, three-digits n x x x (h .left) (h .left) (h .left)), omega (arith, h .room, power-three n, three-digits n y y y (h .right) (h .right) (h .right))),
-      (omega (arith, h .room, power-three n, three-digits n x x x (h .left) (h .left) (h .left)), omega (arith, h .room, power-three n, three-digits n y y y (h .right) (h .right) (h .right))))
+  ternary-place h = (
+    (omega (arith, h .room, power-three n, three-digits n x x x (h .left) (h .left) (h .left)), omega (arith, h .room, power-three n, three-digits n y y y (h .right) (h .right) (h .right))),
+    (omega (arith, h .room, power-three n, three-digits n x x x (h .left) (h .left) (h .left)), omega (arith, h .room, power-three n, three-digits n y y y (h .right) (h .right) (h .right))),
+  )

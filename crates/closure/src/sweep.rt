@@ -87,7 +87,18 @@ fn plane(
             return len;
         }
         let shift = live[i] as usize * row;
-        len = line(m, n, queue, len, cells, live, count, step, p + shift, q + shift);
+        len = line(
+            m,
+            n,
+            queue,
+            len,
+            cells,
+            live,
+            count,
+            step,
+            p + shift,
+            q + shift,
+        );
         i += 1;
     }
     len
@@ -113,7 +124,18 @@ fn binary(
     ensures { λ _. ⌜ OnTable n (now (cells .entry)) (now (live .entry)) count o 2 x y (byte (now (m .exit))) ⌝ }
 {
     let len = line(m, n, queue, start, cells, live, count, n, o + x, o + y);
-    line(m, n, queue, len, cells, live, count, 1, o + x * n, o + y * n)
+    line(
+        m,
+        n,
+        queue,
+        len,
+        cells,
+        live,
+        count,
+        1,
+        o + x * n,
+        o + y * n,
+    )
 }
 
 // A table of arity 3 at o.
@@ -140,9 +162,54 @@ fn ternary(
     ensures { λ _. ⌜ Unless v w (OnTable n (now (cells .entry)) (now (live .entry)) count o 3 x y) (byte (now (m .exit))) ⌝ }
 {
     let area = n * n;
-    let a = plane(m, n, queue, start, limit, cells, live, count, area, n, o + x, o + y, v, w);
-    let b = plane(m, n, queue, a, limit, cells, live, count, area, 1, o + x * n, o + y * n, v, w);
-    plane(m, n, queue, b, limit, cells, live, count, n, 1, o + x * area, o + y * area, v, w)
+    let a = plane(
+        m,
+        n,
+        queue,
+        start,
+        limit,
+        cells,
+        live,
+        count,
+        area,
+        n,
+        o + x,
+        o + y,
+        v,
+        w,
+    );
+    let b = plane(
+        m,
+        n,
+        queue,
+        a,
+        limit,
+        cells,
+        live,
+        count,
+        area,
+        1,
+        o + x * n,
+        o + y * n,
+        v,
+        w,
+    );
+    plane(
+        m,
+        n,
+        queue,
+        b,
+        limit,
+        cells,
+        live,
+        count,
+        n,
+        1,
+        o + x * area,
+        o + y * area,
+        v,
+        w,
+    )
 }
 
 // The table of an operation of arity s, at o.
@@ -215,7 +282,22 @@ pub fn operations(
             return len;
         }
         let s = arities[j] as usize;
-        len = table(m, n, queue, len, limit, cells, live, count, o, s, x, y, v, w);
+        len = table(
+            m,
+            n,
+            queue,
+            len,
+            limit,
+            cells,
+            live,
+            count,
+            o,
+            s,
+            x,
+            y,
+            v,
+            w,
+        );
         o = o + algebra::power(n, s);
         j += 1;
     }

@@ -42,7 +42,7 @@ returns c =
     let a = algebraOf (c .before .before .before .before .before .before .before .before .before .before .args .n) (c .before .before .before .before .before .before .before .before .before .before .args .arities .now) (c .before .before .before .before .before .before .before .before .before .before .args .cells .now) in (
       c .before .before .before .before .loop .inv .3 .grown,
       halted-unless (Compatible a) (c .before .before .before .before .loop .inv .3 .grown .queued .canonical) (bounded-since (c .before .before .before .before .before .before .before .before .before .before .pre .1 .0) (c .before .before .before .before .loop .inv .3))
-      (compatible-whole a (accepted-wellFormed a (c .before .before .before .before .before .before .before .before .before .before .pre .1 .1 .1 .0)) (byte (c .before .before .before .before .loop .m))) (c .before .halted .ensures (c .if1 .taken)),
+          (compatible-whole a (accepted-wellFormed a (c .before .before .before .before .before .before .before .before .before .before .pre .1 .1 .1 .0)) (byte (c .before .before .before .before .loop .m))) (c .before .halted .ensures (c .if1 .taken)),
     )
 
 slice-read-b : tie.Need-slice-read-b Inv-loop μ-loop

@@ -37,9 +37,9 @@ same-length-2 c = omega arith
 
 returns : tie.Need-returns
 returns c = (
-      grown-more (λ g good h. good .1) (grown-first (λ g good h. good .0) (c .before .before .before .before .before .before .before .before .before .before .before .before .before .before .before .before .before .before .pre .0 .queued) (c .before .before .before .before .before .before .before .before .before .before .before .line .ensures .0)) (c .before .before .before .before .line2 .ensures .0),
-      (line-kept (c .before .before .before .before .before .before .before .before .before .before .before .before .before .before .before .before .before .before .pre .1 .0) (binary-fits (c .before .before .before .before .before .before .before .before .before .before .before .before .before .before .before .before .before .before .pre .1 .1) .0 .0) (binary-fits (c .before .before .before .before .before .before .before .before .before .before .before .before .before .before .before .before .before .before .pre .1 .1) .0 .1) (c .before .before .before .before .line2 .ensures .0 .within) (omega arith) (c .before .before .before .before .before .before .before .before .before .before .before .line .ensures .1), c .before .before .before .before .line2 .ensures .1),
-    )
+  grown-more (λ g good h. good .1) (grown-first (λ g good h. good .0) (c .before .before .before .before .before .before .before .before .before .before .before .before .before .before .before .before .before .before .pre .0 .queued) (c .before .before .before .before .before .before .before .before .before .before .before .line .ensures .0)) (c .before .before .before .before .line2 .ensures .0),
+  (line-kept (c .before .before .before .before .before .before .before .before .before .before .before .before .before .before .before .before .before .before .pre .1 .0) (binary-fits (c .before .before .before .before .before .before .before .before .before .before .before .before .before .before .before .before .before .before .pre .1 .1) .0 .0) (binary-fits (c .before .before .before .before .before .before .before .before .before .before .before .before .before .before .before .before .before .before .pre .1 .1) .0 .1) (c .before .before .before .before .line2 .ensures .0 .within) (omega arith) (c .before .before .before .before .before .before .before .before .before .before .before .line .ensures .1), c .before .before .before .before .line2 .ensures .1),
+)
 
 pub binary-spec : {M : Type 1} → statement M
 binary-spec =

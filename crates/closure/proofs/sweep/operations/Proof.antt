@@ -38,7 +38,7 @@ returns c =
     let p = c .before .before .before .before .before .before .before .before .before .before .pre .1 .1 in (
       c .before .before .before .before .loop .inv .2 .grown,
       halted-unless (OperationsIn a (length (c .before .before .before .before .before .before .before .before .before .before .args .arities .now)) (Listed (c .before .before .before .before .before .before .before .before .before .before .args .live .now) (c .before .before .before .before .before .before .before .before .before .before .args .count)) (c .before .before .before .before .before .before .before .before .before .before .args .x) (c .before .before .before .before .before .before .before .before .before .before .args .y)) (c .before .before .before .before .loop .inv .2 .grown .queued .canonical)
-      (bounded-since (c .before .before .before .before .before .before .before .before .before .before .pre .1 .0) (c .before .before .before .before .loop .inv .2)) (operations-whole a (p .1 .0) (c .before .before .before .before .before .before .before .before .before .before .args .live .now) (c .before .before .before .before .before .before .before .before .before .before .args .count) (p .0) (c .before .before .before .before .before .before .before .before .before .before .args .x) (c .before .before .before .before .before .before .before .before .before .before .args .y) (p .1 .1 .0) (p .1 .1 .1) (byte (c .before .before .before .before .loop .m))) (c .before .halted .ensures (c .if1 .taken)),
+          (bounded-since (c .before .before .before .before .before .before .before .before .before .before .pre .1 .0) (c .before .before .before .before .loop .inv .2)) (operations-whole a (p .1 .0) (c .before .before .before .before .before .before .before .before .before .before .args .live .now) (c .before .before .before .before .before .before .before .before .before .before .args .count) (p .0) (c .before .before .before .before .before .before .before .before .before .before .args .x) (c .before .before .before .before .before .before .before .before .before .before .args .y) (p .1 .1 .0) (p .1 .1 .1) (byte (c .before .before .before .before .loop .m))) (c .before .halted .ensures (c .if1 .taken)),
     )
 
 shared-slice-read-s : tie.Need-shared-slice-read-s Inv-loop μ-loop
@@ -52,10 +52,16 @@ table-requires c κs =
     let a = algebraOf (c .before .before .before .before .before .before .before .before .before .before .before .before .before .args .n) (c .before .before .before .before .before .before .before .before .before .before .before .before .before .args .arities .now) (c .before .before .before .before .before .before .before .before .before .before .before .before .before .args .cells .now) in
     let p = c .before .before .before .before .before .before .before .before .before .before .before .before .before .pre .1 .1 in (
       since-ready (c .before .before .before .before .before .before .before .before .before .before .before .before .before .pre .0) (c .before .before .before .before .before .before .before .loop .inv .2),
-      (bounded-since (c .before .before .before .before .before .before .before .before .before .before .before .before .before .pre .1 .0) (c .before .before .before .before .before .before .before .loop .inv .2),
-        (p .0,
-          (accepted-wellFormed a (p .1 .0) .arity (c .before .before .before .before .before .before .before .loop .j) (c .before .before .before .before .before .before .loop-test .taken),
-            operation-fits a (p .1 .0) (c .before .before .before .before .before .before .before .before .before .before .before .before .before .args .live .now) (c .before .before .before .before .before .before .before .before .before .before .before .before .before .args .count) (p .0) (c .before .before .before .before .before .before .before .before .before .before .before .before .before .args .x) (c .before .before .before .before .before .before .before .before .before .before .before .before .before .args .y) (p .1 .1 .0) (p .1 .1 .1) (c .before .before .before .before .before .before .before .loop .j) (c .before .before .before .before .before .before .before .loop .o) (c .before .before .before .before .before .before .loop-test .taken) (c .before .before .before .before .before .before .before .loop .inv .1)))),
+      (
+        bounded-since (c .before .before .before .before .before .before .before .before .before .before .before .before .before .pre .1 .0) (c .before .before .before .before .before .before .before .loop .inv .2),
+        (
+          p .0,
+          (
+            accepted-wellFormed a (p .1 .0) .arity (c .before .before .before .before .before .before .before .loop .j) (c .before .before .before .before .before .before .loop-test .taken),
+            operation-fits a (p .1 .0) (c .before .before .before .before .before .before .before .before .before .before .before .before .before .args .live .now) (c .before .before .before .before .before .before .before .before .before .before .before .before .before .args .count) (p .0) (c .before .before .before .before .before .before .before .before .before .before .before .before .before .args .x) (c .before .before .before .before .before .before .before .before .before .before .before .before .before .args .y) (p .1 .1 .0) (p .1 .1 .1) (c .before .before .before .before .before .before .before .loop .j) (c .before .before .before .before .before .before .before .loop .o) (c .before .before .before .before .before .before .loop-test .taken) (c .before .before .before .before .before .before .before .loop .inv .1),
+          ),
+        ),
+      ),
     )
 
 power-requires : tie.Need-power-requires Inv-loop μ-loop
@@ -83,7 +89,7 @@ loop-again c =
       omega (arith, c .power .ensures, l .inv .1, start-next (c .before .before .before .before .before .before .before .before .before .before .before .before .before .before .before .before .before .before .before .args .n) (c .before .before .before .before .before .before .before .before .before .before .before .before .before .before .before .before .before .before .before .args .arities .now) (l .j) k),
       since-more (λ g good h. operation-table a (p .1 .0) (c .before .before .before .before .before .before .before .before .before .before .before .before .before .before .before .before .before .before .before .args .live .now) (c .before .before .before .before .before .before .before .before .before .before .before .before .before .before .before .before .before .before .before .args .count) (p .0) (c .before .before .before .before .before .before .before .before .before .before .before .before .before .before .before .before .before .before .before .args .x) (c .before .before .before .before .before .before .before .before .before .before .before .before .before .before .before .before .before .before .before .args .y) (p .1 .1 .0) (p .1 .1 .1) g (l .j) (l .o) k (l .inv .1) good) (l .inv .2) (c .before .before .before .before .before .table .kept .0) (c .before .before .before .before .before .table .kept .1 .1 .0) d,
       λ u. operations-more a (p .1 .0) (c .before .before .before .before .before .before .before .before .before .before .before .before .before .before .before .before .before .before .before .args .live .now) (c .before .before .before .before .before .before .before .before .before .before .before .before .before .before .before .before .before .before .before .args .count) (p .0) (c .before .before .before .before .before .before .before .before .before .before .before .before .before .before .before .before .before .before .before .args .x) (c .before .before .before .before .before .before .before .before .before .before .before .before .before .before .before .before .before .before .before .args .y) (p .1 .1 .0) (p .1 .1 .1) _ _ (l .j) (l .o) k (l .inv .1) (d .within) (c .before .before .before .before .before .table .ensures .1 u)
-        (l .inv .3 (joined-kept (c .before .before .before .before .before .before .before .before .before .before .before .before .before .before .before .before .before .before .before .pre .1 .0 .left) (c .before .before .before .before .before .before .before .before .before .before .before .before .before .before .before .before .before .before .before .pre .1 .0 .right) (d .within) u)),
+          (l .inv .3 (joined-kept (c .before .before .before .before .before .before .before .before .before .before .before .before .before .before .before .before .before .before .before .pre .1 .0 .left) (c .before .before .before .before .before .before .before .before .before .before .before .before .before .before .before .before .before .before .before .pre .1 .0 .right) (d .within) u)),
     )
 
 same-length-3 : tie.Need-same-length-3 Inv-loop μ-loop

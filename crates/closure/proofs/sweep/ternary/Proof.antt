@@ -69,11 +69,11 @@ returns c =
     let third = c .before .before .before .before .plane3 .ensures .0 .within in (
       grown-more (λ g good h. good .1 .1) (grown-more (λ g good h. good .1 .0) (grown-first (λ g good h. good .0) (c .before .before .before .before .before .before .before .before .before .before .before .before .before .before .before .before .before .before .before .before .before .before .before .before .before .pre .0 .queued) (c .before .before .before .before .before .before .before .before .before .before .before .before .before .before .before .before .before .before .plane .ensures .0)) (c .before .before .before .before .before .before .before .before .before .before .before .plane2 .ensures .0)) (c .before .before .before .before .plane3 .ensures .0),
       λ u.
-        let u2 = joined-kept (b .left) (b .right) third u in
-        let u1 = joined-kept (b .left) (b .right) second u2 in (
-          plane-kept (c .before .before .before .before .before .before .before .before .before .before .before .before .before .before .before .before .before .before .before .before .before .before .before .before .before .pre .1 .1 .0) (fits .0 .0) (fits .0 .1) third (plane-kept (c .before .before .before .before .before .before .before .before .before .before .before .before .before .before .before .before .before .before .before .before .before .before .before .before .before .pre .1 .1 .0) (fits .0 .0) (fits .0 .1) second (c .before .before .before .before .before .before .before .before .before .before .before .before .before .before .before .before .before .before .plane .ensures .1 u1)),
-          (plane-kept (c .before .before .before .before .before .before .before .before .before .before .before .before .before .before .before .before .before .before .before .before .before .before .before .before .before .pre .1 .1 .0) (fits .1 .0 .0) (fits .1 .0 .1) third (c .before .before .before .before .before .before .before .before .before .before .before .plane2 .ensures .1 u2), c .before .before .before .before .plane3 .ensures .1 u),
-        ),
+          let u2 = joined-kept (b .left) (b .right) third u in
+          let u1 = joined-kept (b .left) (b .right) second u2 in (
+            plane-kept (c .before .before .before .before .before .before .before .before .before .before .before .before .before .before .before .before .before .before .before .before .before .before .before .before .before .pre .1 .1 .0) (fits .0 .0) (fits .0 .1) third (plane-kept (c .before .before .before .before .before .before .before .before .before .before .before .before .before .before .before .before .before .before .before .before .before .before .before .before .before .pre .1 .1 .0) (fits .0 .0) (fits .0 .1) second (c .before .before .before .before .before .before .before .before .before .before .before .before .before .before .before .before .before .before .plane .ensures .1 u1)),
+            (plane-kept (c .before .before .before .before .before .before .before .before .before .before .before .before .before .before .before .before .before .before .before .before .before .before .before .before .before .pre .1 .1 .0) (fits .1 .0 .0) (fits .1 .0 .1) third (c .before .before .before .before .before .before .before .before .before .before .before .plane2 .ensures .1 u2), c .before .before .before .before .plane3 .ensures .1 u),
+          ),
     )
 
 pub ternary-spec : {M : Type 1} → statement M
