@@ -1,49 +1,48 @@
+use mathlib.Core.Path.{sym}
+use native.Mathlib.Omega.{arith}
+use Rattle.algebra.proofs.Accepted.{accepted-wellFormed}
+use Rattle.separation.proofs.Settling.{earliest-swap}
 use borrow.Author.Needs.{needs}
 use Rattle.separation.proofs.separate.Statement.{statement}
 use Rattle.separation.proofs.separate.Tie as tie
-use Rattle.separation.proofs.separate.Reads as reads
-use Rattle.separation.proofs.separate.Lts as lts
-use Rattle.separation.proofs.separate_in.Reads as separate-in-reads
 
--- src/lib.rt:50:21
 slice-aggregate-separate-in : tie.Need-slice-aggregate-separate-in
 slice-aggregate-separate-in c = search needs
 
--- src/lib.rt:50:29
 slice-aggregate-separate-in-2 : tie.Need-slice-aggregate-separate-in-2
 slice-aggregate-separate-in-2 c = search needs
 
--- src/lib.rt:50:9
 separate-in-requires : tie.Need-separate-in-requires
-separate-in-requires c κs = ?
+separate-in-requires c κs = 
+    let p = c .before .before .before .before .before .before .before .pre in
+    let n = accepted-wellFormed _ (p .0) .most in
+    (record { accepted = p .0; map-room = omega arith; spare-room = omega arith; left = p .1 .0; right = p .1 .1 .0 }, (p .1 .1 .1 .1, p .1 .1 .1 .0))
 
--- src/lib.rt:52:21
 slice-aggregate-separate-in-3 : tie.Need-slice-aggregate-separate-in-3
 slice-aggregate-separate-in-3 c = search needs
 
--- src/lib.rt:52:29
 slice-aggregate-separate-in-4 : tie.Need-slice-aggregate-separate-in-4
 slice-aggregate-separate-in-4 c = search needs
 
--- src/lib.rt:52:9
 separate-in-requires-2 : tie.Need-separate-in-requires-2
-separate-in-requires-2 c κs = ?
+separate-in-requires-2 c κs = 
+    let p = c .before .before .before .before .before .before .before .pre in
+    let n = accepted-wellFormed _ (p .0) .most in
+    (record { accepted = p .0; map-room = omega arith; spare-room = omega arith; left = p .1 .1 .0; right = p .1 .0 }, (p .1 .1 .1 .1, λ e. p .1 .1 .1 .0 (sym e)))
 
--- src/lib.rt:38:1
 same-length : tie.Need-same-length
 same-length c = search needs
 
--- src/lib.rt:38:1
 returns : tie.Need-returns
 returns c = search needs
 
--- src/lib.rt:38:1
 same-length-2 : tie.Need-same-length-2
 same-length-2 c = search needs
 
--- src/lib.rt:38:1
 returns-2 : tie.Need-returns-2
-returns-2 c = ?
+returns-2 c = 
+    let e = c .before .before .before .before .separate-in2 .ensures in
+    (earliest-swap _ _ _ _ (e .0), e .1)
 
 pub separate-spec : {M : Type 1} → statement M
 separate-spec =
