@@ -1,7 +1,7 @@
 // The walk over the lines of the tables. An argument before the varied one runs over first members only: where a map is kept along
 // earlier arguments, its other members give nothing new. Each function splits m, which has `count` blocks, and gives their number.
 ghost use mathlib.Core.Path.{_≡_};
-ghost use Prim.Native.Nat.{ℕ, _+_, _*_, _^_, _<_, _≤_};
+ghost use Prim.Native.Nat.{_+_, _*_, _^_, _<_, _≤_};
 ghost use lib.ListN.{length};
 ghost use Rattle.equivalence.specs.Equivalence.{byte};
 ghost use Rattle.equivalence.specs.Kernel.{Canonical, names};

@@ -1,11 +1,12 @@
-use Prim.Native.Nat.{ℕ, _+_, _-_, _^_, _≤_, _<_}
+-- `split_all` meets its contract. The loop has split along the tables below j, and the next begins at `base`.
+use Prim.Native.Nat.{ℕ, _+_, _-_, _^_, _≤_}
 use mathlib.Core.Path.{_≡_, refl, sym, _∙_}
 use native.Mathlib.Omega.{arith}
 use lib.ListN.{length, getD}
 use Rattle.algebra.specs.Algebra.{Algebra, algebraOf}
 use Rattle.algebra.specs.Translations.{tableStart}
 use Rattle.algebra.proofs.Accepted.{WellFormed, accepted-wellFormed}
-use Rattle.refinement.specs.Splitting.{Table, Any, First, Lent, Split}
+use Rattle.refinement.specs.Splitting.{Table, Any, First, Split}
 use Rattle.refinement.proofs.Splits.{split-none, split-next, split-said}
 use Rattle.refinement.proofs.Tables.{table-from}
 use Rattle.refinement.proofs.Compatibility.{Tables, tables-compatible, compatible-tables, start-zero, start-next, table-room, accepted-lent}
