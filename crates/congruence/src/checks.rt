@@ -64,7 +64,14 @@ pub fn contained_check(n: usize, arities: &[u8], cells: &[u8], map: &[u8], room:
 }
 
 // Separate's tests.
-pub fn separate_check(n: usize, arities: &[u8], cells: &[u8], v: usize, w: usize, room: usize) -> Check
+pub fn separate_check(
+    n: usize,
+    arities: &[u8],
+    cells: &[u8],
+    v: usize,
+    w: usize,
+    room: usize,
+) -> Check
     ensures { λ r. ⌜ r ≡ lowest (algebraTests (algebraOf n (now (arities .entry)) (now (cells .entry))) ++ (elementsTest n v w ∷ spaceTest n room ∷ equalTest v w ∷ [])) ⌝ }
 {
     let check = algebra::check(n, arities, cells);
