@@ -1,5 +1,6 @@
 // The services over an algebra: the congruences they give, the answers and the lent bytes.
 mod checks;
+pub mod extremal;
 
 // What Generate answers: how many merges made the congruence.
 pub enum Generated {
