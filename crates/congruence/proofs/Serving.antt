@@ -2,27 +2,28 @@
 -- bytes, where a test declines and where all pass.
 use Prim.Native.Nat.{ℕ, _≤_, _<_, _%_}
 use mathlib.Core.Bool.{Bool, true, false, not}
-use mathlib.Core.List.{List, _∷_, _++_}
+use mathlib.Core.List.{List, [], _∷_, _++_}
 use mathlib.Core.Logic.{inl, inr}
 use mathlib.Core.Path.{_≡_, sym, ap, _∙_}
 use native.Mathlib.Omega.{arith}
 use lib.Dec.{T, eqb, ltb, T-not, not-T, eqb→eq, ltb→lt, lt→ltb}
 use lib.ListN.{length, getD}
-use Rattle.equivalence.specs.Equivalence.{Map}
+use Rattle.equivalence.specs.Equivalence.{Map, isMap, blocks}
 use Rattle.equivalence.specs.Lists.{every}
-use Rattle.equivalence.specs.Refusal.{Test, lowest, written, serve}
-use Rattle.equivalence.proofs.Refusals.{lowest-next, lowest-here, lowest-append, lowest-failed, passed-append, serve-passed, serve-failed}
+use Rattle.equivalence.specs.Refusal.{Test, lowest, mapTest, spaceTest, written, serve}
+use Rattle.equivalence.proofs.Maps.{isMap-of}
+use Rattle.equivalence.proofs.Refusals.{space-passed, lowest-next, lowest-here, of-passed, lowest-append, lowest-failed, passed-append, serve-passed, serve-failed, of-mapTest, space-refused, of-spaceTest}
 use Rattle.equivalence.proofs.Tests.{T?, or-left, or-right, or-cases, eq→eqb, T-of, not-T-of}
 use Rattle.algebra.specs.Accepted.{algebraTests, Accepted}
-use Rattle.algebra.specs.Algebra.{Algebra}
+use Rattle.algebra.specs.Algebra.{Algebra, cellCount}
 use Rattle.algebra.specs.Congruence.{isCongruence}
 use Rattle.algebra.proofs.Accepted.{every-at}
-use Rattle.equivalence.specs.declared.Refusal.{Refusal}
-use Rattle.equivalence.specs.declared.Refusal.the-variants.{Range, Equal, NotCongruence}
-use Rattle.equivalence.specs.declared.Check.{Check}
-use Rattle.equivalence.specs.declared.Check.the-variants.{Passed, Failed}
 use Rattle.congruence.specs.Calls.{pairsTest, elementsTest, equalTest, congruenceTest}
 use Rattle.congruence.proofs.LeastCongruence.{Below}
+use Rattle.equivalence.specs.declared.Refusal.{Refusal}
+use Rattle.equivalence.specs.declared.Refusal.the-variants.{Range, Space, Equal, NotCongruence}
+use Rattle.equivalence.specs.declared.Check.{Check}
+use Rattle.equivalence.specs.declared.Check.the-variants.{Passed, Failed}
 
 -- ---- the algebra's tests, and those behind them
 
@@ -124,6 +125,46 @@ module _ (a : Algebra) (m : Map) (rest : List Test) where
   pub congruence-passed : {r : Bool} → r ≡ isCongruence a m → not r ≡ false → lowest (congruenceTest a m ∷ rest) ≡ lowest rest
   unfolding congruenceTest
   congruence-passed e f = lowest-next (congruenceTest a m) rest (not-T-of (ap not (sym e) ∙ f))
+
+-- ---- 9, where a function measured what is wanted
+
+module _ (wanted lent : ℕ) (rest : List Test) {measured : ℕ} (e : measured ≡ wanted) where
+  pub measured-refused : lent < measured → lowest (spaceTest wanted lent ∷ rest) ≡ Failed Space
+  measured-refused h = space-refused wanted lent rest (omega arith)
+
+  pub measured-passed : measured ≤ lent → lowest (spaceTest wanted lent ∷ rest) ≡ lowest rest
+  measured-passed h = space-passed wanted lent rest (omega arith)
+
+-- ---- what a call may rely on once its tests have passed
+
+module _ (a : Algebra) (room : ℕ) where
+  pub of-generateTests : (ps : List ℕ) → Passed ≡ lowest (algebraTests a ++ (pairsTest (a .size) ps ∷ spaceTest (a .size) room ∷ [])) → Accepted a × Below (a .size) ps × (a .size ≤ room)
+  of-generateTests ps e =
+      let p = of-checked a (pairsTest (a .size) ps ∷ spaceTest (a .size) room ∷ []) e in
+      let q = of-passed (pairsTest (a .size) ps) (spaceTest (a .size) room ∷ []) (p .1) in
+      (p .0, of-pairsTest (a .size) ps (q .0), of-spaceTest (a .size) room (of-passed (spaceTest (a .size) room) [] (q .1) .0))
+
+  pub of-containedTests : (m : Map) → Passed ≡ lowest (algebraTests a ++ (mapTest (a .size) m ∷ spaceTest (a .size) room ∷ [])) → Accepted a × T (isMap (a .size) m) × (a .size ≤ room)
+  of-containedTests m e =
+      let p = of-checked a (mapTest (a .size) m ∷ spaceTest (a .size) room ∷ []) e in
+      let q = of-passed (mapTest (a .size) m) (spaceTest (a .size) room ∷ []) (p .1) in
+      (p .0, isMap-of (a .size) m (of-mapTest (a .size) m (q .0)), of-spaceTest (a .size) room (of-passed (spaceTest (a .size) room) [] (q .1) .0))
+
+  pub of-separateTests : (v w : ℕ) → Passed ≡ lowest (algebraTests a ++ (elementsTest (a .size) v w ∷ spaceTest (a .size) room ∷ equalTest v w ∷ []))
+      → Accepted a × ((v < a .size) × (w < a .size)) × (a .size ≤ room) × ¬ (v ≡ w)
+  of-separateTests v w e =
+      let p = of-checked a (elementsTest (a .size) v w ∷ spaceTest (a .size) room ∷ equalTest v w ∷ []) e in
+      let q = of-passed (elementsTest (a .size) v w) (spaceTest (a .size) room ∷ equalTest v w ∷ []) (p .1) in
+      let r = of-passed (spaceTest (a .size) room) (equalTest v w ∷ []) (q .1) in
+      (p .0, of-elementsTest (a .size) v w (q .0), of-spaceTest (a .size) room (r .0), of-equalTest v w (of-passed (equalTest v w) [] (r .1) .0))
+
+  pub of-quotientTests : (m : Map) → Passed ≡ lowest (algebraTests a ++ (mapTest (a .size) m ∷ spaceTest (cellCount (blocks (a .size) m) (a .arities)) room ∷ congruenceTest a m ∷ []))
+      → Accepted a × T (isMap (a .size) m) × (cellCount (blocks (a .size) m) (a .arities) ≤ room)
+  of-quotientTests m e =
+      let wanted : ℕ = cellCount (blocks (a .size) m) (a .arities) in
+      let p = of-checked a (mapTest (a .size) m ∷ spaceTest wanted room ∷ congruenceTest a m ∷ []) e in
+      let q = of-passed (mapTest (a .size) m) (spaceTest wanted room ∷ congruenceTest a m ∷ []) (p .1) in
+      (p .0, isMap-of (a .size) m (of-mapTest (a .size) m (q .0)), of-spaceTest wanted room (of-passed (spaceTest wanted room) (congruenceTest a m ∷ []) (q .1) .0))
 
 -- ---- the answer, and the lent bytes afterwards
 

@@ -22,7 +22,14 @@ pub fn generated_into(n: usize, arities: &[u8], cells: &[u8], pairs: &[u8], out:
 }
 
 // The map m becomes the least congruence that holds what m holds, and x and y. How many blocks that cost.
-pub fn extended_into(m: &mut [u8], n: usize, arities: &[u8], cells: &[u8], x: usize, y: usize) -> usize
+pub fn extended_into(
+    m: &mut [u8],
+    n: usize,
+    arities: &[u8],
+    cells: &[u8],
+    x: usize,
+    y: usize,
+) -> usize
     requires { ⌜ Accepted (algebraOf n (now arities) (now cells)) ⌝ }
     requires { ⌜ n ≤ length (now m) ⌝ }
     requires { ⌜ Canonical n (byte (now m)) ⌝ }
