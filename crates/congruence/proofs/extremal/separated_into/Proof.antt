@@ -21,7 +21,7 @@ returns : tie.Need-returns
 returns c =
     let s = c .before .before .before .before .before .before .before in
     let p = s .pre .1 in
-    separated-written (algebra s) (well-formed s) (s .args .out .now) (c .before .before .separate .last .0) (p .1 .1 .1) (search needs) (s .args .v) (s .args .w) (p .0) (p .1 .0) (c .before .before .separate .ensures .0) (c .before .before .separate .ensures .1)
+    separated-written (algebra s) (well-formed s) (s .args .out .now) (c .before .before .separate .last .1 .1 .1 .1 .1 .0) (p .1 .1 .1) (search needs) (s .args .v) (s .args .w) (p .0) (p .1 .0) (c .before .before .separate .ensures .0) (c .before .before .separate .ensures .1)
 
 pub separated-into-spec : {M : Type 1} → statement M
 separated-into-spec = tie.close (tie.spec separate-requires same-length returns)
