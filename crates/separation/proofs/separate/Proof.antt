@@ -13,7 +13,7 @@ slice-aggregate-separate-in-2 : tie.Need-slice-aggregate-separate-in-2
 slice-aggregate-separate-in-2 c = search needs
 
 separate-in-requires : tie.Need-separate-in-requires
-separate-in-requires c κs =
+separate-in-requires c κs = 
     let p = c .before .before .before .before .before .before .before .pre in
     let n = accepted-wellFormed _ (p .0) .most in
     (record { accepted = p .0; map-room = omega arith; spare-room = omega arith; left = p .1 .0; right = p .1 .1 .0 }, (p .1 .1 .1 .1, p .1 .1 .1 .0))
@@ -25,7 +25,7 @@ slice-aggregate-separate-in-4 : tie.Need-slice-aggregate-separate-in-4
 slice-aggregate-separate-in-4 c = search needs
 
 separate-in-requires-2 : tie.Need-separate-in-requires-2
-separate-in-requires-2 c κs =
+separate-in-requires-2 c κs = 
     let p = c .before .before .before .before .before .before .before .pre in
     let n = accepted-wellFormed _ (p .0) .most in
     (record { accepted = p .0; map-room = omega arith; spare-room = omega arith; left = p .1 .1 .0; right = p .1 .0 }, (p .1 .1 .1 .1, λ e. p .1 .1 .1 .0 (sym e)))
@@ -40,7 +40,7 @@ same-length-2 : tie.Need-same-length-2
 same-length-2 c = search needs
 
 returns-2 : tie.Need-returns-2
-returns-2 c =
+returns-2 c = 
     let e = c .before .before .before .before .separate-in2 .ensures in
     (earliest-swap _ _ _ _ (e .0), e .1)
 

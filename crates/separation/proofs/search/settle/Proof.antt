@@ -11,7 +11,7 @@ cast-if1 : tie.Need-cast-if1
 cast-if1 c = omega (arith, c .slice-known3 .given (c .before .before .before .before .before .args .x))
 
 returns : tie.Need-returns
-returns c =
+returns c = 
     let s = c .before .before .before .before .before .before in
     settled-skip _ _ _ _ _ _ (s .pre .1 .1 .1) (omega arith) (omega arith) (λ p. absurd (omega (arith, p .0)))
 
@@ -22,7 +22,7 @@ cast-if2 : tie.Need-cast-if2
 cast-if2 c = omega (arith, c .slice-known4 .given (c .before .before .before .before .before .before .before .args .y))
 
 returns-2 : tie.Need-returns-2
-returns-2 c =
+returns-2 c = 
     let s = c .before .before .before .before .before .before .before .before in
     settled-skip _ _ _ _ _ _ (s .pre .1 .1 .1) (omega arith) (omega arith) (λ p. absurd (omega (arith, p .1)))
 

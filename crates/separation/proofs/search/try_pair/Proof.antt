@@ -8,7 +8,7 @@ copy-requires : tie.Need-copy-requires
 copy-requires c κs = search needs
 
 extend-apart-requires : tie.Need-extend-apart-requires
-extend-apart-requires c κs =
+extend-apart-requires c κs = 
     let s = c .before .before .before .before .before .before .before .before .before .before in
     let r = s .pre .0 in
     let t = s .pre .1 .1 .1 in
@@ -21,7 +21,7 @@ same-length-2 : tie.Need-same-length-2
 same-length-2 c = search needs
 
 returns : tie.Need-returns
-returns c =
+returns c = 
     let s = c .before .before .before .before .before .before .before .before .before .before .before .before .before .before in
     let e = c .before .before .before .extend-apart .ensures .0 in
     settled-take _ _ _ _ _ _ (s .pre .1 .1 .1) (omega arith) (omega arith) _ (e .closed (c .if1 .taken)) (e .apart (c .if1 .taken))
@@ -36,7 +36,7 @@ same-length-4 : tie.Need-same-length-4
 same-length-4 c = search needs
 
 returns-2 : tie.Need-returns-2
-returns-2 c =
+returns-2 c = 
     let s = c .before .before .before .before .before .before .before .before .before .before .before .before .before .before .before .before .before .before .before in
     let x = c .before .before .before .before .before .before .before .before .extend-apart .ensures in
     let same = copied-back (s .args .n) (s .args .m .now) (c .before .before .before .before .before .before .before .before .extend-apart .last .0) (c .before .before .copy2 .last .1 .0) (s .args .spare .now) (c .before .before .before .before .before .before .before .before .before .before .before .before .copy .last .1 .0) (omega arith) (c .before .before .before .before .before .before .before .before .before .before .before .before .copy .ensures) (x .1) (c .before .before .copy2 .ensures) in
