@@ -1,0 +1,27 @@
+use Prim.Native.Nat.{ℕ}
+use mathlib.Core.List.{List}
+use mathlib.Core.Path.{_≡_, refl, sym, ap, _∙_}
+use native.Mathlib.Omega.{arith}
+use Rattle.congruence.specs.Outcome.{packed, generatedOutcome, writtenOutcome, decomposedOutcome}
+use Rattle.equivalence.specs.declared.Written.{Written}
+use borrow.Author.Needs.{needs}
+use Rattle.worksheet.proofs.congruence_separate.Statement.{statement}
+use Rattle.worksheet.proofs.congruence_separate.Tie as tie
+
+separate-requires : tie.Need-separate-requires
+separate-requires c κs = search needs
+
+written-number-requires : tie.Need-written-number-requires
+written-number-requires c κs = search needs
+
+same-length : tie.Need-same-length
+same-length c = search needs
+
+returns : tie.Need-returns
+returns c = 
+    let e = c .before .before .before .separate .ensures in
+    (c .written-number .ensures ∙ ap (λ (r : Written × List ℕ). packed (writtenOutcome (r .0))) e, ap (λ (r : Written × List ℕ). r .1) e)
+
+pub congruence-separate-spec : {M : Type 1} → statement M
+congruence-separate-spec =
+    tie.close (tie.spec separate-requires written-number-requires same-length returns)

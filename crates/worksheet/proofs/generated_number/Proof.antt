@@ -1,0 +1,37 @@
+use mathlib.Core.Path.{_≡_, refl, sym, ap, _∙_}
+use native.Mathlib.Omega.{arith}
+use Rattle.congruence.specs.Outcome.{packed, generatedOutcome, writtenOutcome, decomposedOutcome}
+use Rattle.worksheet.proofs.Numbers.{merges-outcome, generate-refused}
+use Rattle.congruence.specs.declared.Generated.{Generated}
+use borrow.Author.Needs.{needs}
+use Rattle.worksheet.proofs.generated_number.Statement.{statement}
+use Rattle.worksheet.proofs.generated_number.Tie as tie
+
+enum-known-answer : tie.Need-enum-known-answer
+enum-known-answer c = search needs
+
+succeeded-requires : tie.Need-succeeded-requires
+succeeded-requires c κs = search needs
+
+enum-known-answer-2 : tie.Need-enum-known-answer-2
+enum-known-answer-2 c = search needs
+
+refused-requires : tie.Need-refused-requires
+refused-requires c κs = search needs
+
+returns : tie.Need-returns
+returns c = c .succeeded .ensures ∙ ap packed (sym (merges-outcome _)) ∙ ap (λ (a : Generated). packed (generatedOutcome a)) (sym (c .before .before .answer .given .1))
+
+returns-2 : tie.Need-returns-2
+returns-2 c = c .refused .ensures ∙ ap packed (sym (generate-refused _)) ∙ ap (λ (a : Generated). packed (generatedOutcome a)) (sym (c .before .before .answer2 .given .1))
+
+pub generated-number-spec : {M : Type 1} → statement M
+generated-number-spec =
+    tie.close
+    (tie.spec
+    enum-known-answer
+    succeeded-requires
+    enum-known-answer-2
+    refused-requires
+    returns
+    returns-2)
