@@ -148,14 +148,24 @@ fn edges() {
     contained(4, b"\x01", b"\x01\x02\x03\x00", b"\x00\x01\x00\x03");
     separate(4, b"\x01", b"\x01\x00\x03\x02", 1, 0);
     separate(3, b"\x02", b"\x00\x00\x00\x00\x01\x01\x00\x01\x02", 2, 1);
-    generate(3, b"\x02", b"\x00\x00\x00\x00\x01\x01\x00\x01\x02", b"\x00\x02");
+    generate(
+        3,
+        b"\x02",
+        b"\x00\x00\x00\x00\x01\x01\x00\x01\x02",
+        b"\x00\x02",
+    );
 }
 
 // Quotients of U, of a nullary operation beside it, and of the binary minimum; a buffer with just the room wanted.
 fn quotients() {
     quotient(4, b"\x01", b"\x01\x00\x03\x02", b"\x00\x01\x00\x01");
     quotient(4, b"\x01\x00", b"\x01\x00\x03\x02\x03", b"\x00\x00\x02\x02");
-    quotient(3, b"\x02", b"\x00\x00\x00\x00\x01\x01\x00\x01\x02", b"\x00\x01\x01");
+    quotient(
+        3,
+        b"\x02",
+        b"\x00\x00\x00\x00\x01\x01\x00\x01\x02",
+        b"\x00\x01\x01",
+    );
     quotient_short(4, b"\x01", b"\x01\x00\x03\x02", b"\x00\x00\x02\x02");
 }
 
@@ -163,7 +173,12 @@ fn quotients() {
 fn refused_algebras() {
     generate(65, b"", b"", b"");
     generate(0, b"", b"", b"");
-    contained(2, b"\x00\x00\x00\x00\x00\x00\x00\x00\x00\x00\x00\x00\x00\x00\x00\x00\x00", b"", b"\x00\x01");
+    contained(
+        2,
+        b"\x00\x00\x00\x00\x00\x00\x00\x00\x00\x00\x00\x00\x00\x00\x00\x00\x00",
+        b"",
+        b"\x00\x01",
+    );
     separate(2, b"\x04", b"", 0, 1);
     quotient(64, b"\x03", b"", b"");
     generate(2, b"\x01", b"\x00", b"");
