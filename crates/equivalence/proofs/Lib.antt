@@ -3,6 +3,7 @@ pub mod Best
 pub mod Bytes
 pub mod BlockNumbers
 pub mod Earlier
+pub mod Foremost
 pub mod Joins
 pub mod Kernels
 pub mod Lists

@@ -3,6 +3,7 @@
 pub mod blocks;
 pub mod lattice;
 pub mod map;
+pub mod order;
 
 // The reasons to decline, in the order of document 01's table. Reason 11 carries two elements: it is a case of `Decomposed`.
 pub enum Refusal {
@@ -40,4 +41,10 @@ pub enum Written {
 pub enum Place {
     At(usize),
     Nowhere,
+}
+
+// Two elements.
+pub struct Pair {
+    pub x: usize,
+    pub y: usize,
 }
