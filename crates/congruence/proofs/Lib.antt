@@ -11,3 +11,5 @@ pub mod GreatestCongruence
 pub mod LeastCongruence
 pub mod Quotients
 pub mod Separation
+pub mod Listings
+pub mod Pruning

@@ -4,3 +4,4 @@ pub mod Certify
 pub mod Calls
 pub mod Outcome
 pub mod Demands
+pub mod Listing

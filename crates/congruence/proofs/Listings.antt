@@ -1,0 +1,173 @@
+-- Lists of maps in a slice: maps alike on n bytes, what a listing holds at each number, stretches laid one after the other, and meets of
+-- parts of a list.
+use Prim.Native.Nat.{ℕ, suc, _+_, _-_, _*_, _≤_, _<_}
+use mathlib.Core.List.{List, [], _∷_, _++_, List·Memᴰ as Member, List·Memᴰ·head as here, List·Memᴰ·tail as there, Memᴰ·append-left as append-left, Memᴰ·append-right as append-right, List·Memᴰ·append-cases as append-cases, append-assoc, append-nil}
+use mathlib.Core.Logic.{inl, inr}
+use mathlib.Core.Path.{_≡_, refl, sym, ap, _∙_}
+use native.Mathlib.Nat.{suc-mul, mul-le-mul-right}
+use native.Mathlib.Omega.{arith}
+use lib.ListN.{length, getD, take, drop, length-map, length-append, List·getD-append, drop-of-length-le, length-drop}
+use lib.Seq.{getD-take, ext-getD, take-all, length-take-le, drop-drop, take-at, drop-at, drop-cons}
+use borrow.Rule.Slice.PartMut.{putMid, midOf}
+use Rattle.equivalence.specs.Equivalence.{Map, byte, whole, isIdentity, meet, meetAll}
+use Rattle.equivalence.specs.Kernel.{Canonical}
+use Rattle.equivalence.specs.Lists.{upTo, concat, stretch}
+use Rattle.equivalence.specs.Refusal.{written}
+use Rattle.equivalence.proofs.Bytes.{canonical-of}
+use Rattle.equivalence.proofs.Lists.{upTo-length, table-at}
+use Rattle.equivalence.proofs.Maps.{IsMap, of-isMap, map-ext, whole-map, whole-holds, isIdentity-of, of-isIdentity}
+use Rattle.equivalence.proofs.Meets.{meet-map, meet-holds, of-meet, meetAll-map, meetAll-holds, of-meetAll}
+use Rattle.equivalence.proofs.Stretches.{concat-append, stretch-concat}
+use Rattle.equivalence.proofs.Tests.{T?, true-is, false-is}
+use Rattle.congruence.specs.Listing.{listing, MapsListed}
+use Rattle.division.specs.Tables.{laid}
+use Rattle.division.proofs.Walks.{laid-laid}
+
+-- ---- maps alike on their first n bytes
+
+abbrev pub Alike : ℕ → Map → Map → Type 0
+Alike n a b = (x : ℕ) → x < n → byte a x ≡ byte b x
+
+pub alike-take : (n : ℕ) (a : Map) → Alike n (take n a) a
+alike-take n a x l = getD-take n a x 0 l
+
+pub alike-written : (n : ℕ) (m lent : Map) → length m ≡ n → Alike n (written m lent) m
+unfolding written
+alike-written n m lent e x l = List·getD-append m (drop (length m) lent) 0 x (omega arith)
+
+pub take-written : (n : ℕ) (m lent : Map) → length m ≡ n → take n (written m lent) ≡ m
+unfolding written
+take-written n m lent e = take-at m (drop (length m) lent) n e
+
+pub alike-canonical : (n : ℕ) (a b : Map) → Alike n a b → Canonical n (byte a) → Canonical n (byte b)
+alike-canonical n a b g c =
+    record {
+      below = λ x l. rw (← g x l) (c .below x l);
+      root = λ x l. let k : byte a x < n = omega (arith, c .below x l) in rw (← g x l, ← g (byte a x) k) (c .root x l);
+    }
+
+pub alike-meet : (n : ℕ) (a a′ b b′ : Map) → Alike n a a′ → Alike n b b′ → meet n a b ≡ meet n a′ b′
+alike-meet n a a′ b b′ g h =
+    map-ext n (meet n a b) (meet n a′ b′) (meet-map n a b) (meet-map n a′ b′)
+    (λ x y l k e. let r = of-meet n a b x y l k e in meet-holds n a′ b′ x y l k (sym (g x l) ∙ r .0 ∙ g y k) (sym (h x l) ∙ r .1 ∙ h y k))
+    (λ x y l k e. let r = of-meet n a′ b′ x y l k e in meet-holds n a b x y l k (g x l ∙ r .0 ∙ sym (g y k)) (h x l ∙ r .1 ∙ sym (h y k)))
+
+pub alike-isIdentity : (n : ℕ) (a b : Map) → Alike n a b → isIdentity n a ≡ isIdentity n b
+alike-isIdentity n a b g =
+    elim (T? (isIdentity n b)) [
+      | yes t ↦ sym (true-is (isIdentity n a) (isIdentity-of n a (λ x y l k e. of-isIdentity n b t x y l k (sym (g x l) ∙ e ∙ g y k)))) ∙ true-is (isIdentity n b) t
+      | no t ↦ sym (false-is (isIdentity n a) (λ s. t (isIdentity-of n b (λ x y l k e. of-isIdentity n a s x y l k (g x l ∙ e ∙ sym (g y k)))))) ∙ false-is (isIdentity n b) t
+    ]
+
+-- ---- meets of parts of a list
+
+pub meet-comm : (n : ℕ) (a b : Map) → meet n a b ≡ meet n b a
+meet-comm n a b =
+    map-ext n (meet n a b) (meet n b a) (meet-map n a b) (meet-map n b a)
+    (λ x y l k e. let r = of-meet n a b x y l k e in meet-holds n b a x y l k (r .1) (r .0))
+    (λ x y l k e. let r = of-meet n b a x y l k e in meet-holds n a b x y l k (r .1) (r .0))
+
+pub meetAll-append : (n : ℕ) (ms ns : List Map) → meetAll n (ms ++ ns) ≡ meet n (meetAll n ms) (meetAll n ns)
+meetAll-append n ms ns =
+    map-ext n (meetAll n (ms ++ ns)) (meet n (meetAll n ms) (meetAll n ns)) (meetAll-map n (ms ++ ns)) (meet-map n (meetAll n ms) (meetAll n ns))
+    (λ x y l k e. let h = of-meetAll n (ms ++ ns) x y l k e in
+    meet-holds n (meetAll n ms) (meetAll n ns) x y l k (meetAll-holds n ms x y l k (λ m i. h m (append-left ns i))) (meetAll-holds n ns x y l k (λ m i. h m (append-right ms i))))
+    (λ x y l k e. let r = of-meet n (meetAll n ms) (meetAll n ns) x y l k e in
+    meetAll-holds n (ms ++ ns) x y l k (λ m i. elim (append-cases ms i) [ inl j ↦ of-meetAll n ms x y l k (r .0) m j | inr j ↦ of-meetAll n ns x y l k (r .1) m j ]))
+
+-- one map more behind a list
+pub meetAll-snoc : (n : ℕ) (ms : List Map) (m : Map) → meetAll n (ms ++ (m ∷ [])) ≡ meet n (meetAll n ms) m
+unfolding meetAll
+meetAll-snoc n ms m =
+    meetAll-append n ms (m ∷ [])
+    ∙ map-ext n (meet n (meetAll n ms) (meet n m (whole n))) (meet n (meetAll n ms) m) (meet-map n (meetAll n ms) (meet n m (whole n))) (meet-map n (meetAll n ms) m)
+    (λ x y l k e. let r = of-meet n (meetAll n ms) (meet n m (whole n)) x y l k e in meet-holds n (meetAll n ms) m x y l k (r .0) (of-meet n m (whole n) x y l k (r .1) .0))
+    (λ x y l k e. let r = of-meet n (meetAll n ms) m x y l k e in
+    meet-holds n (meetAll n ms) (meet n m (whole n)) x y l k (r .0) (meet-holds n m (whole n) x y l k (r .1) (whole-holds n x y l k)))
+
+pub whole-at : (n x : ℕ) → x < n → byte (whole n) x ≡ 0
+whole-at n x l = let w = whole-map n in omega (arith, whole-holds n x 0 l (omega arith), w .low 0 (omega arith))
+
+-- ---- what a listing holds
+
+pub listing-length : (n k : ℕ) (bytes : List ℕ) → length (listing n k bytes) ≡ k
+unfolding listing
+listing-length n k bytes = length-map (upTo k) (stretch n bytes) ∙ upTo-length k
+
+pub listing-at : (n k : ℕ) (bytes : List ℕ) (i : ℕ) → i < k → getD (listing n k bytes) i [] ≡ stretch n bytes i
+unfolding listing
+listing-at n k bytes i l = table-at (stretch n bytes) k i [] l
+
+-- the listing from number i on begins with map i
+pub listing-from : (n k : ℕ) (bytes : List ℕ) (i : ℕ) → i < k → drop i (listing n k bytes) ≡ stretch n bytes i ∷ drop (suc i) (listing n k bytes)
+listing-from n k bytes i l =
+    rw (drop-cons (listing n k bytes) i [] (omega (arith, listing-length n k bytes)), listing-at n k bytes i l)
+
+-- maps of n bytes, laid one after the other, are listed
+pub listing-concat : (n : ℕ) (ms : List Map) (rest : List ℕ) → ((i : ℕ) → i < length ms → length (getD ms i []) ≡ n) → listing n (length ms) (concat ms ++ rest) ≡ ms
+listing-concat n ms rest h =
+    ext-getD [] (listing n (length ms) (concat ms ++ rest)) ms (listing-length n (length ms) (concat ms ++ rest))
+    (λ i l. let k : i < length ms = omega (arith, listing-length n (length ms) (concat ms ++ rest)) in
+    listing-at n (length ms) (concat ms ++ rest) i k ∙ stretch-concat n ms rest h i k)
+
+module _ {n k : ℕ} {bytes : List ℕ} (p : MapsListed n k bytes) where
+  pub listed-map : (i : ℕ) → i < k → IsMap n (stretch n bytes i)
+  listed-map i l = of-isMap n (stretch n bytes i) (p .each i l)
+
+  -- a map of the list has room
+  pub listed-room : (i : ℕ) → i < k → i * n + n ≤ length bytes
+  listed-room i l = omega (arith, p .room, suc-mul i n, mul-le-mul-right n l)
+
+  -- what begins with map i is canonical, and agrees with it
+  pub listed-alike : (i : ℕ) → Alike n (stretch n bytes i) (drop (i * n) bytes)
+  unfolding stretch
+  listed-alike i = alike-take n (drop (i * n) bytes)
+
+  pub listed-canonical : (i : ℕ) → i < k → Canonical n (byte (drop (i * n) bytes))
+  listed-canonical i l = alike-canonical n (stretch n bytes i) (drop (i * n) bytes) (listed-alike i) (canonical-of n (stretch n bytes i) (listed-map i l))
+
+-- ---- stretches laid
+
+-- what a callee that was lent the bytes from `at` on wrote at their start, said of the whole
+pub put-laid : (at k : ℕ) (lent new : List ℕ) → at ≤ length lent → k ≡ length lent - at → putMid at k lent (written new (midOf at k lent)) ≡ laid lent at new
+unfolding laid
+put-laid at k lent new h e =
+    let all : take k (drop at lent) ≡ drop at lent = take-all k (drop at lent) (omega (arith, length-drop at lent)) in
+    let none : drop k (drop at lent) ≡ [] = drop-of-length-le (drop at lent) {i = k} (omega (arith, length-drop at lent)) in
+    rw (all, none, append-nil (written new (drop at lent)))
+
+-- a map laid is that stretch
+pub laid-stretch : (n i : ℕ) (lent m : List ℕ) → length m ≡ n → i * n + n ≤ length lent → stretch n (laid lent (i * n) m) i ≡ m
+unfolding stretch laid written
+laid-stretch n i lent m e h =
+    rw (drop-at (take (i * n) lent) (m ++ drop (length m) (drop (i * n) lent)) (i * n) (length-take-le (i * n) lent (omega arith)))
+    (take-at m (drop (length m) (drop (i * n) lent)) n e)
+
+-- and the stretches behind it stay
+pub laid-later : (n i j : ℕ) (lent m : List ℕ) → length m ≡ n → i * n + n ≤ length lent → i < j → stretch n (laid lent (i * n) m) j ≡ stretch n lent j
+unfolding stretch laid written
+laid-later n i j lent m e h l =
+    let w : length (take (i * n) lent ++ m) ≡ i * n + n = length-append (take (i * n) lent) m ∙ omega (arith, length-take-le (i * n) lent (omega arith)) in
+    let far : j * n ≡ (i * n + n) + (j * n - (i * n + n)) = omega (arith, suc-mul i n, mul-le-mul-right n l) in
+    let back : List ℕ = drop (length m) (drop (i * n) lent) in
+    ap (take n)
+    (ap (λ (l : List ℕ). drop (j * n) l) (sym (append-assoc (take (i * n) lent) m back))
+    ∙ ap (λ (z : ℕ). drop z ((take (i * n) lent ++ m) ++ back)) far
+    ∙ sym (drop-drop (j * n - (i * n + n)) (i * n + n) ((take (i * n) lent ++ m) ++ back))
+    ∙ ap (drop (j * n - (i * n + n))) (drop-at (take (i * n) lent ++ m) back (i * n + n) w ∙ drop-drop (length m) (i * n) lent ∙ ap (λ (z : ℕ). drop (i * n + z) lent) e)
+    ∙ drop-drop (j * n - (i * n + n)) (i * n + n) lent
+    ∙ ap (λ (z : ℕ). drop z lent) (sym far))
+
+-- one map more behind those written
+pub laid-snoc : (ms : List Map) (m lent : List ℕ) (at : ℕ) → at ≡ length (concat ms) → length (concat ms) ≤ length lent
+    → laid (written (concat ms) lent) at m ≡ written (concat (ms ++ (m ∷ []))) lent
+unfolding concat laid
+laid-snoc ms m lent at e h =
+    let none : 0 + length (concat ms) ≡ length (concat ms) = omega arith in
+    rw (e, concat-append ms (m ∷ []), append-nil m) (rw none at (laid-laid lent 0 (concat ms) m (omega arith)))
+
+pub concat-length : (n : ℕ) (ms : List Map) → ((m : Map) → Member m ms → length m ≡ n) → length (concat ms) ≡ length ms * n
+unfolding concat
+concat-length n [] h = omega arith
+concat-length n (m ∷ ms) h =
+    rw (length-append m (concat ms), h m (here refl), concat-length n ms (λ c i. h c (there i))) (omega (arith, suc-mul (length ms) n))

@@ -1,0 +1,113 @@
+-- Decompose's second loop, over a list of maps in a slice and the meets of its suffixes: what holds when the maps below number i had their
+-- turn (`Pruning`), and the laws that start it, keep it and end it.
+use Prim.Native.Nat.{ℕ, suc, _+_, _*_, _≤_, _<_}
+use mathlib.Core.List.{List, [], _∷_, _++_, List·Memᴰ as Member, List·Memᴰ·not-nil as not-nil, List·Memᴰ·eq-of-singleton as eq-of-singleton, List·Memᴰ·append-cases as append-cases}
+use mathlib.Core.Logic.{inl, inr}
+use mathlib.Core.Path.{_≡_, refl, sym, ap, subst, _∙_}
+use native.Mathlib.Nat.{suc-mul, mul-le-mul-right}
+use native.Mathlib.Numerals.{add-one}
+use native.Mathlib.Omega.{arith}
+use lib.Dec.{T}
+use lib.ListN.{length, getD, take, drop, length-append, drop-of-length-le}
+use lib.Seq.{ext-getD, length-take-le, drop-cons}
+use Rattle.equivalence.specs.Equivalence.{Map, byte, whole, isIdentity, meet, meetAll}
+use Rattle.equivalence.specs.Kernel.{Canonical}
+use Rattle.equivalence.specs.Lists.{concat}
+use Rattle.equivalence.specs.Refusal.{written}
+use Rattle.equivalence.proofs.Bytes.{canonical-of}
+use Rattle.equivalence.proofs.Meets.{meet-map, meetAll-map}
+use Rattle.equivalence.proofs.Tests.{T?, left, pick-yes, pick-no}
+use Rattle.equivalence.proofs.Writing.{written-length}
+use Rattle.congruence.specs.Decompose.{pruned}
+use Rattle.congruence.specs.Listing.{inTurn}
+use Rattle.congruence.proofs.Certificates.{isIdentity-meets, of-isIdentity-meets}
+use Rattle.congruence.proofs.Factors.{pruned-drop, pruned-keep}
+use Rattle.congruence.proofs.Listings.{Alike, alike-take, alike-written, alike-canonical, alike-meet, meetAll-append, meetAll-snoc, laid-snoc, concat-length}
+use Rattle.division.specs.Tables.{laid}
+
+pub record Pruning (n : ℕ) (ms : List Map) (lent : List ℕ) (i count : ℕ) (met out : List ℕ) : Type 0 where
+  pub kept : List Map
+  pub number : length kept ≡ count
+  pub few : count ≤ i
+  pub each : (m : Map) → Member m kept → length m ≡ n
+  pub left : pruned n [] ms ≡ pruned n kept (drop i ms)
+  pub meets : Alike n met (meetAll n kept)
+  pub bytes : out ≡ written (concat kept) lent
+
+pub pruning-start : (n : ℕ) (ms : List Map) (lent met : List ℕ) → Alike n met (whole n) → Pruning n ms lent 0 0 met lent
+unfolding meetAll written concat
+pruning-start n ms lent met g =
+    record { kept = []; number = refl; few = omega arith; each = λ m i. absurd (not-nil i); left = refl; meets = g; bytes = refl }
+
+module _ {n : ℕ} {ms : List Map} {lent : List ℕ} {i count : ℕ} {met out : List ℕ} (p : Pruning n ms lent i count met out) where
+  -- the bytes that are written
+  pub pruning-end : count * n ≡ length (concat (p .kept))
+  pruning-end = ap (λ (k : ℕ). k * n) (sym (p .number)) ∙ sym (concat-length n (p .kept) (p .each))
+
+  pub pruning-canonical : Canonical n (byte met)
+  pruning-canonical =
+      alike-canonical n (meetAll n (p .kept)) met (λ x l. sym (p .meets x l)) (canonical-of n (meetAll n (p .kept)) (meetAll-map n (p .kept)))
+
+  pub pruning-long : i * n ≤ length lent → length out ≡ length lent
+  pruning-long h = rw (p .bytes) (written-length (concat (p .kept)) lent (omega (arith, pruning-end, mul-le-mul-right n (p .few))))
+
+  module _ (m after : List ℕ) (enough : n ≤ length m) (short : length (getD ms i []) ≡ n) (l : i < length ms) (room : length ms * n ≤ length lent)
+      (this : Alike n (getD ms i []) m) (rest : Alike n (meetAll n (drop (suc i) ms)) after) where
+    whole-list : meetAll n (p .kept ++ drop (suc i) ms) ≡ meet n met after
+    whole-list = meetAll-append n (p .kept) (drop (suc i) ms) ∙ alike-meet n (meetAll n (p .kept)) met (meetAll n (drop (suc i) ms)) after (λ x h. sym (p .meets x h)) rest
+
+    from : drop i ms ≡ getD ms i [] ∷ drop (suc i) ms
+    from = drop-cons ms i [] l
+
+    front : take n m ≡ getD ms i []
+    front =
+        let long : length (take n m) ≡ n = length-take-le n m enough in
+        ext-getD 0 (take n m) (getD ms i []) (long ∙ sym short)
+        (λ x h. let k : x < n = omega arith in alike-take n m x k ∙ sym (this x k))
+
+    -- a map that is dropped
+    pub pruning-drop : T (isIdentity n (meet n met after)) → Pruning n ms lent (i + 1) count met out
+    pruning-drop t =
+        record {
+          kept = p .kept;
+          number = p .number;
+          few = omega (arith, p .few);
+          each = p .each;
+          left = rw add-one (p .left ∙ ap (pruned n (p .kept)) from ∙ pruned-drop n (p .kept) (drop (suc i) ms) (getD ms i []) (of-isIdentity-meets n (p .kept ++ drop (suc i) ms) (rw whole-list t)));
+          meets = p .meets;
+          bytes = p .bytes;
+        }
+
+    -- a map that is kept
+    pub pruning-keep : ¬ T (isIdentity n (meet n met after)) → Pruning n ms lent (i + 1) (count + 1) (written (meet n met m) met) (laid out (count * n) (take n m))
+    pruning-keep t =
+        record {
+          kept = p .kept ++ (getD ms i [] ∷ []);
+          number = rw (length-append (p .kept) (getD ms i [] ∷ []), p .number) refl;
+          few = omega (arith, p .few);
+          each = λ c j. elim (append-cases (p .kept) j) [ inl h ↦ p .each c h | inr h ↦ rw (eq-of-singleton h) short ];
+          left = rw add-one (p .left ∙ ap (pruned n (p .kept)) from
+              ∙ pruned-keep n (p .kept) (drop (suc i) ms) (getD ms i []) (λ h. t (rw whole-list at (isIdentity-meets n (p .kept ++ drop (suc i) ms) h))));
+          meets = λ x h. alike-written n (meet n met m) met (meet-map n met m .long) x h
+              ∙ ap (λ (z : Map). byte z x) (alike-meet n met (meetAll n (p .kept)) m (getD ms i []) (p .meets) (λ y k. sym (this y k)) ∙ sym (meetAll-snoc n (p .kept) (getD ms i [])));
+          bytes = ap (λ (z : List ℕ). laid out (count * n) z) front ∙ ap (λ (z : List ℕ). laid z (count * n) (getD ms i [])) (p .bytes)
+              ∙ laid-snoc (p .kept) (getD ms i []) lent (count * n) pruning-end (omega (arith, pruning-end, mul-le-mul-right n (p .few), mul-le-mul-right n l, suc-mul i n));
+        }
+
+    pub pruning-turn : (r : ℕ) (met′ out′ : List ℕ) → (r, (met′, out′)) ≡ inTurn n m after count met out → Pruning n ms lent (i + 1) r met′ out′
+    unfolding inTurn
+    pruning-turn r met′ out′ e =
+        let dropped : ℕ × (Map × List ℕ) = (count, (met, out)) in
+        let kept : ℕ × (Map × List ℕ) = (count + 1, (written (meet n met m) met, laid out (count * n) (take n m))) in
+        elim (T? (isIdentity n (meet n met after))) [
+          | yes t ↦ subst (λ (z : ℕ × (Map × List ℕ)). Pruning n ms lent (i + 1) (z .0) (z .1 .0) (z .1 .1)) (sym (e ∙ pick-yes (isIdentity n (meet n met after)) dropped kept t)) (pruning-drop t)
+          | no t ↦ subst (λ (z : ℕ × (Map × List ℕ)). Pruning n ms lent (i + 1) (z .0) (z .1 .0) (z .1 .1)) (sym (e ∙ pick-no (isIdentity n (meet n met after)) dropped kept t)) (pruning-keep t)
+        ]
+
+  -- when all had their turn, those kept are what `pruned` leaves
+  pub pruning-all : i ≡ length ms → (count ≡ length (pruned n [] ms)) × (out ≡ written (concat (pruned n [] ms)) lent)
+  unfolding pruned
+  pruning-all e =
+      let none : drop i ms ≡ [] = drop-of-length-le ms {i = i} (omega arith) in
+      let is : pruned n [] ms ≡ p .kept = p .left ∙ ap (pruned n (p .kept)) none in
+      rw is (sym (p .number), p .bytes)
