@@ -13,3 +13,4 @@ pub mod Quotients
 pub mod Separation
 pub mod Listings
 pub mod Pruning
+pub mod Gathering
