@@ -10,8 +10,8 @@ use lib.ListN.{length, getD, take, drop, length-map, length-append, List·getD-a
 use lib.Seq.{getD-take, ext-getD, take-all, length-take-le, drop-drop, take-at, drop-at, drop-cons}
 use borrow.Rule.Slice.PartMut.{putMid, midOf}
 use Rattle.equivalence.specs.Equivalence.{Map, byte, whole, isIdentity, meet, meetAll}
-use Rattle.equivalence.specs.Kernel.{Canonical}
-use Rattle.equivalence.specs.Lists.{upTo, concat, stretch}
+use Rattle.equivalence.specs.Kernel.{Canonical, Filled}
+use Rattle.equivalence.specs.Lists.{upTo, first, concat, stretch}
 use Rattle.equivalence.specs.Refusal.{written}
 use Rattle.equivalence.proofs.Bytes.{canonical-of}
 use Rattle.equivalence.proofs.Lists.{upTo-length, table-at}
@@ -19,9 +19,11 @@ use Rattle.equivalence.proofs.Maps.{IsMap, of-isMap, map-ext, whole-map, whole-
 use Rattle.equivalence.proofs.Meets.{meet-map, meet-holds, of-meet, meetAll-map, meetAll-holds, of-meetAll}
 use Rattle.equivalence.proofs.Stretches.{concat-append, stretch-concat}
 use Rattle.equivalence.proofs.Tests.{T?, true-is, false-is}
+use Rattle.equivalence.proofs.Writing.{filled-written}
 use Rattle.congruence.specs.Listing.{listing, MapsListed}
 use Rattle.division.specs.Tables.{laid}
 use Rattle.division.proofs.Walks.{laid-laid}
+use borrow.Rule.Slice.PartMut.{putMid, midOf}
 
 -- ---- maps alike on their first n bytes
 
@@ -46,6 +48,9 @@ alike-canonical n a b g c =
       root = λ x l. let k : byte a x < n = omega (arith, c .below x l) in rw (← g x l, ← g (byte a x) k) (c .root x l);
     }
 
+pub written-canonical : {n : ℕ} {after : List ℕ} (m lent : Map) → after ≡ written m lent → IsMap n m → Canonical n (byte after)
+written-canonical {n} m lent e p = rw e (alike-canonical n m (written m lent) (λ x l. sym (alike-written n m lent (p .long) x l)) (canonical-of n m p))
+
 pub alike-meet : (n : ℕ) (a a′ b b′ : Map) → Alike n a a′ → Alike n b b′ → meet n a b ≡ meet n a′ b′
 alike-meet n a a′ b b′ g h =
     map-ext n (meet n a b) (meet n a′ b′) (meet-map n a b) (meet-map n a′ b′)
@@ -58,6 +63,13 @@ alike-isIdentity n a b g =
       | yes t ↦ sym (true-is (isIdentity n a) (isIdentity-of n a (λ x y l k e. of-isIdentity n b t x y l k (sym (g x l) ∙ e ∙ g y k)))) ∙ true-is (isIdentity n b) t
       | no t ↦ sym (false-is (isIdentity n a) (λ s. t (isIdentity-of n b (λ x y l k e. of-isIdentity n a s x y l k (g x l ∙ e ∙ sym (g y k)))))) ∙ false-is (isIdentity n b) t
     ]
+
+-- a map that was written, copied
+pub copied-written : {n : ℕ} {from : List ℕ} (m old lent after : List ℕ) → from ≡ written m old → IsMap n m → n ≤ length lent → length after ≡ length lent
+    → Filled n (byte from) (byte lent) (byte after) → after ≡ written m lent
+copied-written {n} {from} m old lent after e p fits long f =
+    filled-written n m lent after (p .long) fits long
+    (record { first = λ x l. f .first x l ∙ ap (λ (z : List ℕ). byte z x) e ∙ alike-written n m old (p .long) x l; rest = f .rest })
 
 -- ---- meets of parts of a list
 
