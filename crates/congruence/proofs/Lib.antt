@@ -14,3 +14,4 @@ pub mod Separation
 pub mod Listings
 pub mod Pruning
 pub mod Gathering
+pub mod Suffixes

@@ -3,17 +3,15 @@
 use Prim.Native.Nat.{ℕ, suc, _+_, _-_, _*_, _≤_, _<_}
 use mathlib.Core.List.{List, [], _∷_, _++_, List·Memᴰ as Member, List·Memᴰ·head as here, List·Memᴰ·tail as there, Memᴰ·append-left as append-left, Memᴰ·append-right as append-right, List·Memᴰ·append-cases as append-cases, append-assoc, append-nil}
 use mathlib.Core.Logic.{inl, inr}
-use mathlib.Core.Path.{_≡_, refl, sym, ap, _∙_}
+use mathlib.Core.Path.{_≡_, refl, sym, ap, subst, _∙_}
 use native.Mathlib.Nat.{suc-mul, mul-le-mul-right}
 use native.Mathlib.Omega.{arith}
 use lib.ListN.{length, getD, take, drop, length-map, length-append, List·getD-append, drop-of-length-le, length-drop}
 use lib.Seq.{getD-take, ext-getD, take-all, length-take-le, drop-drop, take-at, drop-at, drop-cons}
-use borrow.Rule.Slice.PartMut.{putMid, midOf}
-use Rattle.equivalence.specs.Equivalence.{Map, byte, whole, isIdentity, meet, meetAll}
+use Rattle.equivalence.specs.Equivalence.{Map, byte, whole, same, isIdentity, meet, meetAll}
 use Rattle.equivalence.specs.Kernel.{Canonical, Filled}
 use Rattle.equivalence.specs.Lists.{upTo, first, concat, stretch}
 use Rattle.equivalence.specs.Refusal.{written}
-use Rattle.equivalence.proofs.Bytes.{canonical-of}
 use Rattle.equivalence.proofs.Lists.{upTo-length, table-at}
 use Rattle.equivalence.proofs.Maps.{IsMap, of-isMap, map-ext, whole-map, whole-holds, isIdentity-of, of-isIdentity}
 use Rattle.equivalence.proofs.Meets.{meet-map, meet-holds, of-meet, meetAll-map, meetAll-holds, of-meetAll}
@@ -25,51 +23,50 @@ use Rattle.division.specs.Tables.{laid}
 use Rattle.division.proofs.Walks.{laid-laid}
 use borrow.Rule.Slice.PartMut.{putMid, midOf}
 
--- ---- maps alike on their first n bytes
+-- ---- slices that begin with the same n bytes: a map, and a slice that begins with it
 
-abbrev pub Alike : ℕ → Map → Map → Type 0
-Alike n a b = (x : ℕ) → x < n → byte a x ≡ byte b x
+pub record Alike (n : ℕ) (a b : List ℕ) : Type 0 where
+  pub same : (x : ℕ) → x < n → byte a x ≡ byte b x
 
-pub alike-take : (n : ℕ) (a : Map) → Alike n (take n a) a
-alike-take n a x l = getD-take n a x 0 l
+module _ {n : ℕ} where
+  pub alike-sym : {a b : List ℕ} → Alike n a b → Alike n b a
+  alike-sym g = record { same = λ x l. sym (g .same x l) }
 
-pub alike-written : (n : ℕ) (m lent : Map) → length m ≡ n → Alike n (written m lent) m
-unfolding written
-alike-written n m lent e x l = List·getD-append m (drop (length m) lent) 0 x (omega arith)
+  pub alike-is : {a b c : List ℕ} → Alike n a b → b ≡ c → Alike n a c
+  alike-is {a} g e = subst (λ (m : List ℕ). Alike n a m) e g
 
-pub take-written : (n : ℕ) (m lent : Map) → length m ≡ n → take n (written m lent) ≡ m
-unfolding written
-take-written n m lent e = take-at m (drop (length m) lent) n e
+  pub alike-take : (a : List ℕ) → Alike n (take n a) a
+  alike-take a = record { same = λ x l. getD-take n a x 0 l }
 
-pub alike-canonical : (n : ℕ) (a b : Map) → Alike n a b → Canonical n (byte a) → Canonical n (byte b)
-alike-canonical n a b g c =
-    record {
-      below = λ x l. rw (← g x l) (c .below x l);
-      root = λ x l. let k : byte a x < n = omega (arith, c .below x l) in rw (← g x l, ← g (byte a x) k) (c .root x l);
-    }
+  pub alike-written : {after : List ℕ} (m lent : List ℕ) → after ≡ written m lent → IsMap n m → Alike n after m
+  unfolding written
+  alike-written m lent e p = record { same = λ x l. rw e (List·getD-append m (drop (length m) lent) 0 x (omega (arith, p .long))) }
 
-pub written-canonical : {n : ℕ} {after : List ℕ} (m lent : Map) → after ≡ written m lent → IsMap n m → Canonical n (byte after)
-written-canonical {n} m lent e p = rw e (alike-canonical n m (written m lent) (λ x l. sym (alike-written n m lent (p .long) x l)) (canonical-of n m p))
+  pub alike-canonical : {a m : List ℕ} → Alike n a m → IsMap n m → Canonical n (byte a)
+  alike-canonical {a} {m} g p =
+      record {
+        below = λ x l. rw (g .same x l) (p .low x l);
+        root = λ x l. let k : byte m x < n = omega (arith, p .low x l) in rw (g .same x l, g .same (byte m x) k) (p .named x l);
+      }
 
-pub alike-meet : (n : ℕ) (a a′ b b′ : Map) → Alike n a a′ → Alike n b b′ → meet n a b ≡ meet n a′ b′
-alike-meet n a a′ b b′ g h =
-    map-ext n (meet n a b) (meet n a′ b′) (meet-map n a b) (meet-map n a′ b′)
-    (λ x y l k e. let r = of-meet n a b x y l k e in meet-holds n a′ b′ x y l k (sym (g x l) ∙ r .0 ∙ g y k) (sym (h x l) ∙ r .1 ∙ h y k))
-    (λ x y l k e. let r = of-meet n a′ b′ x y l k e in meet-holds n a b x y l k (g x l ∙ r .0 ∙ sym (g y k)) (h x l ∙ r .1 ∙ sym (h y k)))
+  pub alike-meet : {a a′ b b′ : List ℕ} → Alike n a a′ → Alike n b b′ → meet n a b ≡ meet n a′ b′
+  alike-meet {a} {a′} {b} {b′} g h =
+      map-ext n (meet n a b) (meet n a′ b′) (meet-map n a b) (meet-map n a′ b′)
+      (λ x y l k e. let r = of-meet n a b x y l k e in meet-holds n a′ b′ x y l k (sym (g .same x l) ∙ r .0 ∙ g .same y k) (sym (h .same x l) ∙ r .1 ∙ h .same y k))
+      (λ x y l k e. let r = of-meet n a′ b′ x y l k e in meet-holds n a b x y l k (g .same x l ∙ r .0 ∙ sym (g .same y k)) (h .same x l ∙ r .1 ∙ sym (h .same y k)))
 
-pub alike-isIdentity : (n : ℕ) (a b : Map) → Alike n a b → isIdentity n a ≡ isIdentity n b
-alike-isIdentity n a b g =
-    elim (T? (isIdentity n b)) [
-      | yes t ↦ sym (true-is (isIdentity n a) (isIdentity-of n a (λ x y l k e. of-isIdentity n b t x y l k (sym (g x l) ∙ e ∙ g y k)))) ∙ true-is (isIdentity n b) t
-      | no t ↦ sym (false-is (isIdentity n a) (λ s. t (isIdentity-of n b (λ x y l k e. of-isIdentity n a s x y l k (g x l ∙ e ∙ sym (g y k)))))) ∙ false-is (isIdentity n b) t
-    ]
+  pub alike-isIdentity : {a b : List ℕ} → Alike n a b → isIdentity n a ≡ isIdentity n b
+  alike-isIdentity {a} {b} g =
+      elim (T? (isIdentity n b)) [
+        | yes t ↦ sym (true-is (isIdentity n a) (isIdentity-of n a (λ x y l k e. of-isIdentity n b t x y l k (sym (g .same x l) ∙ e ∙ g .same y k)))) ∙ true-is (isIdentity n b) t
+        | no t ↦ sym (false-is (isIdentity n a) (λ s. t (isIdentity-of n b (λ x y l k e. of-isIdentity n a s x y l k (g .same x l ∙ e ∙ sym (g .same y k)))))) ∙ false-is (isIdentity n b) t
+      ]
 
--- a map that was written, copied
-pub copied-written : {n : ℕ} {from : List ℕ} (m old lent after : List ℕ) → from ≡ written m old → IsMap n m → n ≤ length lent → length after ≡ length lent
-    → Filled n (byte from) (byte lent) (byte after) → after ≡ written m lent
-copied-written {n} {from} m old lent after e p fits long f =
-    filled-written n m lent after (p .long) fits long
-    (record { first = λ x l. f .first x l ∙ ap (λ (z : List ℕ). byte z x) e ∙ alike-written n m old (p .long) x l; rest = f .rest })
+  -- the n bytes, copied
+  pub copied-written : {from m : List ℕ} (lent after : List ℕ) → Alike n from m → IsMap n m → n ≤ length lent → length after ≡ length lent
+      → Filled n (byte from) (byte lent) (byte after) → after ≡ written m lent
+  copied-written {from} {m} lent after g p fits long f =
+      filled-written n m lent after (p .long) fits long (record { first = λ x l. f .first x l ∙ g .same x l; rest = f .rest })
 
 -- ---- meets of parts of a list
 
@@ -130,23 +127,31 @@ module _ {n k : ℕ} {bytes : List ℕ} (p : MapsListed n k bytes) where
   pub listed-room : (i : ℕ) → i < k → i * n + n ≤ length bytes
   listed-room i l = omega (arith, p .room, suc-mul i n, mul-le-mul-right n l)
 
-  -- what begins with map i is canonical, and agrees with it
-  pub listed-alike : (i : ℕ) → Alike n (stretch n bytes i) (drop (i * n) bytes)
+  -- what begins with map i
+  pub listed-alike : (i : ℕ) → Alike n (drop (i * n) bytes) (stretch n bytes i)
   unfolding stretch
-  listed-alike i = alike-take n (drop (i * n) bytes)
-
-  pub listed-canonical : (i : ℕ) → i < k → Canonical n (byte (drop (i * n) bytes))
-  listed-canonical i l = alike-canonical n (stretch n bytes i) (drop (i * n) bytes) (listed-alike i) (canonical-of n (stretch n bytes i) (listed-map i l))
+  listed-alike i = alike-sym (alike-take (drop (i * n) bytes))
 
 -- ---- stretches laid
 
+-- a part to the end of a slice
+pub part-rest : (at : ℕ) (l : List ℕ) → take (length l - at) (drop at l) ≡ drop at l
+part-rest at l = take-all (length l - at) (drop at l) (omega (arith, length-drop at l))
+
 -- what a callee that was lent the bytes from `at` on wrote at their start, said of the whole
-pub put-laid : (at k : ℕ) (lent new : List ℕ) → at ≤ length lent → k ≡ length lent - at → putMid at k lent (written new (midOf at k lent)) ≡ laid lent at new
+pub put-laid : (at : ℕ) (lent new : List ℕ) → at ≤ length lent → putMid at (length lent - at) lent (written new (midOf at (length lent - at) lent)) ≡ laid lent at new
 unfolding laid
-put-laid at k lent new h e =
-    let all : take k (drop at lent) ≡ drop at lent = take-all k (drop at lent) (omega (arith, length-drop at lent)) in
-    let none : drop k (drop at lent) ≡ [] = drop-of-length-le (drop at lent) {i = k} (omega (arith, length-drop at lent)) in
-    rw (all, none, append-nil (written new (drop at lent)))
+put-laid at lent new h =
+    let none : drop (length lent - at) (drop at lent) ≡ [] = drop-of-length-le (drop at lent) {i = length lent - at} (omega (arith, length-drop at lent)) in
+    rw (part-rest at lent, none, append-nil (written new (drop at lent)))
+
+-- n bytes copied there
+pub copied-laid : {n : ℕ} {from m : List ℕ} (at : ℕ) (lent after : List ℕ) → Alike n from m → IsMap n m → at + n ≤ length lent
+    → length after ≡ length (midOf at (length lent - at) lent) → Filled n (byte from) (byte (midOf at (length lent - at) lent)) (byte after)
+    → putMid at (length lent - at) lent after ≡ laid lent at m
+copied-laid {n} {from} {m} at lent after g p fits long f =
+    let room : n ≤ length (midOf at (length lent - at) lent) = rw (part-rest at lent, length-drop at lent) (omega arith) in
+    ap (putMid at (length lent - at) lent) (copied-written (midOf at (length lent - at) lent) after g p room long f) ∙ put-laid at lent m (omega arith)
 
 -- a map laid is that stretch
 pub laid-stretch : (n i : ℕ) (lent m : List ℕ) → length m ≡ n → i * n + n ≤ length lent → stretch n (laid lent (i * n) m) i ≡ m

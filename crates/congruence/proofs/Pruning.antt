@@ -14,7 +14,6 @@ use Rattle.equivalence.specs.Equivalence.{Map, byte, whole, isIdentity, meet, m
 use Rattle.equivalence.specs.Kernel.{Canonical}
 use Rattle.equivalence.specs.Lists.{concat}
 use Rattle.equivalence.specs.Refusal.{written}
-use Rattle.equivalence.proofs.Bytes.{canonical-of}
 use Rattle.equivalence.proofs.Meets.{meet-map, meetAll-map}
 use Rattle.equivalence.proofs.Tests.{T?, left, pick-yes, pick-no}
 use Rattle.equivalence.proofs.Writing.{written-length}
@@ -22,7 +21,7 @@ use Rattle.congruence.specs.Decompose.{pruned}
 use Rattle.congruence.specs.Listing.{inTurn}
 use Rattle.congruence.proofs.Certificates.{isIdentity-meets, of-isIdentity-meets}
 use Rattle.congruence.proofs.Factors.{pruned-drop, pruned-keep}
-use Rattle.congruence.proofs.Listings.{Alike, alike-take, alike-written, alike-canonical, alike-meet, meetAll-append, meetAll-snoc, laid-snoc, concat-length}
+use Rattle.congruence.proofs.Listings.{Alike, alike-sym, alike-is, alike-take, alike-written, alike-canonical, alike-meet, meetAll-append, meetAll-snoc, laid-snoc, concat-length}
 use Rattle.division.specs.Tables.{laid}
 
 pub record Pruning (n : ℕ) (ms : List Map) (lent : List ℕ) (i count : ℕ) (met out : List ℕ) : Type 0 where
@@ -45,16 +44,15 @@ module _ {n : ℕ} {ms : List Map} {lent : List ℕ} {i count : ℕ} {met out : 
   pruning-end = ap (λ (k : ℕ). k * n) (sym (p .number)) ∙ sym (concat-length n (p .kept) (p .each))
 
   pub pruning-canonical : Canonical n (byte met)
-  pruning-canonical =
-      alike-canonical n (meetAll n (p .kept)) met (λ x l. sym (p .meets x l)) (canonical-of n (meetAll n (p .kept)) (meetAll-map n (p .kept)))
+  pruning-canonical = alike-canonical (p .meets) (meetAll-map n (p .kept))
 
   pub pruning-long : i * n ≤ length lent → length out ≡ length lent
   pruning-long h = rw (p .bytes) (written-length (concat (p .kept)) lent (omega (arith, pruning-end, mul-le-mul-right n (p .few))))
 
   module _ (m after : List ℕ) (enough : n ≤ length m) (short : length (getD ms i []) ≡ n) (l : i < length ms) (room : length ms * n ≤ length lent)
-      (this : Alike n (getD ms i []) m) (rest : Alike n (meetAll n (drop (suc i) ms)) after) where
+      (this : Alike n m (getD ms i [])) (rest : Alike n after (meetAll n (drop (suc i) ms))) where
     whole-list : meetAll n (p .kept ++ drop (suc i) ms) ≡ meet n met after
-    whole-list = meetAll-append n (p .kept) (drop (suc i) ms) ∙ alike-meet n (meetAll n (p .kept)) met (meetAll n (drop (suc i) ms)) after (λ x h. sym (p .meets x h)) rest
+    whole-list = meetAll-append n (p .kept) (drop (suc i) ms) ∙ alike-meet (alike-sym (p .meets)) (alike-sym rest)
 
     from : drop i ms ≡ getD ms i [] ∷ drop (suc i) ms
     from = drop-cons ms i [] l
@@ -63,7 +61,7 @@ module _ {n : ℕ} {ms : List Map} {lent : List ℕ} {i count : ℕ} {met out : 
     front =
         let long : length (take n m) ≡ n = length-take-le n m enough in
         ext-getD 0 (take n m) (getD ms i []) (long ∙ sym short)
-        (λ x h. let k : x < n = omega arith in alike-take n m x k ∙ sym (this x k))
+        (λ x h. let k : x < n = omega arith in alike-take m .same x k ∙ this .same x k)
 
     -- a map that is dropped
     pub pruning-drop : T (isIdentity n (meet n met after)) → Pruning n ms lent (i + 1) count met out
@@ -88,8 +86,7 @@ module _ {n : ℕ} {ms : List Map} {lent : List ℕ} {i count : ℕ} {met out : 
           each = λ c j. elim (append-cases (p .kept) j) [ inl h ↦ p .each c h | inr h ↦ rw (eq-of-singleton h) short ];
           left = rw add-one (p .left ∙ ap (pruned n (p .kept)) from
               ∙ pruned-keep n (p .kept) (drop (suc i) ms) (getD ms i []) (λ h. t (rw whole-list at (isIdentity-meets n (p .kept ++ drop (suc i) ms) h))));
-          meets = λ x h. alike-written n (meet n met m) met (meet-map n met m .long) x h
-              ∙ ap (λ (z : Map). byte z x) (alike-meet n met (meetAll n (p .kept)) m (getD ms i []) (p .meets) (λ y k. sym (this y k)) ∙ sym (meetAll-snoc n (p .kept) (getD ms i [])));
+          meets = alike-is (alike-written (meet n met m) met refl (meet-map n met m)) (alike-meet (p .meets) this ∙ sym (meetAll-snoc n (p .kept) (getD ms i [])));
           bytes = ap (λ (z : List ℕ). laid out (count * n) z) front ∙ ap (λ (z : List ℕ). laid z (count * n) (getD ms i [])) (p .bytes)
               ∙ laid-snoc (p .kept) (getD ms i []) lent (count * n) pruning-end (omega (arith, pruning-end, mul-le-mul-right n (p .few), mul-le-mul-right n l, suc-mul i n));
         }

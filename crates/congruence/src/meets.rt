@@ -51,3 +51,36 @@ pub fn meets_in_identity(n: usize, a: &[u8], b: &[u8]) -> bool
     meet_into(n, a, b, &mut new);
     is_identity(n, &new)
 }
+
+// `met` becomes its meet with the map at byte `at` of `maps`, and is laid from there on in `suffixes`.
+fn meet_back(n: usize, maps: &[u8], at: usize, met: &mut [u8], suffixes: &mut [u8])
+    requires { ⌜ n ≤ 64 ⌝ }
+    requires { ⌜ at + n ≤ length (now maps) ⌝ }
+    requires { ⌜ n ≤ length (now met) ⌝ }
+    requires { ⌜ at + n ≤ length (now suffixes) ⌝ }
+    requires { ⌜ Canonical n (byte (drop at (now maps))) ⌝ }
+    requires { ⌜ Canonical n (byte (now met)) ⌝ }
+    ensures { λ _. ⌜ now (met .exit) ≡ written (meet n (now (met .entry)) (drop at (now (maps .entry)))) (now (met .entry)) ⌝ }
+    ensures { λ _. ⌜ now (suffixes .exit) ≡ laid (now (suffixes .entry)) at (meet n (now (met .entry)) (drop at (now (maps .entry)))) ⌝ }
+{
+    meet_with(n, &maps[at..], met);
+    copy(met, &mut suffixes[at..], n);
+}
+
+// The meet of the maps from number i on is laid at stretch i of `suffixes`, for every i up to their count. `met` is working storage.
+pub fn suffix_meets(n: usize, count: usize, maps: &[u8], met: &mut [u8], suffixes: &mut [u8])
+    requires { ⌜ MapsListed n count (now maps) ⌝ }
+    requires { ⌜ n ≤ length (now met) ⌝ }
+    requires { ⌜ count * n + n ≤ length (now suffixes) ⌝ }
+    ensures { λ _. ⌜ SuffixMeets n (listing n count (now (maps .entry))) (now (suffixes .exit)) ⌝ }
+{
+    let mut i = count;
+    let mut at = count * n;
+    whole_into(met, n);
+    whole_into(&mut suffixes[at..], n);
+    while i > 0 {
+        i -= 1;
+        at -= n;
+        meet_back(n, maps, at, met, suffixes);
+    }
+}

@@ -1,6 +1,6 @@
 use native.Mathlib.Omega.{arith}
 use Rattle.equivalence.proofs.Meets.{meet-map}
-use Rattle.congruence.proofs.Listings.{copied-written}
+use Rattle.congruence.proofs.Listings.{alike-written, copied-written}
 use borrow.Author.Needs.{needs}
 use Rattle.congruence.proofs.meets.meet_with.Statement.{statement}
 use Rattle.congruence.proofs.meets.meet_with.Tie as tie
@@ -34,7 +34,7 @@ same-length c = search needs
 -- src/meets.rt:28:1
 returns : tie.Need-returns
 returns c =
-    copied-written _ _ _ _ (c .before .before .before .before .before .before .meet-into .ensures) (meet-map _ _ _) (omega arith) (search needs) (c .before .before .copy .ensures)
+    copied-written _ _ (alike-written _ _ (c .before .before .before .before .before .before .meet-into .ensures) (meet-map _ _ _)) (meet-map _ _ _) (omega arith) (search needs) (c .before .before .copy .ensures)
 
 pub meet-with-spec : {M : Type 1} → statement M
 meet-with-spec =

@@ -1,7 +1,6 @@
-use mathlib.Core.Path.{ap, _∙_}
-use Rattle.equivalence.specs.Equivalence.{isIdentity}
+use mathlib.Core.Path.{_∙_}
 use Rattle.equivalence.proofs.Meets.{meet-map}
-use Rattle.congruence.proofs.Listings.{alike-written, alike-isIdentity, written-canonical}
+use Rattle.congruence.proofs.Listings.{alike-written, alike-canonical, alike-isIdentity}
 use borrow.Author.Needs.{needs}
 use Rattle.congruence.proofs.meets.meets_in_identity.Statement.{statement}
 use Rattle.congruence.proofs.meets.meets_in_identity.Tie as tie
@@ -27,12 +26,12 @@ slice-aggregate-is-identity c = search needs
 -- src/meets.rt:52:5
 is-identity-requires : tie.Need-is-identity-requires
 is-identity-requires c κs =
-    (search needs, written-canonical _ _ (c .before .before .meet-into .ensures) (meet-map _ _ _))
+    (search needs, alike-canonical (alike-written _ _ (c .before .before .meet-into .ensures) (meet-map _ _ _)) (meet-map _ _ _))
 
 -- src/meets.rt:42:1
 returns : tie.Need-returns
 returns c =
-    c .is-identity .ensures ∙ ap (isIdentity _) (c .before .before .before .meet-into .ensures) ∙ alike-isIdentity _ _ _ (alike-written _ _ _ (meet-map _ _ _ .long))
+    c .is-identity .ensures ∙ alike-isIdentity (alike-written _ _ (c .before .before .before .meet-into .ensures) (meet-map _ _ _))
 
 pub meets-in-identity-spec : {M : Type 1} → statement M
 meets-in-identity-spec =
