@@ -1,6 +1,7 @@
 // The services over an algebra: the congruences they give, the answers and the lent bytes.
 
 mod meets;
+mod prune;
 
 // What Generate answers: how many merges made the congruence.
 pub enum Generated {

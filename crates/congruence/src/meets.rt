@@ -7,7 +7,6 @@ ghost use Rattle.equivalence.specs.Kernel.{Canonical};
 ghost use Rattle.equivalence.specs.Refusal.{written};
 ghost use Rattle.division.specs.Tables.{laid};
 ghost use Rattle.congruence.specs.Listing.{listing, MapsListed, SuffixMeets};
-
 use equivalence::blocks::copy;
 use equivalence::lattice::meet_into;
 use equivalence::map::is_identity;

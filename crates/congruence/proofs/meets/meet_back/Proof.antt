@@ -1,64 +1,50 @@
+-- `meet_back`: the map in front is met, and the meet laid in its place.
 use Prim.Native.Nat.{ℕ}
 use mathlib.Core.List.{List}
 use mathlib.Core.Path.{ap, _∙_}
 use native.Mathlib.Omega.{arith}
 use lib.ListN.{length-drop}
+use borrow.Author.Needs.{needs}
+use Rattle.equivalence.proofs.Meets.{meet-map}
 use Rattle.equivalence.specs.Equivalence.{meet}
 use Rattle.equivalence.specs.Refusal.{written}
-use Rattle.equivalence.proofs.Meets.{meet-map}
 use Rattle.congruence.proofs.Listings.{alike-written, part-rest, copied-laid}
-use borrow.Author.Needs.{needs}
 use Rattle.congruence.proofs.meets.meet_back.Statement.{statement}
 use Rattle.congruence.proofs.meets.meet_back.Tie as tie
-use Rattle.congruence.proofs.meets.meet_back.Reads as reads
-use Rattle.congruence.proofs.meets.meet_back.Lts as lts
-use Rattle.congruence.proofs.meets.meet_with.Reads as meet-with-reads
-use Rattle.equivalence.proofs.blocks.copy.Reads as copy-reads
 
--- src/meets.rt:66:18
 sub-meet-with : tie.Need-sub-meet-with
 sub-meet-with c = search needs
 
--- src/meets.rt:66:18
 part-meet-with-start : tie.Need-part-meet-with-start
 part-meet-with-start c = search needs
 
--- src/meets.rt:66:18
 part-meet-with-end : tie.Need-part-meet-with-end
 part-meet-with-end c = search needs
 
--- src/meets.rt:66:5
 meet-with-requires : tie.Need-meet-with-requires
 meet-with-requires c κs =
     let k = c .before .before .before .before .before in
     let e = part-rest (k .args .at) (k .args .maps .now) in
     (k .pre .0, (rw (e, length-drop (k .args .at) (k .args .maps .now)) (omega arith), (k .pre .1 .1 .0, (rw e (k .pre .1 .1 .1 .1 .0), k .pre .1 .1 .1 .1 .1))))
 
--- src/meets.rt:67:15
 sub-copy : tie.Need-sub-copy
 sub-copy c = search needs
 
--- src/meets.rt:67:15
 part-copy-start : tie.Need-part-copy-start
 part-copy-start c = search needs
 
--- src/meets.rt:67:15
 part-copy-end : tie.Need-part-copy-end
 part-copy-end c = search needs
 
--- src/meets.rt:67:5
 copy-requires : tie.Need-copy-requires
 copy-requires c κs = search needs
 
--- src/meets.rt:56:1
 same-length : tie.Need-same-length
 same-length c = search needs
 
--- src/meets.rt:56:1
 same-length-2 : tie.Need-same-length-2
 same-length-2 c = search needs
 
--- src/meets.rt:56:1
 returns : tie.Need-returns
 returns c =
     let w = c .before .before .before .before .before .before .before .meet-with in

@@ -1,18 +1,17 @@
+-- `whole_into`: the first x bytes are those of the map with one block.
 use Prim.Native.Nat.{_-_, _≤_}
 use mathlib.Core.Path.{_≡_, refl, sym}
 use native.Mathlib.Omega.{arith}
 use lib.ListN.{length, length-set}
 use borrow.Author.Needs.{needs}
-use Rattle.equivalence.specs.Equivalence.{byte, whole}
-use Rattle.equivalence.specs.Kernel.{Filled}
 use Rattle.equivalence.proofs.Kernels.{filled-none, filled-more}
 use Rattle.equivalence.proofs.Maps.{whole-map}
 use Rattle.equivalence.proofs.Writing.{filled-written}
+use Rattle.equivalence.specs.Equivalence.{byte, whole}
+use Rattle.equivalence.specs.Kernel.{Filled}
 use Rattle.congruence.proofs.Listings.{whole-at}
 use Rattle.congruence.proofs.meets.whole_into.Statement.{statement}
 use Rattle.congruence.proofs.meets.whole_into.Tie as tie
-use Rattle.congruence.proofs.meets.whole_into.Reads as reads
-use Rattle.congruence.proofs.meets.whole_into.Lts as lts
 
 abbrev Inv-loop : tie.InvT-loop
 Inv-loop m₀ n x₀ m x = (x ≤ n) × (length m ≡ length m₀) × Filled x (byte (whole n)) (byte m₀) (byte m)
@@ -20,33 +19,26 @@ Inv-loop m₀ n x₀ m x = (x ≤ n) × (length m ≡ length m₀) × Filled x (
 abbrev μ-loop : tie.MeasureT-loop
 μ-loop m₀ n x₀ m x = n - x
 
--- src/meets.rt:21:5
 loop-holds : tie.Need-loop-holds Inv-loop μ-loop
 loop-holds c = (omega arith, refl, filled-none _ _)
 
--- src/meets.rt:22:9
 slice-write-m : tie.Need-slice-write-m Inv-loop μ-loop
 slice-write-m c = search needs
 
--- src/meets.rt:23:9
 add-x : tie.Need-add-x Inv-loop μ-loop
 add-x c = search needs
 
--- src/meets.rt:21:5
 loop-less : tie.Need-loop-less Inv-loop μ-loop
 loop-less c = search needs
 
--- src/meets.rt:21:5
 loop-again : tie.Need-loop-again Inv-loop μ-loop
 loop-again c =
     let l = c .before .loop in
     (omega arith, simp length-set (omega arith), filled-more (l .m) _ (omega arith) (sym (whole-at _ _ (c .loop-test .taken))) (l .inv .2))
 
--- src/meets.rt:16:1
 same-length : tie.Need-same-length Inv-loop μ-loop
 same-length c = search needs
 
--- src/meets.rt:16:1
 returns : tie.Need-returns Inv-loop μ-loop
 returns c =
     let l = c .before .loop in
