@@ -1,4 +1,5 @@
 // The services over an algebra: the congruences they give, the answers and the lent bytes.
+mod checks;
 
 mod meets;
 mod prune;

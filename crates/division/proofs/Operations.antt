@@ -9,13 +9,18 @@ use Rattle.algebra.specs.Algebra.{cellCount}
 use Rattle.division.specs.Tables.{laid, joined, Source, divided, Sound, Fits, dividedAt, AllFit}
 use Rattle.division.proofs.Walks.{joined-none, joined-more, divided-long, Laid, laid-start, laid-more}
 
-cellCount-more : (n : ℕ) (arities : List ℕ) (j : ℕ) → j < length arities → cellCount n (take (suc j) arities) ≡ cellCount n (take j arities) + n ^ getD arities j 0
+cellCount-none : (n : ℕ) (arities : List ℕ) → cellCount n (take 0 arities) ≡ 0
+unfolding cellCount
+cellCount-none n [] = refl
+cellCount-none n (s ∷ rest) = refl
+
+pub cellCount-more : (n : ℕ) (arities : List ℕ) (j : ℕ) → j < length arities → cellCount n (take (suc j) arities) ≡ cellCount n (take j arities) + n ^ getD arities j 0
 unfolding cellCount
 cellCount-more n [] j l = absurd (omega arith)
 cellCount-more n (s ∷ rest) zero l = omega arith
 cellCount-more n (s ∷ rest) (suc j) l = omega (arith, cellCount-more n rest j (omega arith))
 
-cellCount-part : (n : ℕ) (arities : List ℕ) (j : ℕ) → cellCount n (take j arities) ≤ cellCount n arities
+pub cellCount-part : (n : ℕ) (arities : List ℕ) (j : ℕ) → cellCount n (take j arities) ≤ cellCount n arities
 unfolding cellCount
 cellCount-part n [] zero = omega arith
 cellCount-part n [] (suc j) = omega arith
@@ -23,12 +28,7 @@ cellCount-part n (s ∷ rest) zero = omega arith
 cellCount-part n (s ∷ rest) (suc j) = omega (arith, cellCount-part n rest j)
 
 joined-count : (q : Source) (arities : List ℕ) (j : ℕ) → j ≤ length arities → length (joined (dividedAt q arities) j) ≡ cellCount (q .blocks) (take j arities)
-unfolding cellCount
-joined-count q arities zero l = ap length (joined-none (dividedAt q arities)) ∙ sym (none arities)
-  where
-    none : (rest : List ℕ) → cellCount (q .blocks) (take 0 rest) ≡ 0
-    none [] = refl
-    none (s ∷ rest) = refl
+joined-count q arities zero l = ap length (joined-none (dividedAt q arities)) ∙ sym (cellCount-none (q .blocks) arities)
 joined-count q arities (suc j) l =
     rw (joined-more (dividedAt q arities) j, length-append (joined (dividedAt q arities) j) (dividedAt q arities j))
     (omega (arith, joined-count q arities j (omega arith), divided-long q (getD arities j 0) (cellCount (q .size) (take j arities)), cellCount-more (q .blocks) arities j l))
@@ -42,12 +42,7 @@ pub record Divided (q : Source) (arities lent out : List ℕ) (j from to : ℕ) 
   pub laid : Laid (dividedAt q arities) lent 0 out j to
 
 pub divided-start : {q : Source} {arities lent : List ℕ} → Sound q → AllFit q arities lent → Divided q arities lent lent 0 0 0
-unfolding cellCount
-divided-start {q} {arities} {lent} ok f = record { sound = ok; fits = f; upto = omega arith; start = none arities; laid = laid-start (dividedAt q arities) lent 0 }
-  where
-    none : (rest : List ℕ) → 0 ≡ cellCount (q .size) (take 0 rest)
-    none [] = refl
-    none (s ∷ rest) = refl
+divided-start {q} {arities} {lent} ok f = record { sound = ok; fits = f; upto = omega arith; start = sym (cellCount-none (q .size) arities); laid = laid-start (dividedAt q arities) lent 0 }
 
 module _ {q : Source} {arities lent out : List ℕ} {j from to : ℕ} (r : Divided q arities lent out j from to) (l : j < length arities) where
   pub divided-fits : Fits q (getD arities j 0) from out to

@@ -1,19 +1,18 @@
 -- Bytes laid one stretch after the other, and the walk over the blocks of a first argument: what holds before the first block, what one
 -- block more adds, and that all of them make the table.
 use Prim.Native.Nat.{ℕ, zero, suc, _+_, _*_, _^_, _≤_, _<_}
-use mathlib.Core.Path.{_≡_, refl, sym, ap, subst, _∙_}
+use mathlib.Core.Path.{_≡_, refl, sym, ap, _∙_}
 use mathlib.Core.List.{List, [], _∷_, _++_, map, append-assoc, append-nil, map-append}
 use native.Mathlib.Numerals.{add-one}
-use native.Mathlib.Nat.{pow-zero, pow-suc, pow-succ', suc-mul, one-mul, mul-le-mul-right}
+use native.Mathlib.Nat.{pow-zero, pow-suc, pow-succ', suc-mul, one-mul, mul-one, mul-le-mul-right}
 use native.Mathlib.Omega.{arith}
-use lib.Arith.{digits-lt}
 use lib.ListN.{length, take, drop, set, length-append, length-take, length-drop, take-append-drop}
-use lib.Seq.{take-at, drop-at, drop-drop, length-take-le, set-split, drop-cons}
+use lib.Seq.{take-at, drop-at, drop-drop, length-take-le, set-split}
 use Rattle.equivalence.specs.Equivalence.{byte}
 use Rattle.equivalence.specs.Lists.{upTo, concat}
 use Rattle.equivalence.specs.Refusal.{written}
 use Rattle.equivalence.proofs.Stretches.{concat-append, stretches}
-use Rattle.division.specs.Tables.{laid, joined, Source, divided, Sound, Fits}
+use Rattle.division.specs.Tables.{laid, joined, cellDivided, rowDivided, Source, divided, Sound, Fits, RowFits}
 
 pub power-one : (n : ℕ) → n ^ 1 ≡ n
 power-one n = pow-suc n 0 ∙ ap (λ (k : ℕ). k * n) (pow-zero n) ∙ one-mul n
@@ -140,3 +139,59 @@ module _ {q : Source} {s w v from : ℕ} {lent : List ℕ} {to : ℕ} {out : Lis
   pub walked-all : q .blocks ≤ k → out ≡ laid lent to (divided q (suc s) from)
   unfolding divided
   walked-all l = let e : k ≡ q .blocks = omega (arith, r .upto) in r .laid .laid ∙ ap (λ (i : ℕ). laid lent to (joined (inner q s from) i)) e
+
+-- ---- a row
+
+-- a row whose argument has gone through k blocks
+pub record RowWalked (b : ℕ) (cells numbers firsts : List ℕ) (from : ℕ) (lent : List ℕ) (to : ℕ) (out : List ℕ) (k at : ℕ) : Type 0 where
+  pub fits : RowFits b cells numbers firsts from lent to
+  pub upto : k ≤ b
+  pub place : at ≡ to + k
+  pub laid : Laid (λ i. cellDivided cells numbers (from + byte firsts i)) lent to out k at
+
+pub row-start : {b : ℕ} {cells numbers firsts : List ℕ} {from : ℕ} {lent : List ℕ} {to : ℕ} → RowFits b cells numbers firsts from lent to
+    → RowWalked b cells numbers firsts from lent to lent 0 to
+row-start {b} {cells} {numbers} {firsts} {from} {lent} {to} f =
+    record { fits = f; upto = omega arith; place = omega arith; laid = laid-start (λ i. cellDivided cells numbers (from + byte firsts i)) lent to }
+
+module _ {b : ℕ} {cells numbers firsts : List ℕ} {from : ℕ} {lent : List ℕ} {to : ℕ} {out : List ℕ} {k at : ℕ}
+    (r : RowWalked b cells numbers firsts from lent to out k at) where
+  pub row-more : (out′ : List ℕ) → k < b → out′ ≡ laid out at (cellDivided cells numbers (from + byte firsts k))
+      → RowWalked b cells numbers firsts from lent to out′ (k + 1) (at + 1)
+  row-more out′ l e = record {
+    fits = r .fits;
+    upto = omega arith;
+    place = omega (arith, r .place);
+    laid = laid-more out′ (r .laid) (omega (arith, r .fits .target, r .place)) e;
+  }
+
+  pub row-all : b ≤ k → out ≡ laid lent to (rowDivided b cells numbers firsts from)
+  row-all l =
+      r .laid .laid
+      ∙ ap (λ (i : ℕ). laid lent to (joined (λ j. cellDivided cells numbers (from + byte firsts j)) i)) (omega (arith, r .upto))
+
+-- a row is a table of arity 1
+row-divided : (q : Source) (from : ℕ) → rowDivided (q .blocks) (q .cells) (q .numbers) (q .firsts) from ≡ divided q 1 from
+unfolding divided
+row-divided q from = simp (pow-zero, mul-one)
+
+pub laid-row : (q : Source) (from : ℕ) (lent : List ℕ) (to : ℕ) (out : List ℕ) → out ≡ laid lent to (rowDivided (q .blocks) (q .cells) (q .numbers) (q .firsts) from)
+    → out ≡ laid lent to (divided q 1 from)
+laid-row q from lent to out e = e ∙ ap (laid lent to) (row-divided q from)
+
+pub fits-row : {q : Source} {from : ℕ} {lent : List ℕ} {to : ℕ} → Sound q → Fits q 1 from lent to → RowFits (q .blocks) (q .cells) (q .numbers) (q .firsts) from lent to
+fits-row {q} {from} ok f =
+    let below : (k : ℕ) → k < q .blocks → from + byte (q .firsts) k < length (q .cells) = λ k l. omega (arith, f .source, power-one (q .size), ok .first k l) in
+    record {
+      enough = ok .firsts;
+      cell = below;
+      number = λ k l. omega (arith, ok .cell (from + byte (q .firsts) k) (below k l), ok .numbers);
+      target = omega (arith, f .target, power-one (q .blocks));
+    }
+
+-- a cell is a table of arity 0
+pub fits-cell : {q : Source} {from : ℕ} {lent : List ℕ} {to : ℕ} → Sound q → Fits q 0 from lent to
+    → (from < length (q .cells)) × ((byte (q .cells) from < length (q .numbers)) × (to < length lent))
+fits-cell {q} {from} ok f =
+    let l : from < length (q .cells) = omega (arith, f .source, pow-zero (q .size)) in
+    (l, (omega (arith, ok .cell from l, ok .numbers), omega (arith, f .target, pow-zero (q .blocks))))

@@ -15,6 +15,14 @@ laid lent at new = take at lent ++ written new (drop at lent)
 unfoldable pub joined : (ℕ → List ℕ) → ℕ → List ℕ
 joined g k = concat (map g (upTo k))
 
+-- arity 0: the block number of the cell at a place
+abbrev pub cellDivided : List ℕ → List ℕ → ℕ → List ℕ
+cellDivided cells numbers from = byte numbers (byte cells from) ∷ []
+
+-- arity 1: the block numbers of the cells at the b smallest members
+abbrev pub rowDivided : ℕ → List ℕ → List ℕ → List ℕ → ℕ → List ℕ
+rowDivided b cells numbers firsts from = joined (λ k. cellDivided cells numbers (from + byte firsts k)) b
+
 -- what a quotient's tables are made from: the size, the number of blocks, the cells, each element's block number and each block's smallest member
 pub record Source : Type 0 where
   pub size : ℕ
@@ -29,7 +37,7 @@ sourceOf n b cells numbers firsts = record { size = n; blocks = b; cells = cells
 
 -- the table over blocks of the operation of arity s whose table begins at `from`: one block of a first argument after the other, each read at its smallest member
 unfoldable pub divided : Source → ℕ → ℕ → List ℕ
-divided q zero from = byte (q .numbers) (byte (q .cells) from) ∷ []
+divided q zero from = cellDivided (q .cells) (q .numbers) from
 divided q (suc s) from = joined (λ k. divided q s (from + byte (q .firsts) k * q .size ^ s)) (q .blocks)
 
 -- every cell is an element and so is every smallest member; each element has a number and each block a smallest member
@@ -45,6 +53,13 @@ pub record Sound (q : Source) : Type 0 where
 pub record Fits (q : Source) (s from : ℕ) (lent : List ℕ) (to : ℕ) : Type 0 where
   pub source : from + q .size ^ s ≤ length (q .cells)
   pub target : to + q .blocks ^ s ≤ length lent
+
+-- the row that begins at `from` lies within the cells, each of its cells has a number, and its quotient lies within the lent bytes
+pub record RowFits (b : ℕ) (cells numbers firsts : List ℕ) (from : ℕ) (lent : List ℕ) (to : ℕ) : Type 0 where
+  pub enough : b ≤ length firsts
+  pub cell : (k : ℕ) → k < b → from + byte firsts k < length cells
+  pub number : (k : ℕ) → k < b → byte cells (from + byte firsts k) < length numbers
+  pub target : to + b ≤ length lent
 
 -- the table over blocks of operation j, whose table begins behind those of the operations before it
 abbrev pub dividedAt : Source → List ℕ → ℕ → List ℕ

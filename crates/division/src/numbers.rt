@@ -5,7 +5,6 @@ ghost use lib.Dec.{T, eqb};
 ghost use Rattle.equivalence.specs.Equivalence.{byte, isMap};
 ghost use Rattle.equivalence.specs.Kernel.{bit};
 ghost use Rattle.division.specs.Numbers.{Numbered};
-
 use crate::Block;
 use equivalence::Element;
 

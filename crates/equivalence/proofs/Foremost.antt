@@ -6,11 +6,11 @@ use mathlib.Core.Logic.{inl, inr}
 use mathlib.Core.Path.{_≡_, refl, sym, ap, subst, _∙_}
 use native.Mathlib.Decide.{decLt, ℕ-discrete}
 use native.Mathlib.Omega.{arith}
-use lib.Dec.{T, eqb, leb, ltb, eqb→eq, leb→le, ltb→lt, lt→ltb, le→leb, T-not, not-T}
+use lib.Dec.{T, eqb, leb, ltb, T-not, not-T, eqb→eq, ltb→lt, lt→ltb}
 use borrow.Author.Tests.{le-leb, lt-leb}
 use Rattle.equivalence.specs.Equivalence.{Map, byte, holds}
 use Rattle.equivalence.specs.Kernel.{Canonical}
-use Rattle.equivalence.specs.Order.{pairs, firstHeld, notLater}
+use Rattle.equivalence.specs.Order.{pairs, notLater, firstHeld}
 use Rattle.equivalence.specs.Search.{foremost}
 use Rattle.equivalence.proofs.Earlier.{notLater-same, larger-notLater, notLater-first}
 use Rattle.equivalence.proofs.Lists.{first-none}

@@ -1,3 +1,4 @@
+-- `division::numbers::opened` meets its contract. The two cases of the test.
 use mathlib.Core.Path.{sym, ap}
 use borrow.Author.Tests.{eq-eqb, ne-eqb}
 use Rattle.equivalence.specs.Kernel.{bit}

@@ -1,67 +1,52 @@
-use Prim.Native.Nat.{ℕ, zero, suc, _+_, _*_, _-_, _≤_, _<_}
-use mathlib.Core.Path.{_≡_, refl, ap, sym, _∙_}
-use mathlib.Core.Logic.{⊎-elim}
+-- `division::tables::divide_row` meets its contract. The invariant: the cells of k blocks are laid. The measure is the number of blocks left.
+use Prim.Native.Nat.{_-_}
 use native.Mathlib.Omega.{arith}
-use lib.ListN.{length, getD, take, drop, set}
 use borrow.Author.Needs.{needs}
-use native.Mathlib.Nat.{pow-zero}
-use Rattle.division.specs.Tables.{sourceOf}
-use Rattle.division.proofs.Walks.{Walked, walked-start, walked-fits, walked-more, walked-all}
+use Rattle.division.proofs.Walks.{RowWalked, row-start, row-more, row-all}
 use Rattle.division.proofs.tables.divide_row.Statement.{statement}
 use Rattle.division.proofs.tables.divide_row.Tie as tie
-use Rattle.division.proofs.tables.divide_row.Reads as reads
-use Rattle.division.proofs.tables.divide_row.Lts as lts
-use Rattle.division.proofs.tables.divide_cell.Reads as divide-cell-reads
 
 abbrev Inv-loop : tie.InvT-loop
-Inv-loop n b cells from numbers firsts out₀ to k₀ at₀ out k at = Walked (sourceOf n b cells numbers firsts) 0 1 1 from out₀ to out k at
+Inv-loop b cells from numbers firsts out₀ to k₀ at₀ out k at = RowWalked b cells numbers firsts from out₀ to out k at
 
 abbrev μ-loop : tie.MeasureT-loop
-μ-loop n b cells from numbers firsts out₀ to k₀ at₀ out k at = b - k
+μ-loop b cells from numbers firsts out₀ to k₀ at₀ out k at = b - k
 
--- src/tables.rt:31:5
 loop-holds : tie.Need-loop-holds Inv-loop μ-loop
-loop-holds c = let s = c .before .before .before .before in walked-start (s .pre .0) (s .pre .1) (sym (pow-zero (s .args .n))) (sym (pow-zero (s .args .b)))
+loop-holds c = row-start (c .before .before .before .before .pre)
 
--- src/tables.rt:32:21
 shared-slice-read-first : tie.Need-shared-slice-read-first Inv-loop μ-loop
-shared-slice-read-first c = omega (arith, c .before .before .loop .inv .sound .firsts)
+shared-slice-read-first c = omega (arith, c .before .before .loop .inv .fits .enough)
 
--- src/tables.rt:32:21
 cast-first : tie.Need-cast-first Inv-loop μ-loop
 cast-first c = omega (arith, c .shared-slice-known4 .given (c .before .before .loop .k))
 
--- src/tables.rt:33:34
 add-divide-cell : tie.Need-add-divide-cell Inv-loop μ-loop
-add-divide-cell c = omega (arith, walked-fits (c .before .before .loop .inv) _ (c .before .loop-test .taken) refl .source)
+add-divide-cell c = omega (arith, c .before .before .loop .inv .fits .cell (c .before .before .loop .k) (c .before .loop-test .taken))
 
--- src/tables.rt:33:9
 divide-cell-requires : tie.Need-divide-cell-requires Inv-loop μ-loop
-divide-cell-requires c κs = let r = c .before .before .before .loop .inv in (r .sound, walked-fits r _ (c .before .before .loop-test .taken) (omega arith))
+divide-cell-requires c κs =
+    let s = c .before .before .before .loop in
+    let l = c .before .before .loop-test .taken in
+    (s .inv .fits .cell (s .k) l, (s .inv .fits .number (s .k) l, omega (arith, s .inv .fits .target, s .inv .place, s .inv .laid .long)))
 
--- src/tables.rt:34:9
 add-at : tie.Need-add-at Inv-loop μ-loop
-add-at c = omega (arith, walked-fits (c .before .before .before .before .before .before .loop .inv) _ (c .before .before .before .before .before .loop-test .taken) refl .target)
+add-at c = omega (arith, c .before .before .before .before .before .before .loop .inv .place, c .before .before .before .before .before .before .loop .inv .fits .target)
 
--- src/tables.rt:35:9
 add-k : tie.Need-add-k Inv-loop μ-loop
 add-k c = search needs
 
--- src/tables.rt:31:5
 loop-less : tie.Need-loop-less Inv-loop μ-loop
 loop-less c = search needs
 
--- src/tables.rt:31:5
 loop-again : tie.Need-loop-again Inv-loop μ-loop
-loop-again c = walked-more (c .before .before .before .before .before .before .loop .inv) _ _ (c .before .before .before .before .before .loop-test .taken) (omega arith) (c .before .before .divide-cell .ensures)
+loop-again c = row-more (c .before .before .before .before .before .before .loop .inv) _ (c .before .before .before .before .before .loop-test .taken) (c .before .before .divide-cell .ensures)
 
--- src/tables.rt:24:1
 same-length : tie.Need-same-length Inv-loop μ-loop
 same-length c = c .before .loop .inv .laid .long
 
--- src/tables.rt:24:1
 returns : tie.Need-returns Inv-loop μ-loop
-returns c = walked-all (c .before .loop .inv) (c .loop-test .left)
+returns c = row-all (c .before .loop .inv) (c .loop-test .left)
 
 pub divide-row-spec : {M : Type 1} → statement M
 divide-row-spec =

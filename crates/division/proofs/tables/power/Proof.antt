@@ -1,5 +1,5 @@
-use Prim.Native.Nat.{_*_, _≤_}
-use mathlib.Core.Path.{_≡_, sym, ap, _∙_}
+-- `division::tables::power` meets its contract. One case for each exponent.
+use mathlib.Core.Path.{_≡_, sym}
 use native.Mathlib.Nat.{pow-zero, mul-le-mul}
 use native.Mathlib.Omega.{arith}
 use Rattle.division.proofs.Walks.{power-one, power-two, power-three}
