@@ -15,5 +15,4 @@ pub mod Listings
 pub mod Pruning
 pub mod Gathering
 pub mod Suffixes
-||||||| merged common ancestors
 pub mod Serving
