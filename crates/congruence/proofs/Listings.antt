@@ -1,6 +1,7 @@
--- Lists of maps in a slice: maps alike on n bytes, what a listing holds at each number, stretches laid one after the other, and meets of
+-- Lists of maps in a slice: slices that begin with a map, what a listing holds at each number, stretches laid one after the other, and meets of
 -- parts of a list.
 use Prim.Native.Nat.{ℕ, suc, _+_, _-_, _*_, _≤_, _<_}
+use mathlib.Core.Bool.{Bool}
 use mathlib.Core.List.{List, [], _∷_, _++_, List·Memᴰ as Member, List·Memᴰ·head as here, List·Memᴰ·tail as there, Memᴰ·append-left as append-left, Memᴰ·append-right as append-right, List·Memᴰ·append-cases as append-cases, append-assoc, append-nil}
 use mathlib.Core.Logic.{inl, inr}
 use mathlib.Core.Path.{_≡_, refl, sym, ap, subst, _∙_}
@@ -8,13 +9,15 @@ use native.Mathlib.Nat.{suc-mul, mul-le-mul-right}
 use native.Mathlib.Omega.{arith}
 use lib.ListN.{length, getD, take, drop, length-map, length-append, List·getD-append, drop-of-length-le, length-drop}
 use lib.Seq.{getD-take, ext-getD, take-all, length-take-le, drop-drop, take-at, drop-at, drop-cons}
-use Rattle.equivalence.specs.Equivalence.{Map, byte, whole, same, isIdentity, meet, meetAll}
+use Rattle.equivalence.specs.Equivalence.{Map, byte, holds, whole, same, isIdentity, meet, meetAll}
 use Rattle.equivalence.specs.Kernel.{Canonical, Filled}
 use Rattle.equivalence.specs.Lists.{upTo, first, concat, stretch}
+use Rattle.equivalence.specs.Order.{Pair, pairs, firstHeld}
 use Rattle.equivalence.specs.Refusal.{written}
-use Rattle.equivalence.proofs.Lists.{upTo-length, table-at}
+use Rattle.equivalence.proofs.Lists.{first-yes, first-no, upTo-length, table-at}
 use Rattle.equivalence.proofs.Maps.{IsMap, of-isMap, map-ext, whole-map, whole-holds, isIdentity-of, of-isIdentity}
 use Rattle.equivalence.proofs.Meets.{meet-map, meet-holds, of-meet, meetAll-map, meetAll-holds, of-meetAll}
+use Rattle.equivalence.proofs.Pairs.{of-pairs}
 use Rattle.equivalence.proofs.Stretches.{concat-append, stretch-concat}
 use Rattle.equivalence.proofs.Tests.{T?, true-is, false-is}
 use Rattle.equivalence.proofs.Writing.{filled-written}
@@ -25,45 +28,70 @@ use borrow.Rule.Slice.PartMut.{putMid, midOf}
 
 -- ---- slices that begin with the same n bytes: a map, and a slice that begins with it
 
-pub record Alike (n : ℕ) (a b : List ℕ) : Type 0 where
+pub record Begins (n : ℕ) (a b : List ℕ) : Type 0 where
   pub same : (x : ℕ) → x < n → byte a x ≡ byte b x
 
+-- two tests that say the same of every member find the same
+first-same : (p q : Pair → Bool) (d : Pair) (l : List Pair) → ((r : Pair) → Member r l → p r ≡ q r) → first p d l ≡ first q d l
+unfolding first
+first-same p q d [] h = refl
+first-same p q d (r ∷ l) h =
+    let e : p r ≡ q r = h r (here refl) in
+    let rest : first p d l ≡ first q d l = first-same p q d l (λ s i. h s (there i)) in
+    elim (T? (p r)) [
+      | yes t ↦ first-yes p d r l t ∙ sym (first-yes q d r l (rw e at t))
+      | no t ↦ first-no p d r l t ∙ rest ∙ sym (first-no q d r l (λ s. t (rw e s)))
+    ]
+
 module _ {n : ℕ} where
-  pub alike-sym : {a b : List ℕ} → Alike n a b → Alike n b a
-  alike-sym g = record { same = λ x l. sym (g .same x l) }
+  pub begins-sym : {a b : List ℕ} → Begins n a b → Begins n b a
+  begins-sym g = record { same = λ x l. sym (g .same x l) }
 
-  pub alike-is : {a b c : List ℕ} → Alike n a b → b ≡ c → Alike n a c
-  alike-is {a} g e = subst (λ (m : List ℕ). Alike n a m) e g
+  pub begins-is : {a b c : List ℕ} → Begins n a b → b ≡ c → Begins n a c
+  begins-is {a} g e = subst (λ (m : List ℕ). Begins n a m) e g
 
-  pub alike-take : (a : List ℕ) → Alike n (take n a) a
-  alike-take a = record { same = λ x l. getD-take n a x 0 l }
+  pub begins-refl : {a b : List ℕ} → a ≡ b → Begins n a b
+  begins-refl e = record { same = λ x l. ap (λ (m : List ℕ). byte m x) e }
 
-  pub alike-written : {after : List ℕ} (m lent : List ℕ) → after ≡ written m lent → IsMap n m → Alike n after m
+  pub begins-take : (a : List ℕ) → Begins n (take n a) a
+  begins-take a = record { same = λ x l. getD-take n a x 0 l }
+
+  pub begins-written : {after : List ℕ} (m lent : List ℕ) → after ≡ written m lent → IsMap n m → Begins n after m
   unfolding written
-  alike-written m lent e p = record { same = λ x l. rw e (List·getD-append m (drop (length m) lent) 0 x (omega (arith, p .long))) }
+  begins-written m lent e p = record { same = λ x l. rw e (List·getD-append m (drop (length m) lent) 0 x (omega (arith, p .long))) }
 
-  pub alike-canonical : {a m : List ℕ} → Alike n a m → IsMap n m → Canonical n (byte a)
-  alike-canonical {a} {m} g p =
+  pub begins-canonical : {a m : List ℕ} → Begins n a m → IsMap n m → Canonical n (byte a)
+  begins-canonical {a} {m} g p =
       record {
         below = λ x l. rw (g .same x l) (p .low x l);
         root = λ x l. let k : byte m x < n = omega (arith, p .low x l) in rw (g .same x l, g .same (byte m x) k) (p .named x l);
       }
 
-  pub alike-meet : {a a′ b b′ : List ℕ} → Alike n a a′ → Alike n b b′ → meet n a b ≡ meet n a′ b′
-  alike-meet {a} {a′} {b} {b′} g h =
+  pub begins-meet : {a a′ b b′ : List ℕ} → Begins n a a′ → Begins n b b′ → meet n a b ≡ meet n a′ b′
+  begins-meet {a} {a′} {b} {b′} g h =
       map-ext n (meet n a b) (meet n a′ b′) (meet-map n a b) (meet-map n a′ b′)
       (λ x y l k e. let r = of-meet n a b x y l k e in meet-holds n a′ b′ x y l k (sym (g .same x l) ∙ r .0 ∙ g .same y k) (sym (h .same x l) ∙ r .1 ∙ h .same y k))
       (λ x y l k e. let r = of-meet n a′ b′ x y l k e in meet-holds n a b x y l k (g .same x l ∙ r .0 ∙ sym (g .same y k)) (h .same x l ∙ r .1 ∙ sym (h .same y k)))
 
-  pub alike-isIdentity : {a b : List ℕ} → Alike n a b → isIdentity n a ≡ isIdentity n b
-  alike-isIdentity {a} {b} g =
+  pub begins-isIdentity : {a b : List ℕ} → Begins n a b → isIdentity n a ≡ isIdentity n b
+  begins-isIdentity {a} {b} g =
       elim (T? (isIdentity n b)) [
         | yes t ↦ sym (true-is (isIdentity n a) (isIdentity-of n a (λ x y l k e. of-isIdentity n b t x y l k (sym (g .same x l) ∙ e ∙ g .same y k)))) ∙ true-is (isIdentity n b) t
         | no t ↦ sym (false-is (isIdentity n a) (λ s. t (isIdentity-of n b (λ x y l k e. of-isIdentity n a s x y l k (g .same x l ∙ e ∙ sym (g .same y k)))))) ∙ false-is (isIdentity n b) t
       ]
 
+  holds-begins : {a b : List ℕ} → Begins n a b → (x y : ℕ) → x < n → y < n → holds a x y ≡ holds b x y
+  unfolding holds
+  holds-begins g x y l k = rw (g .same x l, g .same y k)
+
+  pub begins-firstHeld : {a b : List ℕ} → Begins n a b → firstHeld n a ≡ firstHeld n b
+  unfolding firstHeld
+  begins-firstHeld {a} {b} g =
+      first-same (λ p. holds a (p .0) (p .1)) (λ p. holds b (p .0) (p .1)) (0, 0) (pairs n)
+      (λ p i. let q = of-pairs n p i in holds-begins g (p .0) (p .1) (omega (arith, q .0, q .1)) (q .1))
+
   -- the n bytes, copied
-  pub copied-written : {from m : List ℕ} (lent after : List ℕ) → Alike n from m → IsMap n m → n ≤ length lent → length after ≡ length lent
+  pub copied-written : {from m : List ℕ} (lent after : List ℕ) → Begins n from m → IsMap n m → n ≤ length lent → length after ≡ length lent
       → Filled n (byte from) (byte lent) (byte after) → after ≡ written m lent
   copied-written {from} {m} lent after g p fits long f =
       filled-written n m lent after (p .long) fits long (record { first = λ x l. f .first x l ∙ g .same x l; rest = f .rest })
@@ -128,14 +156,17 @@ module _ {n k : ℕ} {bytes : List ℕ} (p : MapsListed n k bytes) where
   listed-room i l = omega (arith, p .room, suc-mul i n, mul-le-mul-right n l)
 
   -- what begins with map i
-  pub listed-alike : (i : ℕ) → Alike n (drop (i * n) bytes) (stretch n bytes i)
+  pub listed-begins : (i : ℕ) → Begins n (drop (i * n) bytes) (stretch n bytes i)
   unfolding stretch
-  listed-alike i = alike-sym (alike-take (drop (i * n) bytes))
+  listed-begins i = begins-sym (begins-take (drop (i * n) bytes))
 
 -- ---- stretches laid
 
--- a part to the end of a slice
-pub part-rest : (at : ℕ) (l : List ℕ) → take (length l - at) (drop at l) ≡ drop at l
+-- the part of a slice from `at` on
+abbrev pub onwards : ℕ → List ℕ → List ℕ
+onwards at l = take (length l - at) (drop at l)
+
+pub part-rest : (at : ℕ) (l : List ℕ) → onwards at l ≡ drop at l
 part-rest at l = take-all (length l - at) (drop at l) (omega (arith, length-drop at l))
 
 -- what a callee that was lent the bytes from `at` on wrote at their start, said of the whole
@@ -146,7 +177,7 @@ put-laid at lent new h =
     rw (part-rest at lent, none, append-nil (written new (drop at lent)))
 
 -- n bytes copied there
-pub copied-laid : {n : ℕ} {from m : List ℕ} (at : ℕ) (lent after : List ℕ) → Alike n from m → IsMap n m → at + n ≤ length lent
+pub copied-laid : {n : ℕ} {from m : List ℕ} (at : ℕ) (lent after : List ℕ) → Begins n from m → IsMap n m → at + n ≤ length lent
     → length after ≡ length (midOf at (length lent - at) lent) → Filled n (byte from) (byte (midOf at (length lent - at) lent)) (byte after)
     → putMid at (length lent - at) lent after ≡ laid lent at m
 copied-laid {n} {from} {m} at lent after g p fits long f =
@@ -159,6 +190,13 @@ unfolding stretch laid written
 laid-stretch n i lent m e h =
     rw (drop-at (take (i * n) lent) (m ++ drop (length m) (drop (i * n) lent)) (i * n) (length-take-le (i * n) lent (omega arith)))
     (take-at m (drop (length m) (drop (i * n) lent)) n e)
+
+-- the part from there on begins with it
+pub laid-begins : {n : ℕ} {after : List ℕ} (at : ℕ) (lent m : List ℕ) → after ≡ laid lent at m → IsMap n m → at ≤ length lent → Begins n (onwards at after) m
+unfolding laid
+laid-begins at lent m e p h =
+    begins-written m (drop at lent)
+    (part-rest at _ ∙ ap (drop at) e ∙ drop-at (take at lent) (written m (drop at lent)) at (length-take-le at lent h)) p
 
 -- and the stretches behind it stay
 pub laid-later : (n i j : ℕ) (lent m : List ℕ) → length m ≡ n → i * n + n ≤ length lent → i < j → stretch n (laid lent (i * n) m) j ≡ stretch n lent j

@@ -1,6 +1,6 @@
 -- Decompose's second loop, over a list of maps in a slice and the meets of its suffixes: what holds when the maps below number i had their
 -- turn (`Pruning`), and the laws that start it, keep it and end it.
-use Prim.Native.Nat.{ℕ, suc, _+_, _-_, _*_, _≤_, _<_}
+use Prim.Native.Nat.{ℕ, suc, _+_, _*_, _≤_, _<_}
 use mathlib.Core.List.{List, [], _∷_, _++_, List·Memᴰ as Member, List·Memᴰ·not-nil as not-nil, List·Memᴰ·eq-of-singleton as eq-of-singleton, List·Memᴰ·append-cases as append-cases}
 use mathlib.Core.Logic.{inl, inr}
 use mathlib.Core.Path.{_≡_, refl, sym, ap, subst, _∙_}
@@ -23,7 +23,7 @@ use Rattle.congruence.specs.Decompose.{pruned, listed}
 use Rattle.congruence.specs.Listing.{listing, MapsListed, SuffixMeets, inTurn}
 use Rattle.congruence.proofs.Certificates.{isIdentity-meets, of-isIdentity-meets}
 use Rattle.congruence.proofs.Factors.{pruned-drop, pruned-keep}
-use Rattle.congruence.proofs.Listings.{Alike, alike-sym, alike-is, alike-take, alike-written, alike-canonical, alike-meet, meetAll-append, meetAll-snoc, listing-length, listing-at, listed-map, listed-room, listed-alike, part-rest, laid-snoc, concat-length}
+use Rattle.congruence.proofs.Listings.{Begins, begins-sym, begins-is, begins-take, begins-written, begins-canonical, begins-meet, meetAll-append, meetAll-snoc, listing-length, listing-at, listed-map, listed-room, listed-begins, onwards, part-rest, laid-snoc, concat-length}
 use Rattle.division.specs.Tables.{laid}
 
 module _ (n : ℕ) (m after : Map) (kept : ℕ) (met : Map) (out : List ℕ) where
@@ -51,10 +51,10 @@ pub record Pruning (n : ℕ) (ms : List Map) (lent : List ℕ) (i count : ℕ) (
   pub few : count ≤ i
   pub each : (m : Map) → Member m kept → length m ≡ n
   pub left : pruned n [] ms ≡ pruned n kept (drop i ms)
-  pub meets : Alike n met (meetAll n kept)
+  pub meets : Begins n met (meetAll n kept)
   pub bytes : out ≡ written (concat kept) lent
 
-pub pruning-start : (n : ℕ) (ms : List Map) (lent met : List ℕ) → Alike n met (whole n) → Pruning n ms lent 0 0 met lent
+pub pruning-start : (n : ℕ) (ms : List Map) (lent met : List ℕ) → Begins n met (whole n) → Pruning n ms lent 0 0 met lent
 unfolding meetAll written concat
 pruning-start n ms lent met g =
     record { kept = []; number = refl; few = omega arith; each = λ m i. absurd (not-nil i); left = refl; meets = g; bytes = refl }
@@ -65,15 +65,15 @@ module _ {n : ℕ} {ms : List Map} {lent : List ℕ} {i count : ℕ} {met out : 
   pruning-end = ap (λ (k : ℕ). k * n) (sym (p .number)) ∙ sym (concat-length n (p .kept) (p .each))
 
   pub pruning-canonical : Canonical n (byte met)
-  pruning-canonical = alike-canonical (p .meets) (meetAll-map n (p .kept))
+  pruning-canonical = begins-canonical (p .meets) (meetAll-map n (p .kept))
 
   pub pruning-long : i * n ≤ length lent → length out ≡ length lent
   pruning-long h = rw (p .bytes) (written-length (concat (p .kept)) lent (omega (arith, pruning-end, mul-le-mul-right n (p .few))))
 
   module _ (m after : List ℕ) (enough : n ≤ length m) (short : length (getD ms i []) ≡ n) (l : i < length ms) (room : length ms * n ≤ length lent)
-      (this : Alike n m (getD ms i [])) (rest : Alike n after (meetAll n (drop (suc i) ms))) where
+      (this : Begins n m (getD ms i [])) (rest : Begins n after (meetAll n (drop (suc i) ms))) where
     whole-list : meetAll n (p .kept ++ drop (suc i) ms) ≡ meet n met after
-    whole-list = meetAll-append n (p .kept) (drop (suc i) ms) ∙ alike-meet (alike-sym (p .meets)) (alike-sym rest)
+    whole-list = meetAll-append n (p .kept) (drop (suc i) ms) ∙ begins-meet (begins-sym (p .meets)) (begins-sym rest)
 
     from : drop i ms ≡ getD ms i [] ∷ drop (suc i) ms
     from = drop-cons ms i [] l
@@ -82,7 +82,7 @@ module _ {n : ℕ} {ms : List Map} {lent : List ℕ} {i count : ℕ} {met out : 
     front =
         let long : length (take n m) ≡ n = length-take-le n m enough in
         ext-getD 0 (take n m) (getD ms i []) (long ∙ sym short)
-        (λ x h. let k : x < n = omega arith in alike-take m .same x k ∙ this .same x k)
+        (λ x h. let k : x < n = omega arith in begins-take m .same x k ∙ this .same x k)
 
     -- a map that is dropped
     pub pruning-drop : T (isIdentity n (meet n met after)) → Pruning n ms lent (i + 1) count met out
@@ -107,7 +107,7 @@ module _ {n : ℕ} {ms : List Map} {lent : List ℕ} {i count : ℕ} {met out : 
           each = λ c j. elim (append-cases (p .kept) j) [ inl h ↦ p .each c h | inr h ↦ rw (eq-of-singleton h) short ];
           left = rw add-one (p .left ∙ ap (pruned n (p .kept)) from
               ∙ pruned-keep n (p .kept) (drop (suc i) ms) (getD ms i []) (λ h. t (rw whole-list at (isIdentity-meets n (p .kept ++ drop (suc i) ms) h))));
-          meets = alike-is (alike-written (meet n met m) met refl (meet-map n met m)) (alike-meet (p .meets) this ∙ sym (meetAll-snoc n (p .kept) (getD ms i [])));
+          meets = begins-is (begins-written (meet n met m) met refl (meet-map n met m)) (begins-meet (p .meets) this ∙ sym (meetAll-snoc n (p .kept) (getD ms i [])));
           bytes = ap (λ (z : List ℕ). laid out (count * n) z) front ∙ ap (λ (z : List ℕ). laid z (count * n) (getD ms i [])) (p .bytes)
               ∙ laid-snoc (p .kept) (getD ms i []) lent (count * n) pruning-end (omega (arith, pruning-end, mul-le-mul-right n (p .few), mul-le-mul-right n l, suc-mul i n));
         }
@@ -138,10 +138,6 @@ pub record Turns (n k : ℕ) (maps suffixes lent : List ℕ) (kept i at : ℕ) (
   pub place : at ≡ i * n
   pub pruning : Pruning n (listing n k maps) lent i kept met out
 
--- the part of a slice from `at` on
-abbrev pub onwards : ℕ → List ℕ → List ℕ
-onwards at l = take (length l - at) (drop at l)
-
 pub turns-start : {n k : ℕ} {maps suffixes : List ℕ} (lent met : List ℕ) {met′ : List ℕ} → MapsListed n k maps → SuffixMeets n (listing n k maps) suffixes → k * n + n ≤ length suffixes
     → k * n ≤ length lent → met′ ≡ written (whole n) met → Turns n k maps suffixes lent 0 0 0 met′ lent
 turns-start {n} {k} {maps} lent met p s b r e =
@@ -152,7 +148,7 @@ turns-start {n} {k} {maps} lent met p s b r e =
       room = r;
       upto = omega arith;
       place = omega arith;
-      pruning = pruning-start n (listing n k maps) lent _ (alike-written (whole n) met e (whole-map n));
+      pruning = pruning-start n (listing n k maps) lent _ (begins-written (whole n) met e (whole-map n));
     }
 
 module _ {n k : ℕ} {maps suffixes lent : List ℕ} {kept i at : ℕ} {met out : List ℕ} (t : Turns n k maps suffixes lent kept i at met out) where
@@ -167,14 +163,14 @@ module _ {n k : ℕ} {maps suffixes lent : List ℕ} {kept i at : ℕ} {met out 
     next : at + n ≡ suc i * n
     next = omega (arith, t .place, suc-mul i n)
 
-    this : Alike n (onwards at maps) (getD (listing n k maps) i [])
-    this = rw (part-rest at maps, t .place, listing-at n k maps i l) (listed-alike (t .listed) i)
+    this : Begins n (onwards at maps) (getD (listing n k maps) i [])
+    this = rw (part-rest at maps, t .place, listing-at n k maps i l) (listed-begins (t .listed) i)
 
-    after : Alike n (onwards (at + n) suffixes) (meetAll n (drop (suc i) (listing n k maps)))
+    after : Begins n (onwards (at + n) suffixes) (meetAll n (drop (suc i) (listing n k maps)))
     unfolding stretch
     after =
         rw (part-rest (at + n) suffixes, next)
-        (alike-is (alike-sym (alike-take (drop (suc i * n) suffixes))) (t .meets (suc i) (omega (arith, listing-length n k maps))))
+        (begins-is (begins-sym (begins-take (drop (suc i * n) suffixes))) (t .meets (suc i) (omega (arith, listing-length n k maps))))
 
     pub turns-part : (at + n ≤ length maps) × (at + n ≤ length suffixes)
     turns-part = (omega (arith, t .place, listed-room (t .listed) i l), omega (arith, next, t .behind, mul-le-mul-right n l))
@@ -189,8 +185,8 @@ module _ {n k : ℕ} {maps suffixes lent : List ℕ} {kept i at : ℕ} {met out 
 
     pub turns-canonical : Canonical n (byte (onwards at maps)) × Canonical n (byte (onwards (at + n) suffixes)) × Canonical n (byte met)
     turns-canonical = (
-      alike-canonical this (rw (listing-at n k maps i l) (listed-map (t .listed) i l)),
-      alike-canonical after (meetAll-map n (drop (suc i) (listing n k maps))),
+      begins-canonical this (rw (listing-at n k maps i l) (listed-map (t .listed) i l)),
+      begins-canonical after (meetAll-map n (drop (suc i) (listing n k maps))),
       pruning-canonical (t .pruning),
     )
 

@@ -16,7 +16,7 @@ use Rattle.equivalence.proofs.Meets.{meet-map, meetAll-map}
 use Rattle.algebra.specs.Algebra.{place}
 use Rattle.congruence.specs.Decompose.{listed}
 use Rattle.congruence.specs.Listing.{listing, MapsListed, SuffixMeets}
-use Rattle.congruence.proofs.Listings.{Alike, alike-is, alike-written, alike-canonical, alike-meet, meet-comm, listing-length, listing-from, listed-map, listed-room, listed-alike, laid-stretch, laid-later}
+use Rattle.congruence.proofs.Listings.{Begins, begins-is, begins-written, begins-canonical, begins-meet, meet-comm, listing-length, listing-from, listed-map, listed-room, listed-begins, laid-stretch, laid-later}
 use Rattle.division.specs.Tables.{laid}
 use Rattle.division.proofs.Walks.{laid-long}
 
@@ -25,7 +25,7 @@ pub record Suffixes (n k : ℕ) (maps : List ℕ) (i at : ℕ) (met bytes : List
   pub room : k * n + n ≤ length bytes
   pub upto : i ≤ k
   pub place : at ≡ i * n
-  pub meets : Alike n met (meetAll n (drop i (listing n k maps)))
+  pub meets : Begins n met (meetAll n (drop i (listing n k maps)))
   pub done : (j : ℕ) → i ≤ j → j ≤ k → stretch n bytes j ≡ meetAll n (drop j (listing n k maps))
 
 -- no map is behind the last
@@ -40,13 +40,13 @@ suffixes-start {n} {k} {maps} lent met p room e f =
       room = rw (f, laid-long lent (k * n) (whole n) (omega (arith, w .long))) room;
       upto = omega arith;
       place = refl;
-      meets = rw none (alike-written (whole n) met e w);
+      meets = rw none (begins-written (whole n) met e w);
       done = λ j h l. let is : j ≡ k = omega arith in rw (is, none, f) (laid-stretch n k lent (whole n) (w .long) room);
     }
 
 module _ {n k : ℕ} {maps : List ℕ} {i at : ℕ} {met bytes : List ℕ} (s : Suffixes n k maps i at met bytes) where
   pub suffixes-canonical : Canonical n (byte met)
-  suffixes-canonical = alike-canonical (s .meets) (meetAll-map n (drop i (listing n k maps)))
+  suffixes-canonical = begins-canonical (s .meets) (meetAll-map n (drop i (listing n k maps)))
 
   -- where all are laid
   pub suffixes-all : i ≡ 0 → SuffixMeets n (listing n k maps) bytes
@@ -66,11 +66,11 @@ module _ {n k : ℕ} {maps : List ℕ} {i at : ℕ} {met bytes : List ℕ} (s : 
       omega (arith, suffixes-place, s .room, suc-mul (i - 1) n, mul-le-mul-right n one-less),
     )
 
-    this : Alike n (drop (at - n) maps) (stretch n maps (i - 1))
-    this = rw suffixes-place (listed-alike (s .listed) (i - 1))
+    this : Begins n (drop (at - n) maps) (stretch n maps (i - 1))
+    this = rw suffixes-place (listed-begins (s .listed) (i - 1))
 
     pub suffixes-this : Canonical n (byte (drop (at - n) maps))
-    suffixes-this = alike-canonical this (listed-map (s .listed) (i - 1) one-less)
+    suffixes-this = begins-canonical this (listed-map (s .listed) (i - 1) one-less)
 
     -- one map more in front
     pub suffixes-more : {met′ bytes′ : List ℕ} → met′ ≡ written (meet n met (drop (at - n) maps)) met → bytes′ ≡ laid bytes (at - n) (meet n met (drop (at - n) maps))
@@ -82,14 +82,14 @@ module _ {n k : ℕ} {maps : List ℕ} {i at : ℕ} {met bytes : List ℕ} (s : 
         let fits : (i - 1) * n + n ≤ length bytes = omega (arith, suffixes-place, suffixes-fits .1) in
         let next : suc (i - 1) ≡ i = omega arith in
         let new : m ≡ meetAll n (drop (i - 1) (listing n k maps)) =
-        meet-comm n met (drop (at - n) maps) ∙ alike-meet this (alike-is (s .meets) (ap (λ (j : ℕ). meetAll n (drop j (listing n k maps))) (sym next)))
+        meet-comm n met (drop (at - n) maps) ∙ begins-meet this (begins-is (s .meets) (ap (λ (j : ℕ). meetAll n (drop j (listing n k maps))) (sym next)))
         ∙ ap (meetAll n) (sym (listing-from n k maps (i - 1) one-less)) in
         record {
           listed = s .listed;
           room = rw (f, laid-long bytes (at - n) m (omega (arith, t .long, suffixes-fits .1))) (s .room);
           upto = omega (arith, s .upto);
           place = suffixes-place;
-          meets = alike-is (alike-written m met e t) new;
+          meets = begins-is (begins-written m met e t) new;
           done = λ j h l. rw (f ∙ ap (λ (z : ℕ). laid bytes z m) suffixes-place) (elim (ℕ-discrete j (i - 1)) [
             | yes is ↦ rw is (laid-stretch n (i - 1) bytes m (t .long) fits ∙ new)
             | no is ↦ laid-later n (i - 1) j bytes m (t .long) fits (omega arith) ∙ s .done j (omega arith) l

@@ -5,3 +5,4 @@ pub mod Calls
 pub mod Outcome
 pub mod Demands
 pub mod Listing
+pub mod Gathering

@@ -8,7 +8,7 @@ use borrow.Author.Needs.{needs}
 use Rattle.equivalence.proofs.Meets.{meet-map}
 use Rattle.equivalence.specs.Equivalence.{meet}
 use Rattle.equivalence.specs.Refusal.{written}
-use Rattle.congruence.proofs.Listings.{alike-written, part-rest, copied-laid}
+use Rattle.congruence.proofs.Listings.{begins-written, part-rest, copied-laid}
 use Rattle.congruence.proofs.meets.meet_back.Statement.{statement}
 use Rattle.congruence.proofs.meets.meet_back.Tie as tie
 
@@ -50,7 +50,7 @@ returns c =
     let w = c .before .before .before .before .before .before .before .meet-with in
     let k = c .before .before .before .before .before .before .before .before .before .before .before .before .before in
     let e = w .ensures ∙ ap (λ (m : List ℕ). written (meet (k .args .n) (k .args .met .now) m) (k .args .met .now)) (part-rest (k .args .at) (k .args .maps .now)) in
-    (e, copied-laid (k .args .at) (k .args .suffixes .now) (c .before .before .copy .last .1 .0) (alike-written _ _ e (meet-map _ _ _)) (meet-map _ _ _) (k .pre .1 .1 .1 .0) (c .before .before .copy .kept .1 .0) (c .before .before .copy .ensures))
+    (e, copied-laid (k .args .at) (k .args .suffixes .now) (c .before .before .copy .last .1 .0) (begins-written _ _ e (meet-map _ _ _)) (meet-map _ _ _) (k .pre .1 .1 .1 .0) (c .before .before .copy .kept .1 .0) (c .before .before .copy .ensures))
 
 pub meet-back-spec : {M : Type 1} → statement M
 meet-back-spec =

@@ -2,7 +2,7 @@
 use native.Mathlib.Omega.{arith}
 use borrow.Author.Needs.{needs}
 use Rattle.equivalence.proofs.Meets.{meet-map}
-use Rattle.congruence.proofs.Listings.{alike-written, copied-written}
+use Rattle.congruence.proofs.Listings.{begins-written, copied-written}
 use Rattle.congruence.proofs.meets.meet_with.Statement.{statement}
 use Rattle.congruence.proofs.meets.meet_with.Tie as tie
 
@@ -25,7 +25,7 @@ same-length c = search needs
 
 returns : tie.Need-returns
 returns c =
-    copied-written _ _ (alike-written _ _ (c .before .before .before .before .before .before .meet-into .ensures) (meet-map _ _ _)) (meet-map _ _ _) (omega arith) (search needs) (c .before .before .copy .ensures)
+    copied-written _ _ (begins-written _ _ (c .before .before .before .before .before .before .meet-into .ensures) (meet-map _ _ _)) (meet-map _ _ _) (omega arith) (search needs) (c .before .before .copy .ensures)
 
 pub meet-with-spec : {M : Type 1} → statement M
 meet-with-spec =

@@ -2,7 +2,7 @@
 use mathlib.Core.Path.{_∙_}
 use borrow.Author.Needs.{needs}
 use Rattle.equivalence.proofs.Meets.{meet-map}
-use Rattle.congruence.proofs.Listings.{alike-written, alike-canonical, alike-isIdentity}
+use Rattle.congruence.proofs.Listings.{begins-written, begins-canonical, begins-isIdentity}
 use Rattle.congruence.proofs.meets.meets_in_identity.Statement.{statement}
 use Rattle.congruence.proofs.meets.meets_in_identity.Tie as tie
 
@@ -19,11 +19,11 @@ slice-aggregate-is-identity c = search needs
 
 is-identity-requires : tie.Need-is-identity-requires
 is-identity-requires c κs =
-    (search needs, alike-canonical (alike-written _ _ (c .before .before .meet-into .ensures) (meet-map _ _ _)) (meet-map _ _ _))
+    (search needs, begins-canonical (begins-written _ _ (c .before .before .meet-into .ensures) (meet-map _ _ _)) (meet-map _ _ _))
 
 returns : tie.Need-returns
 returns c =
-    c .is-identity .ensures ∙ alike-isIdentity (alike-written _ _ (c .before .before .before .meet-into .ensures) (meet-map _ _ _))
+    c .is-identity .ensures ∙ begins-isIdentity (begins-written _ _ (c .before .before .before .meet-into .ensures) (meet-map _ _ _))
 
 pub meets-in-identity-spec : {M : Type 1} → statement M
 meets-in-identity-spec =

@@ -4,7 +4,7 @@ use mathlib.Core.Path.{sym, _∙_}
 use borrow.Author.Needs.{needs}
 use Rattle.equivalence.proofs.Tests.{T-of, not-T-of}
 use Rattle.congruence.proofs.Bridges.{front-map}
-use Rattle.congruence.proofs.Listings.{alike-sym, alike-take, copied-laid}
+use Rattle.congruence.proofs.Listings.{begins-sym, begins-take, copied-laid}
 use Rattle.congruence.proofs.Pruning.{turn-drop, turn-keep}
 use Rattle.congruence.proofs.prune.keep_if_needed.Statement.{statement}
 use Rattle.congruence.proofs.prune.keep_if_needed.Tie as tie
@@ -51,7 +51,7 @@ returns-2 c =
     let m = k .args .map .now in
     let long = k .pre .1 .1 .0 in
     turn-keep _ m _ (k .args .kept) _ _ (not-T-of (sym (c .before .before .before .before .before .before .before .before .before .meets-in-identity .ensures) ∙ c .before .before .before .before .before .before .before .before .if1 .left)) (c .before .before .before .before .before .before .meet-with .ensures)
-    (copied-laid (k .args .kept * k .args .n) (k .args .out .now) (c .before .before .copy .last .1 .0) (alike-sym (alike-take m)) (front-map (k .args .n) m long (k .pre .1 .1 .1 .1 .1 .1 .0))
+    (copied-laid (k .args .kept * k .args .n) (k .args .out .now) (c .before .before .copy .last .1 .0) (begins-sym (begins-take m)) (front-map (k .args .n) m long (k .pre .1 .1 .1 .1 .1 .1 .0))
     (k .pre .1 .1 .1 .1 .1 .0) (c .before .before .copy .kept .1 .0) (c .before .before .copy .ensures))
 
 pub keep-if-needed-spec : {M : Type 1} → statement M
