@@ -20,12 +20,14 @@ use Rattle.algebra.specs.Translations.{Compatible, Closed, Refined}
 use Rattle.algebra.proofs.Accepted.{WellFormed}
 use Rattle.algebra.proofs.Congruences.{IsCongruence}
 use Rattle.algebra.proofs.Translations.{congruence-compatible, compatible-congruence}
-use Rattle.congruence.specs.Extremal.{holdsAll, generated, extended, contained}
+use Rattle.congruence.specs.Extremal.{holdsAll, generated, extended, contained, separated}
 use Rattle.congruence.proofs.Extension.{extended-is}
 use Rattle.congruence.proofs.GreatestCongruence.{contained-is}
 use Rattle.congruence.proofs.LeastCongruence.{Below, generated-is}
+use Rattle.congruence.proofs.Separation.{earliest-separated}
 use Rattle.closure.specs.Starts.{JoinsPairs, Extends}
-use Rattle.refinement.proofs.Refinements.{compatible-same}
+use Rattle.separation.specs.Search.{Earliest}
+use Rattle.refinement.proofs.Refinements.{canonical-same, compatible-same}
 
 -- ---- the first n bytes of a slice
 
@@ -127,6 +129,23 @@ module _ (a : Algebra) (c : WellFormed a) (l : List ℕ) (fits : a .size ≤ len
             ∙ front-same y ly;
       })
 
+  -- the earliest congruence that holds two elements apart
+  pub earliest-front : (v w : ℕ) → v < a .size → w < a .size → Earliest a v w (byte l) → separated a v w ≡ take (a .size) l
+  earliest-front v w lv lw h =
+      earliest-separated a c v w (take (a .size) l) (front-map (a .size) l fits (h .canonical))
+      (record {
+        canonical = canonical-same (a .size) (byte l) (byte (take (a .size) l)) (front-byte (a .size) l) (h .canonical);
+        compatible = compatible-same a c (byte l) (byte (take (a .size) l)) (front-byte (a .size) l) (h .compatible);
+        apart = λ e. h .apart (front-same v lv ∙ e ∙ sym (front-same w lw));
+        first = λ g cg apart x y lxy ly down up e.
+            let lx : x < a .size = omega arith in
+            sym (front-same x lx)
+            ∙ h .first g cg apart x y lxy ly
+            (λ p q lpq lq b z. down p q lpq lq b (sym (front-same p (omega arith)) ∙ z ∙ front-same q lq))
+            (λ p q lpq lq b z. front-same p (omega arith) ∙ up p q lpq lq b z ∙ sym (front-same q lq)) e
+            ∙ front-same y ly;
+      })
+
 -- ---- the slice afterwards
 
 module _ (a : Algebra) (c : WellFormed a) (lent after : List ℕ) (fits : a .size ≤ length lent) (long : length after ≡ length lent) where
@@ -146,6 +165,10 @@ module _ (a : Algebra) (c : WellFormed a) (lent after : List ℕ) (fits : a .siz
       → ((x : ℕ) → a .size ≤ x → byte after x ≡ byte copied x) → after ≡ written (contained a e) lent
   contained-written e p copied k h rest =
       map-written (contained a e) (refined-contained a c after (omega arith) e p (byte copied) (k .first) h) (λ x l. rest x l ∙ k .rest x l)
+
+  pub separated-written : (v w : ℕ) → v < a .size → w < a .size → Earliest a v w (byte after) → ((x : ℕ) → a .size ≤ x → byte after x ≡ byte lent x)
+      → after ≡ written (separated a v w) lent
+  separated-written v w lv lw h = map-written (separated a v w) (earliest-front a c after (omega arith) v w lv lw h)
 
 -- ---- the blocks lost
 

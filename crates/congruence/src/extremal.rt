@@ -8,7 +8,7 @@ ghost use Rattle.equivalence.specs.Kernel.{Canonical};
 ghost use Rattle.equivalence.specs.Refusal.{written};
 ghost use Rattle.algebra.specs.Algebra.{algebraOf};
 ghost use Rattle.algebra.specs.Accepted.{Accepted};
-ghost use Rattle.congruence.specs.Extremal.{generated, extended, contained};
+ghost use Rattle.congruence.specs.Extremal.{generated, extended, contained, separated};
 
 // The least congruence that holds the pairs of a flat list goes to out. How many merges made it.
 pub fn generated_into(n: usize, arities: &[u8], cells: &[u8], pairs: &[u8], out: &mut [u8]) -> u8
@@ -50,4 +50,16 @@ pub fn contained_into(n: usize, arities: &[u8], cells: &[u8], map: &[u8], out: &
 {
     equivalence::blocks::copy(map, out, n);
     refinement::refine(out, n, arities, cells);
+}
+
+// The earliest congruence that holds v and w apart goes to out.
+pub fn separated_into(n: usize, arities: &[u8], cells: &[u8], v: usize, w: usize, out: &mut [u8])
+    requires { ⌜ Accepted (algebraOf n (now arities) (now cells)) ⌝ }
+    requires { ⌜ v < n ⌝ }
+    requires { ⌜ w < n ⌝ }
+    requires { ⌜ (v ≡ w → ⊥) ⌝ }
+    requires { ⌜ n ≤ length (now out) ⌝ }
+    ensures { λ _. ⌜ now (out .exit) ≡ written (separated (algebraOf n (now (arities .entry)) (now (cells .entry))) v w) (now (out .entry)) ⌝ }
+{
+    separation::separate(n, arities, cells, v, w, out);
 }

@@ -1,7 +1,7 @@
 // The services over an algebra: the congruences they give, the answers and the lent bytes.
 ghost use mathlib.Core.Path.{_≡_};
 ghost use Rattle.algebra.specs.Algebra.{algebraOf};
-ghost use Rattle.congruence.specs.Calls.{generateCall, containedCall, quotientCall};
+ghost use Rattle.congruence.specs.Calls.{generateCall, containedCall, separateCall, quotientCall};
 use equivalence::Check;
 use equivalence::Written;
 
@@ -61,6 +61,27 @@ pub fn contained(n: usize, arities: &[u8], cells: &[u8], map: &[u8], out: &mut [
         return Written::Refused(reason);
     }
     extremal::contained_into(n, arities, cells, map, out);
+    Written::Done
+}
+
+// The earliest congruence that holds v and w apart goes to the first n bytes of out; v and w may come in either order. Of two congruences the earlier
+// is the one that holds the first pair lying in just one of them. Reasons to decline: 1 to 7, 9 and 10, and for n = 1 there always is one; then nothing
+// is written.
+pub fn separate(
+    n: usize,
+    arities: &[u8],
+    cells: &[u8],
+    v: usize,
+    w: usize,
+    out: &mut [u8],
+) -> Written
+    ensures { λ r. ⌜ (r, now (out .exit)) ≡ separateCall (algebraOf n (now (arities .entry)) (now (cells .entry))) v w (now (out .entry)) ⌝ }
+{
+    let check = checks::separate_check(n, arities, cells, v, w, out.len());
+    if let Check::Failed(reason) = check {
+        return Written::Refused(reason);
+    }
+    extremal::separated_into(n, arities, cells, v, w, out);
     Written::Done
 }
 
