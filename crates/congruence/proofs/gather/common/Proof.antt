@@ -1,23 +1,18 @@
-use Prim.Native.Nat.{ℕ}
+-- `common`: the first pair is of two elements below n, so they fit into bytes.
 use mathlib.Core.Path.{_≡_, ap}
 use native.Mathlib.Omega.{arith}
-use Rattle.equivalence.specs.Order.{Pair, firstHeld}
+use borrow.Author.Needs.{needs}
 use Rattle.equivalence.proofs.Tests.{not-T-of}
+use Rattle.equivalence.specs.Order.{Pair, firstHeld}
+use Rattle.congruence.proofs.Gathering.{first-below}
 use Rattle.congruence.specs.Calls.{element}
 use Rattle.congruence.specs.declared.gather.Collected.the-variants.{Joined}
-use Rattle.congruence.proofs.Gathering.{first-below}
-use borrow.Author.Needs.{needs}
 use Rattle.congruence.proofs.gather.common.Statement.{statement}
 use Rattle.congruence.proofs.gather.common.Tie as tie
-use Rattle.congruence.proofs.gather.common.Reads as reads
-use Rattle.congruence.proofs.gather.common.Lts as lts
-use Rattle.equivalence.proofs.order.first_held.Reads as first-held-reads
 
--- src/gather.rt:63:9
 first-held-requires : tie.Need-first-held-requires
 first-held-requires c κs = search needs
 
--- src/gather.rt:64:30
 cast-t4 : tie.Need-cast-t4
 cast-t4 c = 
     let k = c .before .before .before in
@@ -25,7 +20,6 @@ cast-t4 c =
     let x : c .before .first-held .result .x ≡ firstHeld (k .args .n) (k .args .met .now) .0 = ap (λ (p : Pair). p .0) (c .before .first-held .ensures) in
     omega (arith, b .0, b .1)
 
--- src/gather.rt:64:53
 cast-t6 : tie.Need-cast-t6
 cast-t6 c = 
     let k = c .before .before .before .before in
@@ -33,7 +27,6 @@ cast-t6 c =
     let y : c .before .before .first-held .result .y ≡ firstHeld (k .args .n) (k .args .met .now) .1 = ap (λ (p : Pair). p .1) (c .before .before .first-held .ensures) in
     omega (arith, b .1)
 
--- src/gather.rt:56:1
 returns : tie.Need-returns
 returns c = ap (λ (p : Pair). Joined (element (p .0)) (element (p .1))) (c .before .before .first-held .ensures)
 

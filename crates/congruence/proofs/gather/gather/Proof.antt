@@ -1,8 +1,7 @@
+-- `gather`: the laws of `Collecting` start, keep and end the loop.
 use Prim.Native.Nat.{ℕ, _-_}
-use mathlib.Core.List.{List}
-use Rattle.equivalence.specs.Equivalence.{byte, isIdentity}
-use Rattle.equivalence.specs.Kernel.{Canonical}
 use mathlib.Core.Bool.{Bool, true, not}
+use mathlib.Core.List.{List}
 use mathlib.Core.Path.{_≡_, refl, sym, ap, subst, _∙_}
 use native.Mathlib.Omega.{arith}
 use lib.Dec.{T}
@@ -11,18 +10,14 @@ use borrow.Author.Needs.{needs}
 use borrow.Author.Tests.{not-true, not-false}
 use borrow.Rule.Slice.PartMut.{same-len-mid}
 use Rattle.equivalence.proofs.Tests.{not-T-of, T-of}
-use Rattle.algebra.specs.Algebra.{algebraOf}
+use Rattle.equivalence.specs.Equivalence.{byte, isIdentity}
+use Rattle.equivalence.specs.Kernel.{Canonical}
 use Rattle.algebra.proofs.Accepted.{accepted-wellFormed}
-use Rattle.congruence.proofs.Listings.{part-rest}
+use Rattle.algebra.specs.Algebra.{algebraOf}
 use Rattle.congruence.proofs.Gathering.{Collecting, collecting-start, collecting-canonical, collecting-few, collecting-long, collecting-fits, collecting-more, collecting-all, collecting-stop}
+use Rattle.congruence.proofs.Listings.{part-rest}
 use Rattle.congruence.proofs.gather.gather.Statement.{statement}
 use Rattle.congruence.proofs.gather.gather.Tie as tie
-use Rattle.congruence.proofs.gather.gather.Reads as reads
-use Rattle.congruence.proofs.gather.gather.Lts as lts
-use Rattle.congruence.proofs.gather.add.Reads as add-reads
-use Rattle.congruence.proofs.gather.common.Reads as common-reads
-use Rattle.congruence.proofs.meets.whole_into.Reads as whole-into-reads
-use Rattle.equivalence.proofs.map.is_identity.Reads as is-identity-reads
 
 abbrev Inv-loop : tie.InvT-loop
 Inv-loop n arities cells met₀ maps₀ count₀ at₀ met maps count at = (length met ≡ length met₀) × Collecting (algebraOf n arities cells) maps₀ count at met maps
@@ -30,35 +25,27 @@ Inv-loop n arities cells met₀ maps₀ count₀ at₀ met maps count at = (leng
 abbrev μ-loop : tie.MeasureT-loop
 μ-loop n arities cells met₀ maps₀ count₀ at₀ met maps count at = n - count
 
--- src/gather.rt:78:5
--- the loop goes on: the meet is not the identity
 going : {b i : Bool} → b ≡ i → not b ≡ true → ¬ T i
 going {b} e t = subst (λ (z : Bool). ¬ T z) e (not-T-of (not-true b t))
 
 whole-into-requires : tie.Need-whole-into-requires Inv-loop μ-loop
 whole-into-requires c κs = search needs
 
--- src/gather.rt:81:5
 loop-holds : tie.Need-loop-holds Inv-loop μ-loop
 loop-holds c = let k = c .before .before .before .before .before .before .before .before in (refl, collecting-start (accepted-wellFormed _ (k .pre .0)) _ _ (c .before .before .whole-into .ensures))
 
--- src/gather.rt:81:12
 is-identity-requires : tie.Need-is-identity-requires Inv-loop μ-loop
 is-identity-requires c κs = let k = c .before .before .before .before .before .before .before .before .before .before in let l = c .before .loop in (omega (arith, l .inv .0), collecting-canonical (accepted-wellFormed _ (k .pre .0)) (k .pre .1 .1 .1) (l .inv .1))
 
--- src/gather.rt:82:40
 sub-add : tie.Need-sub-add Inv-loop μ-loop
 sub-add c = let k = c .before .before .before .before .before .before .before .before .before .before .before .before .before in omega (arith, collecting-fits (accepted-wellFormed _ (k .pre .0)) (k .pre .1 .1 .1) (c .before .before .before .before .loop .inv .1) (going (c .before .before .is-identity .ensures) (c .before .if1 .taken)))
 
--- src/gather.rt:82:40
 part-add-start : tie.Need-part-add-start Inv-loop μ-loop
 part-add-start c = let k = c .before .before .before .before .before .before .before .before .before .before .before .before .before in omega (arith, collecting-fits (accepted-wellFormed _ (k .pre .0)) (k .pre .1 .1 .1) (c .before .before .before .before .loop .inv .1) (going (c .before .before .is-identity .ensures) (c .before .if1 .taken)))
 
--- src/gather.rt:82:40
 part-add-end : tie.Need-part-add-end Inv-loop μ-loop
 part-add-end c = let k = c .before .before .before .before .before .before .before .before .before .before .before .before .before in omega (arith, collecting-fits (accepted-wellFormed _ (k .pre .0)) (k .pre .1 .1 .1) (c .before .before .before .before .loop .inv .1) (going (c .before .before .is-identity .ensures) (c .before .if1 .taken)))
 
--- src/gather.rt:82:12
 add-requires : tie.Need-add-requires Inv-loop μ-loop
 add-requires c κs = 
     let k = c .before .before .before .before .before .before .before .before .before .before .before .before .before .before in
@@ -67,7 +54,6 @@ add-requires c κs =
     let fits = collecting-fits w (k .pre .1 .1 .1) (l .inv .1) (going (c .before .before .before .is-identity .ensures) (c .before .before .if1 .taken)) in
     (k .pre .0, (omega (arith, l .inv .0), (collecting-canonical w (k .pre .1 .1 .1) (l .inv .1), (sym (c .before .before .before .is-identity .ensures) ∙ not-true (c .before .before .before .is-identity .result) (c .before .before .if1 .taken), rw (part-rest (l .at) (l .maps), length-drop (l .at) (l .maps)) (omega arith)))))
 
--- src/gather.rt:83:13
 common-requires : tie.Need-common-requires Inv-loop μ-loop
 common-requires c κs = 
     let k = c .before .before .before .before .before .before .before .before .before .before .before .before .before .before .before .before .before .before .before .before .before in
@@ -76,28 +62,23 @@ common-requires c κs =
     let e = c .before .before .before .before .before .before .add .ensures .stays (c .before .if2 .taken) in
     (w .some, (w .most, (omega (arith, l .inv .0, ap length e), (subst (λ (m : List ℕ). Canonical (k .args .n) (byte m)) (sym e) (collecting-canonical w (k .pre .1 .1 .1) (l .inv .1)), ap (isIdentity (k .args .n)) e ∙ sym (c .before .before .before .before .before .before .before .before .before .before .is-identity .ensures) ∙ not-true (c .before .before .before .before .before .before .before .before .before .before .is-identity .result) (c .before .before .before .before .before .before .before .before .before .if1 .taken)))))
 
--- src/gather.rt:83:13
 same-length : tie.Need-same-length Inv-loop μ-loop
 same-length c = c .before .before .before .before .before .before .before .add .kept .1 .1 .1 .0 ∙ c .before .before .before .before .before .before .before .before .before .before .before .before .before .loop .inv .0 ∙ c .before .before .before .before .before .before .before .before .before .before .before .before .before .before .before .before .whole-into .kept .0
 
--- src/gather.rt:83:13
 same-length-2 : tie.Need-same-length-2 Inv-loop μ-loop
 same-length-2 c = 
     let k = c .before .before .before .before .before .before .before .before .before .before .before .before .before .before .before .before .before .before .before .before .before .before in
     let l = c .before .before .before .before .before .before .before .before .before .before .before .before .before .loop in
     same-len-mid (l .at) (length (l .maps) - l .at) (l .maps) (c .before .before .before .before .before .before .before .add .last .1 .1 .1 .1 .0) (c .before .before .before .before .before .before .before .add .kept .1 .1 .1 .1 .0) ∙ collecting-long (accepted-wellFormed _ (k .pre .0)) (k .pre .1 .1 .1) (l .inv .1)
 
--- src/gather.rt:83:13
 returns : tie.Need-returns Inv-loop μ-loop
 returns c = 
     let k = c .before .before .before .before .before .before .before .before .before .before .before .before .before .before .before .before .before .before .before .before .before .before in
     collecting-stop (accepted-wellFormed _ (k .pre .0)) (k .pre .1 .1 .1) (c .before .before .before .before .before .before .before .before .before .before .before .before .before .loop .inv .1) _ (k .pre .1 .0) (going (c .before .before .before .before .before .before .before .before .before .before .before .is-identity .ensures) (c .before .before .before .before .before .before .before .before .before .before .if1 .taken)) (c .before .before .before .before .before .before .before .add .ensures) (c .before .before .if2 .taken) (c .common .ensures)
 
--- src/gather.rt:85:9
 add-count : tie.Need-add-count Inv-loop μ-loop
 add-count c = let k = c .before .before .before .before .before .before .before .before .before .before .before .before .before .before .before .before .before .before .before .before in omega (arith, collecting-few (accepted-wellFormed _ (k .pre .0)) (k .pre .1 .1 .1) (c .before .before .before .before .before .before .before .before .before .before .before .loop .inv .1), accepted-wellFormed _ (k .pre .0) .most)
 
--- src/gather.rt:86:9
 add-at : tie.Need-add-at Inv-loop μ-loop
 add-at c =
     let k = c .before .before .before .before .before .before .before .before .before .before .before .before .before .before .before .before .before .before .before .before in
@@ -105,26 +86,21 @@ add-at c =
     let i = c .before .before .before .before .before .before .before .before .before .before .before .loop .inv .1 in
     omega (arith, collecting-fits w (k .pre .1 .1 .1) i (going (c .before .before .before .before .before .before .before .before .before .is-identity .ensures) (c .before .before .before .before .before .before .before .before .if1 .taken)), collecting-long w (k .pre .1 .1 .1) i)
 
--- src/gather.rt:81:5
 loop-less : tie.Need-loop-less Inv-loop μ-loop
 loop-less c = let k = c .before .before .before .before .before .before .before .before .before .before .before .before .before .before .before .before .before .before .before .before in omega (arith, collecting-few (accepted-wellFormed _ (k .pre .0)) (k .pre .1 .1 .1) (c .before .before .before .before .before .before .before .before .before .before .before .loop .inv .1))
 
--- src/gather.rt:81:5
 loop-again : tie.Need-loop-again Inv-loop μ-loop
 loop-again c = 
     let k = c .before .before .before .before .before .before .before .before .before .before .before .before .before .before .before .before .before .before .before .before in
     let l = c .before .before .before .before .before .before .before .before .before .before .before .loop in
     (c .before .before .before .before .before .add .kept .1 .1 .1 .0 ∙ l .inv .0, collecting-more (accepted-wellFormed _ (k .pre .0)) (k .pre .1 .1 .1) (l .inv .1) (going (c .before .before .before .before .before .before .before .before .before .is-identity .ensures) (c .before .before .before .before .before .before .before .before .if1 .taken)) (c .before .before .before .before .before .add .ensures) (c .if2 .left))
 
--- src/gather.rt:71:1
 same-length-3 : tie.Need-same-length-3 Inv-loop μ-loop
 same-length-3 c = c .before .before .before .loop .inv .0 ∙ c .before .before .before .before .before .before .whole-into .kept .0
 
--- src/gather.rt:71:1
 same-length-4 : tie.Need-same-length-4 Inv-loop μ-loop
 same-length-4 c = let k = c .before .before .before .before .before .before .before .before .before .before .before .before in collecting-long (accepted-wellFormed _ (k .pre .0)) (k .pre .1 .1 .1) (c .before .before .before .loop .inv .1)
 
--- src/gather.rt:71:1
 returns-2 : tie.Need-returns-2 Inv-loop μ-loop
 returns-2 c = 
     let k = c .before .before .before .before .before .before .before .before .before .before .before .before in
