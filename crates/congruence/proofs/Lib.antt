@@ -16,3 +16,4 @@ pub mod Pruning
 pub mod Gathering
 pub mod Suffixes
 pub mod Serving
+pub mod Factoring

@@ -8,6 +8,7 @@ use equivalence::Written;
 mod checks;
 pub mod extremal;
 
+mod factor;
 mod gather;
 mod meets;
 mod prune;
