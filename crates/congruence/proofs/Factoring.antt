@@ -1,7 +1,7 @@
 -- Decompose of an accepted algebra: what was gathered is a list of maps in a slice, what is left of it are the factors, and what the answer and
 -- the lent bytes are in each case.
 use Prim.Native.Nat.{ℕ, _-_, _*_, _≤_, _<_}
-use mathlib.Core.List.{List, []}
+use mathlib.Core.List.{List, [], _∷_, _++_}
 use mathlib.Core.Path.{_≡_, sym, ap, subst, _∙_}
 use native.Mathlib.Nat.{mul-le-mul-right}
 use native.Mathlib.Omega.{arith}
@@ -10,14 +10,17 @@ use lib.ListN.{length, getD, drop}
 use Rattle.equivalence.specs.Equivalence.{Map, blocks, whole, same}
 use Rattle.equivalence.specs.Lists.{concat, stretch}
 use Rattle.equivalence.specs.Order.{Pair}
-use Rattle.equivalence.specs.Refusal.{written}
+use Rattle.equivalence.specs.Refusal.{lowest, spaceTest, written}
 use Rattle.equivalence.proofs.BlockNumbers.{blocks-some}
 use Rattle.equivalence.proofs.Lists.{member-at, member-index}
 use Rattle.equivalence.proofs.Maps.{IsMap, isMap-of, whole-map}
+use Rattle.equivalence.proofs.Refusals.{of-passed, of-spaceTest}
 use Rattle.equivalence.proofs.Tests.{pick-no}
 use Rattle.equivalence.proofs.Writing.{written-length}
+use Rattle.algebra.specs.Accepted.{algebraTests, Accepted}
 use Rattle.algebra.specs.Algebra.{Algebra}
 use Rattle.algebra.proofs.Accepted.{WellFormed}
+use Rattle.equivalence.specs.declared.Check.the-variants.{Passed}
 use Rattle.congruence.specs.Calls.{element, decomposed, factorBytes}
 use Rattle.congruence.specs.Decompose.{gathered, pruned, listed, reducible, commonPair}
 use Rattle.congruence.specs.Listing.{listing, MapsListed}
@@ -25,6 +28,7 @@ use Rattle.congruence.proofs.Calls.{factorBytes-yes}
 use Rattle.congruence.proofs.CommonPair.{commonPair-one}
 use Rattle.congruence.proofs.Factors.{Gathered, gathered-law, listed-law, split, decomposed-yes, decomposed-no}
 use Rattle.congruence.proofs.Listings.{listing-at, listing-concat, concat-length}
+use Rattle.congruence.proofs.Serving.{of-checked}
 use Rattle.division.specs.Tables.{laid}
 use Rattle.equivalence.specs.declared.Element.{Element}
 use Rattle.congruence.specs.declared.Decomposed.{Decomposed}
@@ -94,3 +98,9 @@ module _ {a : Algebra} (c : WellFormed a) where
   -- 11 for n = 1: nothing is gathered
   pub answer-one : a .size ≡ 1 → (out : List ℕ) → (Irreducible (element 0) (element 0) ≡ decomposed a) × (out ≡ written (factorBytes a) out)
   answer-one e out = answer-joined out (λ t. absurd (omega (arith, listed-law a c .few, split a c t .some))) (commonPair-one a c e)
+
+-- what Decompose may rely on once its tests have passed
+pub of-decomposeTests : (a : Algebra) (room : ℕ) → Passed ≡ lowest (algebraTests a ++ (spaceTest ((a .size - 1) * a .size) room ∷ [])) → Accepted a × ((a .size - 1) * a .size ≤ room)
+of-decomposeTests a room e =
+    let p = of-checked a (spaceTest ((a .size - 1) * a .size) room ∷ []) e in
+    (p .0, of-spaceTest ((a .size - 1) * a .size) room (of-passed (spaceTest ((a .size - 1) * a .size) room) [] (p .1) .0))

@@ -11,9 +11,9 @@ ghost use Rattle.equivalence.specs.Order.{firstHeld};
 ghost use Rattle.congruence.specs.Calls.{element};
 ghost use Rattle.congruence.specs.declared.gather.Collected.the-variants.{Joined};
 ghost use Rattle.congruence.specs.Gathering.{Step, GatheredRight};
-
 use crate::extremal::separated_into;
-use crate::meets::{meet_with, whole_into};
+use crate::meets::meet_with;
+use crate::meets::whole_into;
 use equivalence::Element;
 use equivalence::map::is_identity;
 use equivalence::order::first_held;

@@ -14,7 +14,7 @@ use Rattle.congruence.proofs.factor.factors_in.Statement.{statement}
 use Rattle.congruence.proofs.factor.factors_in.Tie as tie
 
 gather-requires : tie.Need-gather-requires
-gather-requires c κs = 
+gather-requires c κs =
     let k = c .before .before .before .before .before .before .before .before in
     let w = accepted-wellFormed _ (k .pre .0) in
     let few : k .args .n - 1 ≤ 63 = omega (arith, w .most) in
@@ -27,18 +27,19 @@ enum-known-found-2 : tie.Need-enum-known-found-2
 enum-known-found-2 c = search needs
 
 prune-requires : tie.Need-prune-requires
-prune-requires c κs = 
+prune-requires c κs =
     let k = c .before .before .before .before .before .before .before .before .before .before .before .before .before .before .before .before .before .before .before .before in
     let w = accepted-wellFormed _ (k .pre .0) in
     let few : k .args .n - 1 ≤ 63 = omega (arith, w .most) in
     let room : (k .args .n - 1) * k .args .n ≤ length (k .args .maps .now) = omega (arith, w .most, mul-le-mul-right (k .args .n) few) in
     let g = subst (λ (r : Collected). GatheredRight (algebraOf (k .args .n) (k .args .arities .now) (k .args .cells .now)) r (k .args .maps .now) (c .before .before .before .before .before .before .before .before .before .before .before .gather .last .1 .1 .1 .1 .0)) (c .before .before .before .before .before .found2 .given .1) (c .before .before .before .before .before .before .before .before .before .before .before .gather .ensures) in
-    let h : c .before .before .before .before .before .found2 .given .0 .0 ≤ k .args .n - 1 = gathered-few w (k .args .maps .now) (g .1) (g .2) room in
-    (maps-listed w (k .args .maps .now) (g .1) (g .2) room,
-    (omega (arith, w .most, mul-le-mul-right (k .args .n) h, mul-le-mul-right (k .args .n) few), (omega (arith, w .most, c .before .before .before .before .before .before .before .before .before .before .before .gather .kept .1 .1 .1 .0), omega (arith, mul-le-mul-right (k .args .n) h))))
+    let h : c .before .before .before .before .before .found2 .given .0 .0 ≤ k .args .n - 1 = gathered-few w (k .args .maps .now) (g .1) (g .2) room in (
+      maps-listed w (k .args .maps .now) (g .1) (g .2) room,
+      (omega (arith, w .most, mul-le-mul-right (k .args .n) h, mul-le-mul-right (k .args .n) few), (omega (arith, w .most, c .before .before .before .before .before .before .before .before .before .before .before .gather .kept .1 .1 .1 .0), omega (arith, mul-le-mul-right (k .args .n) h))),
+    )
 
 cast-t26 : tie.Need-cast-t26
-cast-t26 c = 
+cast-t26 c =
     let k = c .before .before .before .before .before .before .before .before .before .before .before .before .before .before .before .before .before .before .before .before .before .before .before .before .before .before .before in
     let w = accepted-wellFormed _ (k .pre .0) in
     let few : k .args .n - 1 ≤ 63 = omega (arith, w .most) in
@@ -53,7 +54,7 @@ same-length-2 : tie.Need-same-length-2
 same-length-2 c = search needs
 
 returns : tie.Need-returns
-returns c = 
+returns c =
     let k = c .before .before .before .before .before .before .before .before .before .before .before .before .before .before .before .before in
     let g = subst (λ (r : Collected). GatheredRight (algebraOf (k .args .n) (k .args .arities .now) (k .args .cells .now)) r (k .args .maps .now) (c .before .before .before .before .before .before .before .gather .last .1 .1 .1 .1 .0)) (c .before .found .given .1) (c .before .before .before .before .before .before .before .gather .ensures) in
     answer-joined (accepted-wellFormed _ (k .pre .0)) (k .args .out .now) (g .0) (g .1)
@@ -71,7 +72,7 @@ same-length-6 : tie.Need-same-length-6
 same-length-6 c = search needs
 
 returns-2 : tie.Need-returns-2
-returns-2 c = 
+returns-2 c =
     let k = c .before .before .before .before .before .before .before .before .before .before .before .before .before .before .before .before .before .before .before .before .before .before .before .before .before .before .before in
     let w = accepted-wellFormed _ (k .pre .0) in
     let few : k .args .n - 1 ≤ 63 = omega (arith, w .most) in

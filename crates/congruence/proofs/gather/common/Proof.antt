@@ -14,14 +14,14 @@ first-held-requires : tie.Need-first-held-requires
 first-held-requires c κs = search needs
 
 cast-t4 : tie.Need-cast-t4
-cast-t4 c = 
+cast-t4 c =
     let k = c .before .before .before in
     let b = first-below (k .args .n) (k .args .met .now) (not-T-of (k .pre .1 .1 .1 .1)) in
     let x : c .before .first-held .result .x ≡ firstHeld (k .args .n) (k .args .met .now) .0 = ap (λ (p : Pair). p .0) (c .before .first-held .ensures) in
     omega (arith, b .0, b .1)
 
 cast-t6 : tie.Need-cast-t6
-cast-t6 c = 
+cast-t6 c =
     let k = c .before .before .before .before in
     let b = first-below (k .args .n) (k .args .met .now) (not-T-of (k .pre .1 .1 .1 .1)) in
     let y : c .before .before .first-held .result .y ≡ firstHeld (k .args .n) (k .args .met .now) .1 = ap (λ (p : Pair). p .1) (c .before .before .first-held .ensures) in

@@ -47,7 +47,7 @@ part-add-end : tie.Need-part-add-end Inv-loop μ-loop
 part-add-end c = let k = c .before .before .before .before .before .before .before .before .before .before .before .before .before in omega (arith, collecting-fits (accepted-wellFormed _ (k .pre .0)) (k .pre .1 .1 .1) (c .before .before .before .before .loop .inv .1) (going (c .before .before .is-identity .ensures) (c .before .if1 .taken)))
 
 add-requires : tie.Need-add-requires Inv-loop μ-loop
-add-requires c κs = 
+add-requires c κs =
     let k = c .before .before .before .before .before .before .before .before .before .before .before .before .before .before in
     let l = c .before .before .before .before .before .loop in
     let w = accepted-wellFormed _ (k .pre .0) in
@@ -55,7 +55,7 @@ add-requires c κs =
     (k .pre .0, (omega (arith, l .inv .0), (collecting-canonical w (k .pre .1 .1 .1) (l .inv .1), (sym (c .before .before .before .is-identity .ensures) ∙ not-true (c .before .before .before .is-identity .result) (c .before .before .if1 .taken), rw (part-rest (l .at) (l .maps), length-drop (l .at) (l .maps)) (omega arith)))))
 
 common-requires : tie.Need-common-requires Inv-loop μ-loop
-common-requires c κs = 
+common-requires c κs =
     let k = c .before .before .before .before .before .before .before .before .before .before .before .before .before .before .before .before .before .before .before .before .before in
     let l = c .before .before .before .before .before .before .before .before .before .before .before .before .loop in
     let w = accepted-wellFormed _ (k .pre .0) in
@@ -66,13 +66,13 @@ same-length : tie.Need-same-length Inv-loop μ-loop
 same-length c = c .before .before .before .before .before .before .before .add .kept .1 .1 .1 .0 ∙ c .before .before .before .before .before .before .before .before .before .before .before .before .before .loop .inv .0 ∙ c .before .before .before .before .before .before .before .before .before .before .before .before .before .before .before .before .whole-into .kept .0
 
 same-length-2 : tie.Need-same-length-2 Inv-loop μ-loop
-same-length-2 c = 
+same-length-2 c =
     let k = c .before .before .before .before .before .before .before .before .before .before .before .before .before .before .before .before .before .before .before .before .before .before in
     let l = c .before .before .before .before .before .before .before .before .before .before .before .before .before .loop in
     same-len-mid (l .at) (length (l .maps) - l .at) (l .maps) (c .before .before .before .before .before .before .before .add .last .1 .1 .1 .1 .0) (c .before .before .before .before .before .before .before .add .kept .1 .1 .1 .1 .0) ∙ collecting-long (accepted-wellFormed _ (k .pre .0)) (k .pre .1 .1 .1) (l .inv .1)
 
 returns : tie.Need-returns Inv-loop μ-loop
-returns c = 
+returns c =
     let k = c .before .before .before .before .before .before .before .before .before .before .before .before .before .before .before .before .before .before .before .before .before .before in
     collecting-stop (accepted-wellFormed _ (k .pre .0)) (k .pre .1 .1 .1) (c .before .before .before .before .before .before .before .before .before .before .before .before .before .loop .inv .1) _ (k .pre .1 .0) (going (c .before .before .before .before .before .before .before .before .before .before .before .is-identity .ensures) (c .before .before .before .before .before .before .before .before .before .before .if1 .taken)) (c .before .before .before .before .before .before .before .add .ensures) (c .before .before .if2 .taken) (c .common .ensures)
 
@@ -90,7 +90,7 @@ loop-less : tie.Need-loop-less Inv-loop μ-loop
 loop-less c = let k = c .before .before .before .before .before .before .before .before .before .before .before .before .before .before .before .before .before .before .before .before in omega (arith, collecting-few (accepted-wellFormed _ (k .pre .0)) (k .pre .1 .1 .1) (c .before .before .before .before .before .before .before .before .before .before .before .loop .inv .1))
 
 loop-again : tie.Need-loop-again Inv-loop μ-loop
-loop-again c = 
+loop-again c =
     let k = c .before .before .before .before .before .before .before .before .before .before .before .before .before .before .before .before .before .before .before .before in
     let l = c .before .before .before .before .before .before .before .before .before .before .before .loop in
     (c .before .before .before .before .before .add .kept .1 .1 .1 .0 ∙ l .inv .0, collecting-more (accepted-wellFormed _ (k .pre .0)) (k .pre .1 .1 .1) (l .inv .1) (going (c .before .before .before .before .before .before .before .before .before .is-identity .ensures) (c .before .before .before .before .before .before .before .before .if1 .taken)) (c .before .before .before .before .before .add .ensures) (c .if2 .left))
@@ -102,7 +102,7 @@ same-length-4 : tie.Need-same-length-4 Inv-loop μ-loop
 same-length-4 c = let k = c .before .before .before .before .before .before .before .before .before .before .before .before in collecting-long (accepted-wellFormed _ (k .pre .0)) (k .pre .1 .1 .1) (c .before .before .before .loop .inv .1)
 
 returns-2 : tie.Need-returns-2 Inv-loop μ-loop
-returns-2 c = 
+returns-2 c =
     let k = c .before .before .before .before .before .before .before .before .before .before .before .before in
     collecting-all (accepted-wellFormed _ (k .pre .0)) (k .pre .1 .1 .1) (c .before .before .before .loop .inv .1) (k .pre .1 .0) (T-of (sym (c .before .is-identity .ensures) ∙ not-false (c .before .is-identity .result) (c .if1 .left)))
 
