@@ -191,13 +191,6 @@ laid-stretch n i lent m e h =
     rw (drop-at (take (i * n) lent) (m ++ drop (length m) (drop (i * n) lent)) (i * n) (length-take-le (i * n) lent (omega arith)))
     (take-at m (drop (length m) (drop (i * n) lent)) n e)
 
--- the part from there on begins with it
-pub laid-begins : {n : ℕ} {after : List ℕ} (at : ℕ) (lent m : List ℕ) → after ≡ laid lent at m → IsMap n m → at ≤ length lent → Begins n (onwards at after) m
-unfolding laid
-laid-begins at lent m e p h =
-    begins-written m (drop at lent)
-    (part-rest at _ ∙ ap (drop at) e ∙ drop-at (take at lent) (written m (drop at lent)) at (length-take-le at lent h)) p
-
 -- and the stretches behind it stay
 pub laid-later : (n i j : ℕ) (lent m : List ℕ) → length m ≡ n → i * n + n ≤ length lent → i < j → stretch n (laid lent (i * n) m) j ≡ stretch n lent j
 unfolding stretch laid written
