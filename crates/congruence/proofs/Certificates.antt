@@ -99,10 +99,10 @@ pub record IsCertified (a : Algebra) (ms : List Map) : Type 0 where
   pub needed : (i : ℕ) → i < length ms → ¬ Meets (a .size) (without i ms)
   pub maximal : (m : Map) → Member m ms → (x : ℕ) × (y : ℕ) × (x < a .size) × (y < a .size) × MaximalFor a m x y
 
-isIdentity-meets : (n : ℕ) (ms : List Map) → Meets n ms → T (isIdentity n (meetAll n ms))
+pub isIdentity-meets : (n : ℕ) (ms : List Map) → Meets n ms → T (isIdentity n (meetAll n ms))
 isIdentity-meets n ms h = isIdentity-of n (meetAll n ms) (λ x y l k e. h x y l k (of-meetAll n ms x y l k e))
 
-of-isIdentity-meets : (n : ℕ) (ms : List Map) → T (isIdentity n (meetAll n ms)) → Meets n ms
+pub of-isIdentity-meets : (n : ℕ) (ms : List Map) → T (isIdentity n (meetAll n ms)) → Meets n ms
 of-isIdentity-meets n ms t x y l k h = of-isIdentity n (meetAll n ms) t x y l k (meetAll-holds n ms x y l k h)
 
 module _ (a : Algebra) (ms : List Map) where

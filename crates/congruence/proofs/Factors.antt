@@ -36,7 +36,7 @@ pub record Gathered (a : Algebra) (d : Map) (ms : List Map) : Type 0 where
   pub meets : (x y : ℕ) → x < a .size → y < a .size → Holds d x y → AllHold ms x y → x ≡ y
 
 module _ (a : Algebra) (c : WellFormed a) where
-  added-law : (d : Map) → ¬ Discrete (a .size) d → (x : ℕ) × (y : ℕ) × (x < a .size) × (y < a .size) × Holds d x y × MaximalFor a (added a d) x y
+  pub added-law : (d : Map) → ¬ Discrete (a .size) d → (x : ℕ) × (y : ℕ) × (x < a .size) × (y < a .size) × Holds d x y × MaximalFor a (added a d) x y
   unfolding added
   added-law d f =
       let r = firstHeld-law (a .size) d f in

@@ -11,4 +11,9 @@ pub mod GreatestCongruence
 pub mod LeastCongruence
 pub mod Quotients
 pub mod Separation
+pub mod Listings
+pub mod Pruning
+pub mod Gathering
+pub mod Suffixes
 pub mod Serving
+pub mod Factoring

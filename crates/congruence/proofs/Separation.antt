@@ -83,6 +83,13 @@ separated-is a v w m s =
         let r = of-keep (λ c. not (holds c v w)) (congruences a) c i in
         (of-congruences a c (r .0), λ e. T-not (holds c v w) (r .1) (holds-of c v w e))
 
+-- of two pairs only one comes before the other
+pub lex-asym : (p q : Pair) → Lex p q → Lex q p → ⊥
+lex-asym p q b c = elim b [
+  | inl o ↦ elim c [ inl i ↦ omega arith | inr i ↦ omega (arith, i .0) ]
+  | inr o ↦ elim c [ inl i ↦ omega (arith, o .0) | inr i ↦ omega (arith, o .1, i .1) ]
+]
+
 -- a pair before p stands among those listed before p
 before-done : (n : ℕ) (done rest : List Pair) (p q : Pair) → pairs n ≡ done ++ (p ∷ rest) → Member q (pairs n) → Lex q p → Member q done
 before-done n done rest p q e m b =
@@ -90,18 +97,12 @@ before-done n done rest p q e m b =
       | inl i ↦ i
       | inr i ↦ elim (cases-cons i) [
         | inl z ↦ absurd (never p (subst (λ (r : Pair). Lex r p) z b))
-        | inr o ↦ absurd (both-ways p q (after done (subst (λ (l : List Pair). Sorted Lex l) e (sorted-pairs n)) o) b)
+        | inr o ↦ absurd (lex-asym p q (after done (subst (λ (l : List Pair). Sorted Lex l) e (sorted-pairs n)) o) b)
       ]
     ]
   where
     never : (p : Pair) → Lex p p → ⊥
     never p b = elim b [ inl o ↦ omega arith | inr o ↦ omega (arith, o .1) ]
-
-    both-ways : (p q : Pair) → Lex p q → Lex q p → ⊥
-    both-ways p q b c = elim b [
-      | inl o ↦ elim c [ inl i ↦ omega arith | inr i ↦ omega (arith, i .0) ]
-      | inr o ↦ elim c [ inl i ↦ omega (arith, o .0) | inr i ↦ omega (arith, o .1, i .1) ]
-    ]
 
     after : (done : List Pair) → Sorted Lex (done ++ (p ∷ rest)) → Member q rest → Lex p q
     after [] s o = s .0 q o

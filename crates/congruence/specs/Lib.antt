@@ -4,3 +4,5 @@ pub mod Certify
 pub mod Calls
 pub mod Outcome
 pub mod Demands
+pub mod Listing
+pub mod Gathering

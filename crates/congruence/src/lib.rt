@@ -1,12 +1,16 @@
 // The services over an algebra: the congruences they give, the answers and the lent bytes.
 ghost use mathlib.Core.Path.{_≡_};
 ghost use Rattle.algebra.specs.Algebra.{algebraOf};
-ghost use Rattle.congruence.specs.Calls.{generateCall, containedCall, separateCall, quotientCall};
+ghost use Rattle.congruence.specs.Calls.{decomposeCall, generateCall, containedCall, separateCall, quotientCall};
 use equivalence::Check;
 use equivalence::Written;
 
 mod checks;
 pub mod extremal;
+mod factor;
+mod gather;
+mod meets;
+mod prune;
 
 // What Generate answers: how many merges made the congruence.
 pub enum Generated {
@@ -92,4 +96,18 @@ pub fn quotient(n: usize, arities: &[u8], cells: &[u8], map: &[u8], out: &mut [u
         return Divided::Refused(reason);
     }
     Divided::Blocks(division::divide(n, arities, cells, map, out))
+}
+
+// The subdirect factors: congruences that meet in the identity, none of which can be left out, each maximal for some pair. Factor i goes to the n bytes
+// from i × n on, and the answer is how many there are; bytes behind the last factor keep their value. An irreducible algebra (11) is answered with the
+// first pair common to all congruences but the identity, 0 and 0 for n = 1, and nothing is written. Reasons to decline besides: 1 to 6, and 9 where
+// fewer than (n − 1) × n bytes are lent; then nothing is written either.
+pub fn decompose(n: usize, arities: &[u8], cells: &[u8], out: &mut [u8]) -> Decomposed
+    ensures { λ r. ⌜ (r, now (out .exit)) ≡ decomposeCall (algebraOf n (now (arities .entry)) (now (cells .entry))) (now (out .entry)) ⌝ }
+{
+    let check = checks::decompose_check(n, arities, cells, out.len());
+    if let Check::Failed(reason) = check {
+        return Decomposed::Refused(reason);
+    }
+    factor::factors(n, arities, cells, out)
 }
