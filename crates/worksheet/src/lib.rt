@@ -3,7 +3,7 @@
 ghost use mathlib.Core.Path.{_≡_};
 ghost use Prim.Native.Nat.{ℕ};
 ghost use Rattle.algebra.specs.Algebra.{algebraOf};
-ghost use Rattle.congruence.specs.Calls.{generateCall, containedCall, separateCall};
+ghost use Rattle.congruence.specs.Calls.{generateCall, containedCall, separateCall, decomposeCall};
 ghost use Rattle.congruence.specs.Outcome.{Outcome, packed, success, refusal, generatedOutcome, writtenOutcome, decomposedOutcome};
 use congruence::Decomposed;
 use congruence::Generated;
@@ -108,3 +108,16 @@ pub extern "C" fn congruence_separate(
     written_number(congruence::separate(n, arities, cells, v, w, out))
 }
 
+// The subdirect factors: 256 × count, and factor i from byte i × n of out; or 11 with a pair.
+#[no_mangle]
+pub extern "C" fn congruence_decompose(
+    n: usize,
+    arities: &[u8],
+    cells: &[u8],
+    out: &mut [u8],
+) -> u32
+    ensures { λ r. ⌜ r ≡ packed (decomposedOutcome (decomposeCall (algebraOf n (now (arities .entry)) (now (cells .entry))) (now (out .entry)) .0)) ⌝ }
+    ensures { λ _. ⌜ now (out .exit) ≡ decomposeCall (algebraOf n (now (arities .entry)) (now (cells .entry))) (now (out .entry)) .1 ⌝ }
+{
+    decomposed_number(congruence::decompose(n, arities, cells, out))
+}
