@@ -15,7 +15,7 @@ use Rattle.equivalence.specs.Lists.{every}
 use Rattle.equivalence.specs.Refusal.{written}
 use Rattle.equivalence.proofs.Maps.{identity-at}
 use Rattle.equivalence.proofs.Lists.{every-of, of-every, member-at, member-index}
-use Rattle.bench.specs.State.{mapOn, redrawn, sheetOf, zeroSheet, withMap}
+use Rattle.bench.specs.State.{mapOn, redrawn, sheetOf, noSheet, withMap}
 use Rattle.bench.specs.declared.Sheet.{Sheet}
 use Rattle.bench.specs.declared.Bench.{Bench}
 
@@ -31,15 +31,15 @@ module _ (n : ℕ) (m : Map) (s : Sheet) (e : length m ≡ n) where
 module _ (b : Bench) (k : ℕ) (m : Map) where
   pub withMap-same : k < length (b .sheets) → sheetOf (withMap b k m) k ≡ redrawn m (sheetOf b k)
   unfolding withMap sheetOf
-  withMap-same l = getD-set-same (b .sheets) k _ zeroSheet l
+  withMap-same l = getD-set-same (b .sheets) k _ noSheet l
 
   pub withMap-other : (j : ℕ) → j ≢ k → sheetOf (withMap b k m) j ≡ sheetOf b j
   unfolding withMap sheetOf
-  withMap-other j h = getD-set-other (b .sheets) k j _ zeroSheet h
+  withMap-other j h = getD-set-other (b .sheets) k j _ noSheet h
 
   withMap-outside : length (b .sheets) ≤ k → (j : ℕ) → sheetOf (withMap b k m) j ≡ sheetOf b j
   unfolding withMap sheetOf
-  withMap-outside l j = ap (λ (l : List Sheet). getD l j zeroSheet) (set-out (b .sheets) k _ l)
+  withMap-outside l j = ap (λ (l : List Sheet). getD l j noSheet) (set-out (b .sheets) k _ l)
 
   pub withMap-sheets : length (withMap b k m .sheets) ≡ length (b .sheets)
   unfolding withMap
@@ -57,15 +57,13 @@ module _ (b : Bench) (k : ℕ) (m : Map) where
       ]
 
 -- a test of every sheet, by the sheets' numbers
-module _ (p : Sheet → Bool) (b : Bench) where
-  pub every-sheet : ((k : ℕ) → k < length (b .sheets) → T (p (sheetOf b k))) → T (every p (b .sheets))
-  unfolding sheetOf
+module _ (p : Sheet → Bool) (l : List Sheet) where
+  pub every-sheet : ((k : ℕ) → k < length l → T (p (getD l k noSheet))) → T (every p l)
   every-sheet h =
-      every-of p (b .sheets) (λ s i. let r = member-index (b .sheets) s zeroSheet i in subst (λ (z : Sheet). T (p z)) (r .2) (h (r .0) (r .1)))
+      every-of p l (λ s i. let r = member-index l s noSheet i in subst (λ (z : Sheet). T (p z)) (r .2) (h (r .0) (r .1)))
 
-  pub of-every-sheet : T (every p (b .sheets)) → (k : ℕ) → k < length (b .sheets) → T (p (sheetOf b k))
-  unfolding sheetOf
-  of-every-sheet t k l = of-every p (b .sheets) t (getD (b .sheets) k zeroSheet) (member-at (b .sheets) k zeroSheet l)
+  pub of-every-sheet : T (every p l) → (k : ℕ) → k < length l → T (p (getD l k noSheet))
+  of-every-sheet t k o = of-every p l t (getD l k noSheet) (member-at l k noSheet o)
 
 -- a pass that writes each element's own number leaves the identity
 pub filled-identity : (n : ℕ) (f f′ : ℕ → ℕ) → Filled n (λ x. x) f f′ → Filled n (byte (identity n)) f f′

@@ -81,12 +81,12 @@ pub record Drawn (b : Bench) (n : ℕ) : Type 0 where
   pub map : (k : ℕ) → k < length (b .sheets) → T (isMap n (mapOn n (sheetOf b k)))
 
 bench-passed : (n : ℕ) (b : Bench) → ¬ T (benchTest n b .applies) → Drawn b n
-unfolding benchTest
+unfolding benchTest sheetOf
 bench-passed n b h =
     let drawn : Bool = every (λ s. isMap n (mapOn n s)) (b .sheets) in
     record {
       size = eqb→eq (b .n) n (no-not (eqb (b .n) n) (no-or-left (not (eqb (b .n) n)) (not drawn) h));
-      map = of-every-sheet (λ s. isMap n (mapOn n s)) b (no-not drawn (no-or-right (not (eqb (b .n) n)) (not drawn) h));
+      map = of-every-sheet (λ s. isMap n (mapOn n s)) (b .sheets) (no-not drawn (no-or-right (not (eqb (b .n) n)) (not drawn) h));
     }
 
 -- what Clear's tests leave

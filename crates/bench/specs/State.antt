@@ -1,6 +1,6 @@
 -- The bench: eight sheets, each with a map, over one n, and one tally.
 use Prim.Native.Nat.{ℕ, _+_, _-_}
-use mathlib.Core.List.{List}
+use mathlib.Core.List.{[]}
 use lib.ListN.{take, getD, set, replicate}
 use Rattle.equivalence.specs.Equivalence.{Map, identity, blocks}
 use Rattle.equivalence.specs.Refusal.{written}
@@ -27,9 +27,13 @@ zeroBench = record { n = 0; tally = 0; sheets = replicate 8 zeroSheet }
 unfoldable pub freshBench : ℕ → Bench
 freshBench n = record { n = n; tally = 0; sheets = replicate 8 (redrawn (identity n) zeroSheet) }
 
+-- no sheet: what stands past the last one
+abbrev pub noSheet : Sheet
+noSheet = record { map = [] }
+
 -- sheet number k
 unfoldable pub sheetOf : Bench → ℕ → Sheet
-sheetOf b k = getD (b .sheets) k zeroSheet
+sheetOf b k = getD (b .sheets) k noSheet
 
 -- the bench with another map on sheet k
 unfoldable pub withMap : Bench → ℕ → Map → Bench

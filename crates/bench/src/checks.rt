@@ -34,7 +34,8 @@ fn bench_check(bench: Bench, n: usize) -> equivalence::Check
     if bench.n != n {
         return equivalence::Check::Failed(equivalence::Refusal::NotMap);
     }
-    if !sheets::all_drawn(bench, n) {
+    let on_bench = bench.sheets;
+    if !sheets::all_drawn(on_bench, n) {
         return equivalence::Check::Failed(equivalence::Refusal::NotMap);
     }
     equivalence::Check::Passed

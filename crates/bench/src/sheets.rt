@@ -74,13 +74,13 @@ fn is_drawn(map: &[u8; 64], n: usize) -> bool
 }
 
 // Whether all eight sheets have maps over n.
-pub fn all_drawn(bench: Bench, n: usize) -> bool
+pub fn all_drawn(sheets: [Sheet; 8], n: usize) -> bool
     requires { ⌜ n ≤ 64 ⌝ }
-    ensures { λ r. ⌜ r ≡ every (λ s. isMap n (mapOn n s)) (bench .sheets) ⌝ }
+    ensures { λ r. ⌜ r ≡ every (λ s. isMap n (mapOn n s)) sheets ⌝ }
 {
     let mut k: usize = 0;
     while k < 8 {
-        let sheet = bench.sheets[k];
+        let sheet = sheets[k];
         let map = sheet.map;
         if !is_drawn(&map, n) {
             return false;

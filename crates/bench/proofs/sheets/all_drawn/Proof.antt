@@ -1,3 +1,15 @@
+use Prim.Native.Nat.{ℕ, _-_, _≤_, _<_}
+use mathlib.Core.Path.{_≡_, sym, _∙_}
+use native.Mathlib.Omega.{arith}
+use lib.Dec.{T}
+use lib.ListN.{length, getD}
+use borrow.Author.Needs.{needs}
+use borrow.Author.Count.{below-none, below-more}
+use borrow.Author.Tests.{not-true, not-false}
+use Rattle.equivalence.specs.Equivalence.{isMap}
+use Rattle.equivalence.proofs.Tests.{T-of, not-T-of, true-is, false-is}
+use Rattle.bench.specs.State.{mapOn, noSheet}
+use Rattle.bench.proofs.Drawing.{every-sheet, of-every-sheet}
 use Rattle.bench.proofs.sheets.all_drawn.Statement.{statement}
 use Rattle.bench.proofs.sheets.all_drawn.Tie as tie
 use Rattle.bench.proofs.sheets.all_drawn.Reads as reads
@@ -5,46 +17,54 @@ use Rattle.bench.proofs.sheets.all_drawn.Lts as lts
 use Rattle.bench.proofs.sheets.is_drawn.Reads as is-drawn-reads
 
 abbrev Inv-loop : tie.InvT-loop
-Inv-loop n bench k₀ k = ?
+Inv-loop n sheets k₀ k = (k ≤ 8) × ((j : ℕ) → j < k → T (isMap n (mapOn n (getD sheets j noSheet))))
 
 abbrev μ-loop : tie.MeasureT-loop
-μ-loop n bench k₀ k = ?
+μ-loop n sheets k₀ k = 8 - k
 
 -- src/sheets.rt:82:5
 loop-holds : tie.Need-loop-holds Inv-loop μ-loop
-loop-holds c = ?
+loop-holds c = (omega arith, below-none _)
 
 -- src/sheets.rt:83:21
 mul-sheet : tie.Need-mul-sheet Inv-loop μ-loop
-mul-sheet c = ?
+mul-sheet c = search needs
 
 -- src/sheets.rt:83:21
-element-copy-out-sheet : tie.Need-element-copy-out-sheet Inv-loop μ-loop
-element-copy-out-sheet c = ?
+array-copy-out-sheet : tie.Need-array-copy-out-sheet Inv-loop μ-loop
+array-copy-out-sheet c = search needs
 
 -- src/sheets.rt:85:13
 is-drawn-requires : tie.Need-is-drawn-requires Inv-loop μ-loop
-is-drawn-requires c κs = ?
+is-drawn-requires c κs = search needs
 
 -- src/sheets.rt:86:13
 returns : tie.Need-returns Inv-loop μ-loop
-returns c = ?
+unfolding mapOn
+returns c =
+    let l = c .before .before .before .before .before .before .before .args .t1 in
+    let e : length l ≡ 8 = search needs in
+    false-is _ (λ t. not-T-of (sym (c .before .is-drawn .ensures) ∙ not-true _ (c .if1 .taken)) (of-every-sheet _ l t _ (omega (arith, c .before .before .before .before .before .loop-test .taken))))
 
 -- src/sheets.rt:88:9
 add-k : tie.Need-add-k Inv-loop μ-loop
-add-k c = ?
+add-k c = search needs
 
 -- src/sheets.rt:82:5
 loop-less : tie.Need-loop-less Inv-loop μ-loop
-loop-less c = ?
+loop-less c = search needs
 
 -- src/sheets.rt:82:5
 loop-again : tie.Need-loop-again Inv-loop μ-loop
-loop-again c = ?
+unfolding mapOn
+loop-again c = (search needs, below-more _ _ (c .before .before .before .before .before .before .loop .inv .1) (T-of (sym (c .before .is-drawn .ensures) ∙ not-false _ (c .if1 .left))))
 
 -- src/sheets.rt:77:1
 returns-2 : tie.Need-returns-2 Inv-loop μ-loop
-returns-2 c = ?
+returns-2 c =
+    let l = c .before .before .args .t1 in
+    let e : length l ≡ 8 = search needs in
+    true-is _ (every-sheet _ l (λ j h. c .before .loop .inv .1 j (omega arith)))
 
 pub all-drawn-spec : {M : Type 1} → statement M
 all-drawn-spec =
@@ -54,7 +74,7 @@ all-drawn-spec =
     μ-loop
     loop-holds
     mul-sheet
-    element-copy-out-sheet
+    array-copy-out-sheet
     is-drawn-requires
     returns
     add-k

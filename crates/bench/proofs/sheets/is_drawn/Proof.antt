@@ -1,3 +1,4 @@
+use native.Mathlib.Numerals.{unary-clauses}
 use borrow.Author.Needs.{needs}
 use Rattle.bench.proofs.sheets.is_drawn.Statement.{statement}
 use Rattle.bench.proofs.sheets.is_drawn.Tie as tie
@@ -23,7 +24,7 @@ is-map-requires c κs = search needs
 
 -- src/sheets.rt:68:1
 returns : tie.Need-returns
-returns c = ?
+returns c = simp unary-clauses at (c .is-map .ensures)
 
 pub is-drawn-spec : {M : Type 1} → statement M
 is-drawn-spec =
