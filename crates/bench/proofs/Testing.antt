@@ -2,6 +2,7 @@
 use Prim.Native.Nat.{ℕ, _≤_, _<_}
 use mathlib.Core.Bool.{Bool, true, false, not, _||_}
 use mathlib.Core.List.{List, [], _∷_, _++_}
+use mathlib.Core.Logic.{_⊎_, inl, inr}
 use mathlib.Core.Path.{_≡_, refl, sym, _∙_}
 use native.Mathlib.Decide.{decLt, ℕ-discrete}
 use native.Mathlib.Omega.{arith}
@@ -39,6 +40,15 @@ module _ (tests : List Test) (new other : Bench) where
   pub benched-failed : (r : Refusal) → lowest tests ≡ Failed r → benched tests new other ≡ refused r other
   unfolding benched answered
   benched-failed r e = rw e
+
+  -- one or the other
+  pub benched-cases : ((lowest tests ≡ Passed) × (benched tests new other ≡ done new)) ⊎ ((r : Refusal) × (benched tests new other ≡ refused r other))
+  benched-cases = by (lowest tests) refl
+    where
+      by : (c : Check) → lowest tests ≡ c
+          → ((lowest tests ≡ Passed) × (benched tests new other ≡ done new)) ⊎ ((r : Refusal) × (benched tests new other ≡ refused r other))
+      by Passed e = inl (e, benched-passed e)
+      by (Failed r) e = inr (r, benched-failed r e)
 
 -- where all of two lists pass, each does
 pub passed-append : (ts rest : List Test) → lowest (ts ++ rest) ≡ Passed → (lowest ts ≡ Passed) × (lowest rest ≡ Passed)

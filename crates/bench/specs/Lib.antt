@@ -1,2 +1,4 @@
 pub mod State
 pub mod Calls
+pub mod Promises
+pub mod Lessons

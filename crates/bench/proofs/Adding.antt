@@ -1,0 +1,94 @@
+-- Add and Clear as a whole: a call is accepted, with what its tests leave, or it is refused; an accepted Add gives the least congruence; and
+-- what either leaves as it was.
+use Prim.Native.Nat.{ℕ, _+_, _≤_, _<_}
+use mathlib.Core.List.{List, [], _∷_, _++_}
+use mathlib.Core.Logic.{_⊎_, inl, inr}
+use mathlib.Core.Path.{_≡_, refl, sym, ap, _∙_}
+use lib.ListN.{length, drop}
+use Rattle.equivalence.specs.Equivalence.{Map, identity}
+use Rattle.equivalence.specs.Refusal.{lowest}
+use Rattle.equivalence.proofs.Maps.{identity-map, holds-of, of-holds, inside-of, of-inside}
+use Rattle.algebra.specs.Accepted.{Accepted}
+use Rattle.algebra.specs.Algebra.{Algebra}
+use Rattle.algebra.specs.Congruence.{Congruence}
+use Rattle.algebra.proofs.Accepted.{accepted-wellFormed}
+use Rattle.algebra.proofs.Congruences.{congruence-is, congruence-of}
+use Rattle.congruence.proofs.Extension.{LeastAbove, extended-law}
+use Rattle.bench.specs.Calls.{tallyTest, addTests, clearTests, added, lostByAdd, addCall, clearCall}
+use Rattle.bench.specs.Promises.{OnlySheet, LeastExtension}
+use Rattle.bench.specs.State.{mapOn, sheetOf, withMap, raisedBy}
+use Rattle.bench.proofs.Drawing.{withMap-other, withMap-sheets, withMap-past}
+use Rattle.bench.proofs.Testing.{done, refused, benched-cases, passed-append, Clearable, clear-passed, Addable, add-passed}
+use Rattle.equivalence.specs.declared.Refusal.{Refusal}
+use Rattle.bench.specs.declared.Bench.{Bench}
+use Rattle.bench.specs.declared.Benched.{Benched}
+
+module _ (b : Bench) (a : Algebra) (k x y : ℕ) where
+  -- the bench after an accepted Add
+  abbrev pub afterAdd : Bench
+  afterAdd = raisedBy (lostByAdd b a k x y) (withMap b k (added b a k x y))
+
+  pub add-cases : (Addable b a k x y × (addCall b a k x y ≡ done afterAdd)) ⊎ ((r : Refusal) × (addCall b a k x y ≡ refused r b))
+  unfolding addCall
+  add-cases =
+      elim (benched-cases (addTests b a k x y ++ (tallyTest (b .tally + lostByAdd b a k x y) ∷ [])) afterAdd b) [
+        | inl p ↦ inl (add-passed b a k x y (passed-append (addTests b a k x y) _ (p .0) .0), p .1)
+        | inr p ↦ inr p
+      ]
+
+  module _ (p : Addable b a k x y) where
+    above : LeastAbove a (mapOn (a .size) (sheetOf b k)) (x, y) (added b a k x y)
+    unfolding added
+    above = extended-law a (accepted-wellFormed a (p .accepted)) (mapOn (a .size) (sheetOf b k)) x y (p .placed .first) (p .placed .second)
+
+    pub added-length : length (added b a k x y) ≡ a .size
+    added-length = above .cong .map .long
+
+    -- demand 2 for Add
+    pub added-least : LeastExtension a (mapOn (a .size) (sheetOf b k)) x y (added b a k x y)
+    added-least =
+        let old : Map = mapOn (a .size) (sheetOf b k) in
+        let new : Map = added b a k x y in
+        record {
+          congruence = congruence-of a new (above .cong);
+          larger = inside-of (a .size) old new (above .larger);
+          pair = holds-of new x y (above .new);
+          least = λ c q h e. inside-of (a .size) new c (above .least c (congruence-is a c q) (of-inside (a .size) old c h) (of-holds c x y e));
+        }
+
+pub clear-cases : (b : Bench) (k : ℕ) → (Clearable b k × (clearCall b k ≡ done (withMap b k (identity (b .n))))) ⊎ ((r : Refusal) × (clearCall b k ≡ refused r b))
+unfolding clearCall
+clear-cases b k =
+    elim (benched-cases (clearTests b k) (withMap b k (identity (b .n))) b) [
+      | inl p ↦ inl (clear-passed b k (p .0), p .1)
+      | inr p ↦ inr p
+    ]
+
+-- ---- what a call leaves as it was
+
+untouched : (k : ℕ) (b : Bench) → OnlySheet k b b
+untouched k b = record { size = refl; count = refl; others = λ j h. refl; past = λ j. refl }
+
+redrawn-only : (b : Bench) (k : ℕ) (m : Map) → length m ≡ b .n → OnlySheet k b (withMap b k m)
+unfolding withMap
+redrawn-only b k m e =
+    record { size = refl; count = withMap-sheets b k m; others = λ j h. withMap-other b k m j h; past = λ j. withMap-past b k m (b .n) e j }
+
+raised-only : (k lost : ℕ) (b after : Bench) → OnlySheet k b after → OnlySheet k b (raisedBy lost after)
+unfolding raisedBy sheetOf
+raised-only k lost b after h = record { size = h .size; count = h .count; others = h .others; past = h .past }
+
+pub add-only : (b : Bench) (a : Algebra) (k x y : ℕ) → OnlySheet k b (addCall b a k x y .bench)
+add-only b a k x y =
+    elim (add-cases b a k x y) [
+      | inl p ↦ rw (p .1) (raised-only k (lostByAdd b a k x y) b _ (redrawn-only b k (added b a k x y) (added-length b a k x y (p .0) ∙ sym (p .0 .placed .drawn .size))))
+      | inr p ↦ rw (p .1) (untouched k b)
+    ]
+
+pub clear-only : (b : Bench) (k : ℕ) → OnlySheet k b (clearCall b k .bench) × (clearCall b k .bench .tally ≡ b .tally)
+unfolding withMap
+clear-only b k =
+    elim (clear-cases b k) [
+      | inl p ↦ rw (p .1) (redrawn-only b k (identity (b .n)) (identity-map (b .n) .long), refl)
+      | inr p ↦ rw (p .1) (untouched k b, refl)
+    ]
