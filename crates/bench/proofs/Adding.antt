@@ -5,21 +5,24 @@ use mathlib.Core.List.{List, [], _∷_, _++_}
 use mathlib.Core.Logic.{_⊎_, inl, inr}
 use mathlib.Core.Path.{_≡_, refl, sym, ap, _∙_}
 use lib.ListN.{length, drop}
-use Rattle.equivalence.specs.Equivalence.{Map, identity}
+use Rattle.equivalence.specs.Equivalence.{Map, identity, blocks}
 use Rattle.equivalence.specs.Refusal.{lowest}
-use Rattle.equivalence.proofs.Maps.{identity-map, holds-of, of-holds, inside-of, of-inside}
+use Rattle.equivalence.proofs.Maps.{identity-map, of-isMap, holds-of, of-holds, inside-of, of-inside}
 use Rattle.algebra.specs.Accepted.{Accepted}
 use Rattle.algebra.specs.Algebra.{Algebra}
 use Rattle.algebra.specs.Congruence.{Congruence}
 use Rattle.algebra.proofs.Accepted.{accepted-wellFormed}
 use Rattle.algebra.proofs.Congruences.{congruence-is, congruence-of}
+use Rattle.congruence.specs.Extremal.{extended}
 use Rattle.congruence.proofs.Extension.{LeastAbove, extended-law}
-use Rattle.bench.specs.Calls.{tallyTest, addTests, clearTests, added, lostByAdd, addCall, clearCall}
+use Rattle.bench.specs.Calls.{tallyTest, benched, addTests, clearTests, added, lostByAdd, addCall, clearCall}
 use Rattle.bench.specs.Promises.{OnlySheet, LeastExtension}
-use Rattle.bench.specs.State.{mapOn, sheetOf, withMap, raisedBy}
-use Rattle.bench.proofs.Drawing.{withMap-other, withMap-sheets, withMap-past}
-use Rattle.bench.proofs.Testing.{done, refused, benched-cases, passed-append, Clearable, clear-passed, Addable, add-passed}
+use Rattle.bench.specs.State.{mapOn, redrawn, sheetOf, withSheet, withMap, raisedBy, blocksLost}
+use Rattle.bench.proofs.Drawing.{mapOn-redrawn, blocks-fewer, withMap-other, withMap-sheets, withMap-past}
+use Rattle.bench.proofs.Testing.{done, refused, benched-cases, benched-append, passed-append, Clearable, clear-passed, Addable, add-passed}
 use Rattle.equivalence.specs.declared.Refusal.{Refusal}
+use Rattle.equivalence.specs.declared.Check.the-variants.{Passed}
+use Rattle.bench.specs.declared.Sheet.{Sheet}
 use Rattle.bench.specs.declared.Bench.{Bench}
 use Rattle.bench.specs.declared.Benched.{Benched}
 
@@ -44,6 +47,11 @@ module _ (b : Bench) (a : Algebra) (k x y : ℕ) where
     pub added-length : length (added b a k x y) ≡ a .size
     added-length = above .cong .map .long
 
+    -- the new map has no more blocks
+    pub added-fewer : k < length (b .sheets) → blocks (a .size) (added b a k x y) ≤ blocks (a .size) (mapOn (a .size) (sheetOf b k))
+    added-fewer l =
+        blocks-fewer (a .size) (mapOn (a .size) (sheetOf b k)) (added b a k x y) (of-isMap (a .size) _ (p .placed .drawn .map k l)) (above .cong .map) (above .larger)
+
     -- demand 2 for Add
     pub added-least : LeastExtension a (mapOn (a .size) (sheetOf b k)) x y (added b a k x y)
     added-least =
@@ -55,6 +63,27 @@ module _ (b : Bench) (a : Algebra) (k x y : ℕ) where
           pair = holds-of new x y (above .new);
           least = λ c q h e. inside-of (a .size) new c (above .least c (congruence-is a c q) (of-inside (a .size) old c h) (of-holds c x y e));
         }
+
+-- ---- Add by its steps: the old sheet, the new one and the blocks lost
+
+module _ (b : Bench) (a : Algebra) (k x y : ℕ) (e : lowest (addTests b a k x y) ≡ Passed) (old new : Sheet) where
+  p : Addable b a k x y
+  p = add-passed b a k x y e
+
+  module _ (o : old ≡ sheetOf b k) (w : new ≡ redrawn (extended a (mapOn (a .size) old) x y) old) where
+    new-map : mapOn (a .size) new ≡ added b a k x y
+    unfolding added
+    new-map = rw (w, o) (mapOn-redrawn (a .size) (added b a k x y) (sheetOf b k) (added-length b a k x y p))
+
+    pub steps-fewer : k < length (b .sheets) → blocks (a .size) (mapOn (a .size) new) ≤ blocks (a .size) (mapOn (a .size) old)
+    steps-fewer l = rw (new-map, o) (added-fewer b a k x y p l)
+
+    pub steps-call : (lost : ℕ) → lost ≡ blocksLost (a .size) (mapOn (a .size) old) (mapOn (a .size) new)
+        → benched (tallyTest (b .tally + lost) ∷ []) (raisedBy lost (withSheet b k new)) b ≡ addCall b a k x y
+    unfolding addCall lostByAdd withMap added
+    steps-call lost h =
+        let q : lost ≡ lostByAdd b a k x y = rw (h, new-map, o) in
+        rw (q, w, o) (sym (benched-append (addTests b a k x y) _ _ _ e))
 
 pub clear-cases : (b : Bench) (k : ℕ) → (Clearable b k × (clearCall b k ≡ done (withMap b k (identity (b .n))))) ⊎ ((r : Refusal) × (clearCall b k ≡ refused r b))
 unfolding clearCall
@@ -70,7 +99,7 @@ untouched : (k : ℕ) (b : Bench) → OnlySheet k b b
 untouched k b = record { size = refl; count = refl; others = λ j h. refl; past = λ j. refl }
 
 redrawn-only : (b : Bench) (k : ℕ) (m : Map) → length m ≡ b .n → OnlySheet k b (withMap b k m)
-unfolding withMap
+unfolding withMap withSheet
 redrawn-only b k m e =
     record { size = refl; count = withMap-sheets b k m; others = λ j h. withMap-other b k m j h; past = λ j. withMap-past b k m (b .n) e j }
 
@@ -86,7 +115,7 @@ add-only b a k x y =
     ]
 
 pub clear-only : (b : Bench) (k : ℕ) → OnlySheet k b (clearCall b k .bench) × (clearCall b k .bench .tally ≡ b .tally)
-unfolding withMap
+unfolding withMap withSheet
 clear-only b k =
     elim (clear-cases b k) [
       | inl p ↦ rw (p .1) (redrawn-only b k (identity (b .n)) (identity-map (b .n) .long), refl)

@@ -17,7 +17,7 @@ use Rattle.congruence.specs.Extremal.{extended}
 use Rattle.bench.specs.Calls.{added, lostByAdd, startCall}
 use Rattle.bench.specs.Lessons.{Call, Start, Add, Clear, called, Made, Lesson, isDone, next, played, StartsAccepted, sizeAfter, Addition, additions, drawn, mapAfter, lostAfter, IsLeast, EachLeast, AsTold, LessonTheorem}
 use Rattle.bench.specs.Promises.{LeastExtension}
-use Rattle.bench.specs.State.{mapOn, redrawn, zeroSheet, noSheet, freshBench, sheetOf, withMap, raisedBy, blocksLost}
+use Rattle.bench.specs.State.{mapOn, redrawn, zeroSheet, noSheet, freshBench, sheetOf, withSheet, withMap, raisedBy, blocksLost}
 use Rattle.bench.proofs.Adding.{afterAdd, add-cases, added-length, added-least, clear-cases}
 use Rattle.bench.proofs.Drawing.{mapOn-redrawn, withMap-same, withMap-other, withMap-sheets}
 use Rattle.bench.proofs.Testing.{done, refused, benched-passed, Addable, Clearable}
@@ -136,7 +136,7 @@ module _ (l : Lesson) (h : Kept l) where
     add-lost = rw (← old-told, ← new-told, ← h .told .size, p .placed .drawn .size)
 
     add-kept : Kept (after l (Add a k x y) (done (afterAdd (l .bench) a k x y)))
-    unfolding isDone sizeAfter lostAfter EachLeast IsLeast raisedBy withMap
+    unfolding isDone sizeAfter lostAfter EachLeast IsLeast raisedBy withMap withSheet
     add-kept =
         record {
           told = record {
@@ -165,7 +165,7 @@ module _ (l : Lesson) (h : Kept l) where
         ]
 
     clear-kept : Kept (after l (Clear k) (done cleared))
-    unfolding cleared isDone sizeAfter lostAfter EachLeast IsLeast withMap
+    unfolding cleared isDone sizeAfter lostAfter EachLeast IsLeast withMap withSheet
     clear-kept =
         record {
           told = record { size = h .told .size; maps = clear-map; tally = h .told .tally; least = (tt, h .told .least) };

@@ -50,6 +50,11 @@ module _ (tests : List Test) (new other : Bench) where
       by Passed e = inl (e, benched-passed e)
       by (Failed r) e = inr (r, benched-failed r e)
 
+-- tests that pass are passed over
+pub benched-append : (ts rest : List Test) (new other : Bench) → lowest ts ≡ Passed → benched (ts ++ rest) new other ≡ benched rest new other
+unfolding benched
+benched-append ts rest new other e = rw (lowest-append ts rest e)
+
 -- where all of two lists pass, each does
 pub passed-append : (ts rest : List Test) → lowest (ts ++ rest) ≡ Passed → (lowest ts ≡ Passed) × (lowest rest ≡ Passed)
 passed-append ts rest e = by (lowest ts) refl

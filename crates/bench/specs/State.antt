@@ -35,9 +35,13 @@ noSheet = record { map = [] }
 unfoldable pub sheetOf : Bench → ℕ → Sheet
 sheetOf b k = getD (b .sheets) k noSheet
 
+-- the bench with another sheet k
+unfoldable pub withSheet : Bench → ℕ → Sheet → Bench
+withSheet b k s = record { n = b .n; tally = b .tally; sheets = set (b .sheets) k s }
+
 -- the bench with another map on sheet k
 unfoldable pub withMap : Bench → ℕ → Map → Bench
-withMap b k m = record { n = b .n; tally = b .tally; sheets = set (b .sheets) k (redrawn m (sheetOf b k)) }
+withMap b k m = withSheet b k (redrawn m (sheetOf b k))
 
 -- the bench with its tally raised
 unfoldable pub raisedBy : ℕ → Bench → Bench

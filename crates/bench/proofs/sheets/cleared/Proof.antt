@@ -1,5 +1,5 @@
 use mathlib.Core.Path.{refl}
-use Rattle.bench.specs.State.{withMap, sheetOf}
+use Rattle.bench.specs.State.{withSheet, withMap, sheetOf}
 use borrow.Author.Needs.{needs}
 use Rattle.bench.proofs.sheets.cleared.Statement.{statement}
 use Rattle.bench.proofs.sheets.cleared.Tie as tie
@@ -29,7 +29,7 @@ element-set-from-sheet c = search needs
 
 -- src/sheets.rt:54:1
 returns : tie.Need-returns
-unfolding withMap sheetOf
+unfolding withMap withSheet sheetOf
 returns c = rw (c .identity-sheet .ensures)
 
 pub cleared-spec : {M : Type 1} → statement M
