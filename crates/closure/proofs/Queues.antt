@@ -1,7 +1,7 @@
 -- The laws of a map that grows with its queue: which name a merge takes away; nothing done, one step after another, a merge with its
 -- push; and loops over the two slices.
 use Prim.Native.Nat.{ℕ, _+_, _<_}
-use mathlib.Core.List.{List}
+use mathlib.Core.List.{List, map}
 use mathlib.Core.Logic.{inl, inr}
 use mathlib.Core.Path.{_≡_, refl, sym, ap, subst, _∙_}
 use native.Mathlib.Decide.{decLt, ℕ-discrete}
@@ -82,7 +82,7 @@ grown-none Good q = record {
 pub in-queue-kept : {n : ℕ} {Good : (ℕ → ℕ) → Type 0} {s t : State} → Grown n Good s t → (x : ℕ) → InQueue s x → InQueue t x
 in-queue-kept d x i = (i .0, (omega (arith, i .1 .0, d .longer), d .kept (i .0) (i .1 .0) ∙ i .1 .1))
 
-pub grown-more : {n : ℕ} {Good More : (ℕ → ℕ) → Type 0} {s t u : State} → ((g : ℕ → ℕ) → Good g → More g)
+pub grown-more : {n : ℕ} {Good More : (ℕ → ℕ) → Type 0} {s t u : State} → ((g : ℕ → ℕ) → Good g → Within n (t .map) g → More g)
     → Grown n Good s t → Grown n More t u → Grown n Good s u
 grown-more {t = t} h a b = record {
   queued = b .queued;
@@ -91,9 +91,13 @@ grown-more {t = t} h a b = record {
   longer = omega arith;
   kept = λ k l. b .kept k (omega arith) ∙ a .kept k l;
   pushed = λ x l e. elim (a .pushed x l e) [ inl i ↦ b .pushed x l i | inr i ↦ inr (in-queue-kept b x i) ];
-  sound = λ g good w. b .sound g (h g good) (a .sound g good w);
+  sound = λ g good w. let v = a .sound g good w in b .sound g (h g good v) v;
   rest = λ x l. b .rest x l ∙ a .rest x l;
 }
+
+-- growth by steps of which the later ones know more
+pub grown-first : {n : ℕ} {Good More : (ℕ → ℕ) → Type 0} {s t : State} → ((g : ℕ → ℕ) → Good g → Within n (s .map) g → More g) → Queued n s → Grown n More s t → Grown n Good s t
+grown-first {Good = Good} h q d = grown-more h (grown-none Good q) d
 
 -- a merge of two elements apart, with the larger name put behind the queue
 module _ {n a b k r : ℕ} {f′ : ℕ → ℕ} (m q : List ℕ) (la : a < n) (lb : b < n) (s : Ready n k m q) (h : byte m a ≡ byte m b → ⊥) (larger : Larger (byte m a) (byte m b) r)
@@ -148,7 +152,11 @@ since-none Good m q r = record { map-long = refl; queue-long = refl; grown = gro
 pub since-ready : {n k₀ k : ℕ} {Good : (ℕ → ℕ) → Type 0} {m₀ q₀ m q : List ℕ} → Ready n k₀ m₀ q₀ → Since n Good m₀ q₀ k₀ m q k → Ready n k m q
 since-ready r s = record { map-room = omega arith; queue-room = omega arith; most = omega (arith, s .grown .blocks, r .most); queued = s .grown .queued }
 
-pub since-more : {n k₀ k k′ : ℕ} {Good More : (ℕ → ℕ) → Type 0} {m₀ q₀ m q m′ q′ : List ℕ} → ((g : ℕ → ℕ) → Good g → More g)
+pub since-more : {n k₀ k k′ : ℕ} {Good More : (ℕ → ℕ) → Type 0} {m₀ q₀ m q m′ q′ : List ℕ} → ((g : ℕ → ℕ) → Good g → Within n (byte m) g → More g)
     → Since n Good m₀ q₀ k₀ m q k → length m′ ≡ length m → length q′ ≡ length q → Grown n More (state m q k) (state m′ q′ k′)
     → Since n Good m₀ q₀ k₀ m′ q′ k′
 since-more h s a b d = record { map-long = a ∙ s .map-long; queue-long = b ∙ s .queue-long; grown = grown-more h (s .grown) d }
+
+pub ready-grown : {n k k′ : ℕ} {Good : (ℕ → ℕ) → Type 0} {m q m′ q′ : List ℕ} → Ready n k m q → length m′ ≡ length m → length q′ ≡ length q
+    → Grown n Good (state m q k) (state m′ q′ k′) → Ready n k′ m′ q′
+ready-grown r a b d = since-ready r (record { map-long = a; queue-long = b; grown = d })

@@ -1,5 +1,197 @@
-// The least congruence above a map and some pairs.
+// The least congruence of an accepted algebra above a map and some pairs.
 //
-// Names that merges take away are queued. Each queued element b is taken once, with the name that its block then has, through every
-// translation whose other arguments are still in use; after that b is in use no more.
+// A merge takes one name away, and the queue holds the names taken away. Each queued element is taken once, with the name that its block
+// then has, through every translation whose other arguments are still in use; after that it is in use no more itself.
+ghost use mathlib.Core.Path.{_≡_};
+ghost use mathlib.Core.Bool.{true, false};
+ghost use Prim.Native.Nat.{ℕ, _+_, _<_, _≤_};
+ghost use lib.ListN.{length};
+ghost use Rattle.equivalence.specs.Equivalence.{byte};
+ghost use Rattle.equivalence.specs.Kernel.{Canonical, names};
+ghost use Rattle.algebra.specs.Algebra.{algebraOf};
+ghost use Rattle.algebra.specs.Accepted.{Accepted};
+ghost use Rattle.algebra.specs.Translations.{Compatible, Closed};
+ghost use Rattle.closure.specs.Starts.{JoinsPairs, Extends, Apart, Tried};
+
 pub mod queue;
+pub mod rounds;
+pub mod start;
+pub mod sweep;
+
+// `generate` with room for the queue and for the list of elements in use.
+fn generate_in(
+    m: &mut [u8],
+    n: usize,
+    arities: &[u8],
+    cells: &[u8],
+    pairs: &[u8],
+    queue: &mut [u8],
+    live: &mut [u8],
+) -> usize
+    requires { ⌜ Accepted (algebraOf n (now arities) (now cells)) ⌝ }
+    requires { ⌜ n ≤ length (now m) ⌝ }
+    requires { ⌜ n ≤ length (now queue) ⌝ }
+    requires { ⌜ n ≤ length (now live) ⌝ }
+    requires { ⌜ ((i : ℕ) → i < length (now pairs) → byte (now pairs) i < n) ⌝ }
+    ensures { λ _. ⌜ Closed (algebraOf n (now (arities .entry)) (now (cells .entry))) (JoinsPairs (now (pairs .entry))) (byte (now (m .exit))) ⌝ }
+    ensures { λ r. ⌜ r + names n (byte (now (m .exit))) ≡ n ⌝ }
+    ensures { λ _. ⌜ ((z : ℕ) → n ≤ z → byte (now (m .exit)) z ≡ byte (now (m .entry)) z) ⌝ }
+{
+    equivalence::blocks::identity(m, n);
+    equivalence::blocks::identity(live, n);
+    let len = start::seed(m, n, queue, pairs);
+    rounds::close(m, n, queue, len, n - 1, arities, cells, live, n, 0, 0)
+}
+
+// The first n bytes of m become the least congruence that joins the pairs of a flat list. How many merges made it.
+pub fn generate(m: &mut [u8], n: usize, arities: &[u8], cells: &[u8], pairs: &[u8]) -> usize
+    requires { ⌜ Accepted (algebraOf n (now arities) (now cells)) ⌝ }
+    requires { ⌜ n ≤ length (now m) ⌝ }
+    requires { ⌜ ((i : ℕ) → i < length (now pairs) → byte (now pairs) i < n) ⌝ }
+    ensures { λ _. ⌜ Closed (algebraOf n (now (arities .entry)) (now (cells .entry))) (JoinsPairs (now (pairs .entry))) (byte (now (m .exit))) ⌝ }
+    ensures { λ r. ⌜ r + names n (byte (now (m .exit))) ≡ n ⌝ }
+    ensures { λ _. ⌜ ((z : ℕ) → n ≤ z → byte (now (m .exit)) z ≡ byte (now (m .entry)) z) ⌝ }
+{
+    let mut queue = [0u8; 64];
+    let mut live = [0u8; 64];
+    generate_in(m, n, arities, cells, pairs, &mut queue, &mut live)
+}
+
+// `extend` with room for the queue and for the list of elements in use.
+fn extend_in(
+    m: &mut [u8],
+    n: usize,
+    arities: &[u8],
+    cells: &[u8],
+    x: usize,
+    y: usize,
+    queue: &mut [u8],
+    live: &mut [u8],
+) -> usize
+    requires { ⌜ Accepted (algebraOf n (now arities) (now cells)) ⌝ }
+    requires { ⌜ n ≤ length (now m) ⌝ }
+    requires { ⌜ n ≤ length (now queue) ⌝ }
+    requires { ⌜ n ≤ length (now live) ⌝ }
+    requires { ⌜ Canonical n (byte (now m)) ⌝ }
+    requires { ⌜ x < n ⌝ }
+    requires { ⌜ y < n ⌝ }
+    ensures { λ _. ⌜ Closed (algebraOf n (now (arities .entry)) (now (cells .entry))) (Extends n (byte (now (m .entry))) x y) (byte (now (m .exit))) ⌝ }
+    ensures { λ r. ⌜ r + names n (byte (now (m .exit))) ≡ names n (byte (now (m .entry))) ⌝ }
+    ensures { λ _. ⌜ ((z : ℕ) → n ≤ z → byte (now (m .exit)) z ≡ byte (now (m .entry)) z) ⌝ }
+{
+    equivalence::blocks::identity(live, n);
+    let old = start::others(m, n, queue);
+    let len = crate::queue::join(m, n, queue, old, x as u8, y as u8);
+    let all = rounds::close(m, n, queue, len, n - 1, arities, cells, live, n, 0, 0);
+    all - old
+}
+
+// The map m becomes the least congruence that joins what m joins, and x and y. How many blocks that cost.
+pub fn extend(m: &mut [u8], n: usize, arities: &[u8], cells: &[u8], x: usize, y: usize) -> usize
+    requires { ⌜ Accepted (algebraOf n (now arities) (now cells)) ⌝ }
+    requires { ⌜ n ≤ length (now m) ⌝ }
+    requires { ⌜ Canonical n (byte (now m)) ⌝ }
+    requires { ⌜ x < n ⌝ }
+    requires { ⌜ y < n ⌝ }
+    ensures { λ _. ⌜ Closed (algebraOf n (now (arities .entry)) (now (cells .entry))) (Extends n (byte (now (m .entry))) x y) (byte (now (m .exit))) ⌝ }
+    ensures { λ r. ⌜ r + names n (byte (now (m .exit))) ≡ names n (byte (now (m .entry))) ⌝ }
+    ensures { λ _. ⌜ ((z : ℕ) → n ≤ z → byte (now (m .exit)) z ≡ byte (now (m .entry)) z) ⌝ }
+{
+    let mut queue = [0u8; 64];
+    let mut live = [0u8; 64];
+    extend_in(m, n, arities, cells, x, y, &mut queue, &mut live)
+}
+
+// A congruence m is made to join x and y, unless that joins v and w, if they are two: then the work stops. How many blocks it cost.
+fn try_in(
+    m: &mut [u8],
+    n: usize,
+    arities: &[u8],
+    cells: &[u8],
+    x: usize,
+    y: usize,
+    v: usize,
+    w: usize,
+    queue: &mut [u8],
+    live: &mut [u8],
+) -> usize
+    requires { ⌜ Accepted (algebraOf n (now arities) (now cells)) ⌝ }
+    requires { ⌜ n ≤ length (now m) ⌝ }
+    requires { ⌜ n ≤ length (now queue) ⌝ }
+    requires { ⌜ n ≤ length (now live) ⌝ }
+    requires { ⌜ Canonical n (byte (now m)) ⌝ }
+    requires { ⌜ Compatible (algebraOf n (now arities) (now cells)) (byte (now m)) ⌝ }
+    requires { ⌜ x < n ⌝ }
+    requires { ⌜ y < n ⌝ }
+    requires { ⌜ v < n ⌝ }
+    requires { ⌜ w < n ⌝ }
+    ensures { λ r. ⌜ Tried (algebraOf n (now (arities .entry)) (now (cells .entry))) x y v w (byte (now (m .entry))) (byte (now (m .exit))) r ⌝ }
+{
+    let count = start::names(m, n, live);
+    let len = crate::queue::join(m, n, queue, 0, x as u8, y as u8);
+    rounds::close(
+        m,
+        n,
+        queue,
+        len,
+        count - 1,
+        arities,
+        cells,
+        live,
+        count,
+        v,
+        w,
+    )
+}
+
+// As `extend`, for a map that is a congruence already: only the new pair is queued, and only names are in use.
+pub fn extend_congruence(
+    m: &mut [u8],
+    n: usize,
+    arities: &[u8],
+    cells: &[u8],
+    x: usize,
+    y: usize,
+) -> usize
+    requires { ⌜ Accepted (algebraOf n (now arities) (now cells)) ⌝ }
+    requires { ⌜ n ≤ length (now m) ⌝ }
+    requires { ⌜ Canonical n (byte (now m)) ⌝ }
+    requires { ⌜ Compatible (algebraOf n (now arities) (now cells)) (byte (now m)) ⌝ }
+    requires { ⌜ x < n ⌝ }
+    requires { ⌜ y < n ⌝ }
+    ensures { λ _. ⌜ Closed (algebraOf n (now (arities .entry)) (now (cells .entry))) (Extends n (byte (now (m .entry))) x y) (byte (now (m .exit))) ⌝ }
+    ensures { λ r. ⌜ r + names n (byte (now (m .exit))) ≡ names n (byte (now (m .entry))) ⌝ }
+    ensures { λ _. ⌜ ((z : ℕ) → n ≤ z → byte (now (m .exit)) z ≡ byte (now (m .entry)) z) ⌝ }
+{
+    let mut queue = [0u8; 64];
+    let mut live = [0u8; 64];
+    try_in(m, n, arities, cells, x, y, 0, 0, &mut queue, &mut live)
+}
+
+// As `extend_congruence` where that holds v and w apart. Where it does not, the answer is false, and m is some map above the old one.
+pub fn extend_apart(
+    m: &mut [u8],
+    n: usize,
+    arities: &[u8],
+    cells: &[u8],
+    x: usize,
+    y: usize,
+    v: usize,
+    w: usize,
+) -> bool
+    requires { ⌜ Accepted (algebraOf n (now arities) (now cells)) ⌝ }
+    requires { ⌜ n ≤ length (now m) ⌝ }
+    requires { ⌜ Canonical n (byte (now m)) ⌝ }
+    requires { ⌜ Compatible (algebraOf n (now arities) (now cells)) (byte (now m)) ⌝ }
+    requires { ⌜ x < n ⌝ }
+    requires { ⌜ y < n ⌝ }
+    requires { ⌜ v < n ⌝ }
+    requires { ⌜ w < n ⌝ }
+    ensures { λ r. ⌜ Apart (algebraOf n (now (arities .entry)) (now (cells .entry))) x y v w (byte (now (m .entry))) (byte (now (m .exit))) r ⌝ }
+    ensures { λ _. ⌜ ((z : ℕ) → n ≤ z → byte (now (m .exit)) z ≡ byte (now (m .entry)) z) ⌝ }
+{
+    let mut queue = [0u8; 64];
+    let mut live = [0u8; 64];
+    let lost = try_in(m, n, arities, cells, x, y, v, w, &mut queue, &mut live);
+    m[v] != m[w]
+}

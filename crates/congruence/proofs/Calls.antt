@@ -20,10 +20,10 @@ use Rattle.algebra.proofs.Congruences.{congruence-is}
 use Rattle.congruence.specs.Calls.{element, congruenceTest, quotientCall, decomposed, factorBytes, decomposeCall}
 use Rattle.congruence.specs.Decompose.{listed, reducible, commonPair}
 use Rattle.congruence.specs.Demands.{Answers11, QuotientDraws11, FactorCalls}
-use Rattle.congruence.specs.Quotient.{quotientCells, quotient}
 use Rattle.congruence.proofs.Demands.{listed-right}
 use Rattle.congruence.proofs.Factors.{decomposed-yes, decomposed-no, listed-long}
 use Rattle.congruence.proofs.Quotients.{quotientCells-length, quotient-wellFormed}
+use Rattle.division.specs.Quotient.{quotientCells, quotient}
 use Rattle.equivalence.specs.declared.Refusal.{Refusal}
 use Rattle.equivalence.specs.declared.Check.{Check}
 use Rattle.equivalence.specs.declared.Check.the-variants.{Passed, Failed}

@@ -25,6 +25,7 @@ use Rattle.congruence.specs.Decompose.{listed}
 use Rattle.congruence.proofs.Extension.{LeastAbove}
 use Rattle.congruence.proofs.Factors.{listed-law, two-at-least}
 use Rattle.congruence.proofs.Separation.{MaximalFor}
+use Rattle.division.specs.Tables.{joined}
 
 module _ (a : Algebra) (m : Map) where
   pub of-isMaximalFor : IsCongruence a m → (p : Pair) → T (isMaximalFor a m p) → MaximalFor a m p.0 p.1

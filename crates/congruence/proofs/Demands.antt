@@ -32,6 +32,7 @@ use Rattle.congruence.proofs.GreatestCongruence.{contained-law}
 use Rattle.congruence.proofs.LeastCongruence.{Below, generated-law}
 use Rattle.congruence.proofs.Quotients.{onBlocks, block-value, quotient-irreducible}
 use Rattle.congruence.proofs.Separation.{MaximalFor, separated-earliest, separated-law}
+use Rattle.division.specs.Tables.{joined}
 use Rattle.congruence.specs.declared.Decomposed.{Decomposed}
 use Rattle.congruence.specs.declared.Decomposed.the-variants.{Factors, Irreducible}
 

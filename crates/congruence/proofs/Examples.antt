@@ -14,7 +14,8 @@ use Rattle.congruence.specs.Calls.{element, pairsTest, generateCall, dec
 use Rattle.congruence.specs.Certify.{isMaximalFor, certified}
 use Rattle.congruence.specs.Decompose.{added, gathered, pruned, listed, reducible, commonPair}
 use Rattle.congruence.specs.Extremal.{holdsAll, generated, contained, separated}
-use Rattle.congruence.specs.Quotient.{quotientTable, quotientCells}
+use Rattle.division.specs.Quotient.{quotientTable, quotientCells}
+use Rattle.division.specs.Tables.{divided}
 use Rattle.congruence.specs.declared.Generated.{Generated}
 use Rattle.congruence.specs.declared.Generated.the-variants.{Merges, Refused as GenerateRefused}
 use Rattle.equivalence.specs.declared.Refusal.the-variants.{Range}

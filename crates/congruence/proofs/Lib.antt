@@ -1,3 +1,4 @@
+pub mod Bridges
 pub mod Calls
 pub mod Certificates
 pub mod CommonPair
@@ -10,3 +11,4 @@ pub mod GreatestCongruence
 pub mod LeastCongruence
 pub mod Quotients
 pub mod Separation
+pub mod Serving

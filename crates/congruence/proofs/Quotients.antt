@@ -20,9 +20,9 @@ use Rattle.algebra.proofs.Congruences.{IsCongruence, congruence-is, value-below
 use Rattle.congruence.specs.Calls.{element, decomposed}
 use Rattle.congruence.specs.Decompose.{commonPair}
 use Rattle.congruence.specs.Demands.{Splitting}
-use Rattle.congruence.specs.Quotient.{quotientTable, quotientCells, quotient}
 use Rattle.congruence.proofs.Factors.{irreducible-of}
 use Rattle.congruence.proofs.Separation.{MaximalFor}
+use Rattle.division.specs.Quotient.{quotientTable, quotientCells, quotient}
 use Rattle.equivalence.specs.declared.Element.{Element}
 use Rattle.congruence.specs.declared.Decomposed.{Decomposed}
 use Rattle.congruence.specs.declared.Decomposed.the-variants.{Factors, Irreducible}

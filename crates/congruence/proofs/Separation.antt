@@ -22,6 +22,7 @@ use Rattle.algebra.proofs.Accepted.{WellFormed}
 use Rattle.algebra.proofs.Congruences.{IsCongruence, member-congruences, of-congruences, identity-congruence}
 use Rattle.algebra.proofs.Translations.{congruence-compatible, compatible-congruence}
 use Rattle.congruence.specs.Extremal.{separated}
+use Rattle.division.specs.Tables.{joined}
 use Rattle.separation.specs.Search.{Before, Earliest}
 
 -- m holds x and y apart, and each strictly larger congruence joins them

@@ -15,7 +15,7 @@ use Rattle.algebra.specs.Algebra.{Algebra, cellCount}
 use Rattle.algebra.specs.Accepted.{algebraTests}
 use Rattle.algebra.specs.Congruence.{isCongruence}
 use Rattle.congruence.specs.Extremal.{generated, contained, separated}
-use Rattle.congruence.specs.Quotient.{quotientCells}
+use Rattle.division.specs.Quotient.{quotientCells}
 use Rattle.congruence.specs.Decompose.{listed, reducible, commonPair}
 use Rattle.congruence.specs.Certify.{certified}
 use Rattle.congruence.specs.declared.Generated.{Generated}

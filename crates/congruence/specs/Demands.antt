@@ -13,7 +13,7 @@ use Rattle.equivalence.specs.declared.Element.{Element}
 use Rattle.algebra.specs.Algebra.{Algebra, algebraOf, Operation, operations, arguments, value, cellCount}
 use Rattle.algebra.specs.Congruence.{Congruence}
 use Rattle.congruence.specs.Extremal.{holdsAll}
-use Rattle.congruence.specs.Quotient.{quotientTable, quotient}
+use Rattle.division.specs.Quotient.{quotientTable, quotient}
 use Rattle.congruence.specs.Decompose.{listed, commonPair}
 use Rattle.congruence.specs.Calls.{element, decomposed, decomposeCall, quotientCall}
 use Rattle.congruence.specs.declared.Decomposed.the-variants.{Factors, Irreducible}

@@ -1,5 +1,4 @@
 pub mod Extremal
-pub mod Quotient
 pub mod Decompose
 pub mod Certify
 pub mod Calls

@@ -1,7 +1,5 @@
 // The services over an algebra: the congruences they give, the answers and the lent bytes.
-
-// A block number of a quotient.
-pub struct Block(pub u8);
+mod checks;
 
 // What Generate answers: how many merges made the congruence.
 pub enum Generated {

@@ -2,16 +2,16 @@
 -- identity, how many blocks it has).
 use Prim.Native.Nat.{ℕ, zero, suc, _+_, _≤_, _<_}
 use mathlib.Core.Bool.{Bool, true, false, _&&_}
-use mathlib.Core.List.{[], _∷_, _++_}
+use mathlib.Core.List.{[], _∷_}
 use mathlib.Core.Path.{_≡_, refl, sym, ap, _∙_}
-use native.Mathlib.Omega.{arith}
 use native.Mathlib.Numerals.{add-one}
-use lib.Dec.{T, eqb, leb, eqb→eq}
+use native.Mathlib.Omega.{arith}
+use lib.Dec.{T, eqb, leb}
 use lib.ListN.{length, length-append}
 use Rattle.equivalence.specs.Equivalence.{Map, byte, isMap, inside, roots, blocks, isIdentity}
 use Rattle.equivalence.specs.Kernel.{Canonical, bit, names}
 use Rattle.equivalence.specs.Lists.{upTo, keep}
-use Rattle.equivalence.proofs.Lists.{keep-yes, keep-no, keep-append, below-of, of-below}
+use Rattle.equivalence.proofs.Lists.{below-of, of-below, keep-append}
 use Rattle.equivalence.proofs.Maps.{IsMap, of-isMap, inside-of, of-inside, isIdentity-of, of-isIdentity}
 use Rattle.equivalence.proofs.Tests.{both, right, eq→eqb, pick}
 

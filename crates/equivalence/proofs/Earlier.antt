@@ -1,7 +1,7 @@
 -- The order of maps by the first pair in which they differ: `notLater` is total, transitive and antisymmetric.
 use Prim.Native.Nat.{ℕ, _<_}
 use mathlib.Core.Bool.{Bool, true, false, not, _&&_, _||_}
-use mathlib.Core.List.{List, [], _∷_, _++_, List·Memᴰ as Member, List·Memᴰ·head as here, List·Memᴰ·tail as there, List·Memᴰ·not-nil as not-nil, List·Memᴰ·cases-cons as cases-cons, List·Memᴰ·eq-of-singleton as eq-of-singleton, List·Memᴰ·append-cases as append-cases}
+use mathlib.Core.List.{List, [], _∷_, _++_, List·Memᴰ as Member, List·Memᴰ·head as here, List·Memᴰ·tail as there, List·Memᴰ·not-nil as not-nil, List·Memᴰ·cases-cons as cases-cons, List·Memᴰ·eq-of-singleton as eq-of-singleton, Memᴰ·append-right as append-right, List·Memᴰ·append-cases as append-cases}
 use mathlib.Core.Logic.{_⊎_, inl, inr}
 use mathlib.Core.Path.{_≡_, refl, sym, subst, _∙_}
 use native.Mathlib.Omega.{arith}
@@ -10,7 +10,7 @@ use lib.Seq.{append-snoc}
 use Rattle.equivalence.specs.Equivalence.{Map, holds, same}
 use Rattle.equivalence.specs.Order.{Pair, pairs, notLaterOn, notLater}
 use Rattle.equivalence.proofs.Maps.{Holds, holds-of, of-holds, IsMap, Inside, map-ext}
-use Rattle.equivalence.proofs.Pairs.{member-pairs, of-pairs, inside-by-pairs}
+use Rattle.equivalence.proofs.Pairs.{member-pairs, of-pairs, inside-by-pairs, Sorted, sorted-right, Lex, sorted-pairs}
 
 -- what the first pair says of the order: a and b hold it or not, and the rest says r
 abbrev step : Bool → Bool → Bool → Bool
@@ -84,10 +84,14 @@ pub notLater-trans : (n : ℕ) (a b c : Map) → T (notLater n a b) → T (notLa
 unfolding notLater
 notLater-trans n a b c = on-trans (pairs n) a b c
 
-pub notLater-anti : (n : ℕ) (a b : Map) → IsMap n a → IsMap n b → T (notLater n a b) → T (notLater n b a) → a ≡ b
+-- maps neither of which is the earlier hold the same pairs
+pub notLater-same : (n : ℕ) (a b : Map) → T (notLater n a b) → T (notLater n b a) → (x y : ℕ) → x < y → y < n → holds a x y ≡ holds b x y
 unfolding notLater
+notLater-same n a b t s x y l k = on-anti (pairs n) a b t s (x, y) (member-pairs n x y l k)
+
+pub notLater-anti : (n : ℕ) (a b : Map) → IsMap n a → IsMap n b → T (notLater n a b) → T (notLater n b a) → a ≡ b
 notLater-anti n a b p q t s =
-    let same : (x y : ℕ) → x < y → y < n → holds a x y ≡ holds b x y = λ x y l k. on-anti (pairs n) a b t s (x, y) (member-pairs n x y l k) in
+    let same : (x y : ℕ) → x < y → y < n → holds a x y ≡ holds b x y = notLater-same n a b t s in
     map-ext n a b p q (inside-by-pairs n a b (λ x y l k e. of-holds b x y (subst T (same x y l k) (holds-of a x y e))))
     (inside-by-pairs n b a (λ x y l k e. of-holds a x y (subst T (sym (same x y l k)) (holds-of b x y e))))
 
@@ -120,3 +124,19 @@ module _ (a b : Map) where
   pub notLater-by : (n : ℕ) → ((done : List Pair) (p : Pair) (rest : List Pair) → pairs n ≡ done ++ (p ∷ rest) → Agree done → Holds b p.0 p.1 → Holds a p.0 p.1) → T (notLater n a b)
   unfolding notLater
   notLater-by n f = on-by [] (pairs n) f (λ q i. absurd (not-nil i))
+
+-- a is the earlier if it holds a pair that b does not, and all that b holds before it
+pub notLater-first : (n : ℕ) (a b : Map) (x y : ℕ) → x < y → y < n → Holds a x y → ¬ Holds b x y
+    → ((u v : ℕ) → u < v → v < n → Lex (u, v) (x, y) → Holds b u v → Holds a u v) → T (notLater n a b)
+notLater-first n a b x y l k h g f =
+    notLater-by a b n (λ done p rest e agree held.
+    let within : Member p (pairs n) = subst (λ (ps : List Pair). Member p ps) (sym e) (append-right done (here refl)) in
+    let q = of-pairs n p within in
+    let i : Member (x, y) (done ++ (p ∷ rest)) = subst (λ (ps : List Pair). Member (x, y) ps) e (member-pairs n x y l k) in
+    elim (append-cases done i) [
+      | inl j ↦ absurd (g (agree (x, y) j .0 h))
+      | inr j ↦ elim (cases-cons j) [
+        | inl w ↦ absurd (g (subst (λ (z : Pair). Holds b z.0 z.1) (sym w) held))
+        | inr w ↦ f p.0 p.1 (q .0) (q .1) (sorted-right Lex done (p ∷ rest) (subst (Sorted Lex) e (sorted-pairs n)) .0 (x, y) w) held
+      ]
+    ])

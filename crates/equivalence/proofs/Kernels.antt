@@ -12,10 +12,6 @@ use Rattle.equivalence.specs.Equivalence.{byte, holds, blocks}
 use Rattle.equivalence.specs.Kernel.{Canonical, Within, relabel, Filled, bit, names, Merged}
 use Rattle.equivalence.specs.Lists.{first}
 use borrow.Author.Tests.{eq-eqb, ne-eqb}
-use borrow.Author.Tests.{eq-eqb, ne-eqb}
-use borrow.Author.Tests.{eq-eqb, ne-eqb}
-use borrow.Author.Tests.{eq-eqb, ne-eqb}
-use borrow.Author.Tests.{eq-eqb, ne-eqb}
 
 pub relabel-same : (old new v : ℕ) → v ≡ old → relabel old new v ≡ new
 unfolding relabel

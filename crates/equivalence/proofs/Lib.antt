@@ -1,8 +1,11 @@
 pub mod AllMaps
 pub mod Best
 pub mod Bytes
+pub mod Calls
 pub mod BlockNumbers
 pub mod Earlier
+pub mod Foremost
+pub mod Joining
 pub mod Joins
 pub mod Kernels
 pub mod Lists
@@ -10,6 +13,7 @@ pub mod Maps
 pub mod Meeting
 pub mod Meets
 pub mod Pairs
+pub mod Places
 pub mod Refusals
 pub mod Stretches
 pub mod Tests

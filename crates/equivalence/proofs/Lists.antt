@@ -92,6 +92,12 @@ module _ {ℓ} {A : Type ℓ} where
       ]
   first-found p d [] a m t = absurd (not-nil m)
 
+  -- if none passes, then it is the default
+  pub first-none : (p : A → Bool) (d : A) (l : List A) → ((a : A) → Member a l → ¬ T (p a)) → first p d l ≡ d
+  unfolding first
+  first-none p d [] h = refl
+  first-none p d (a ∷ l) h = first-no p d a l (h a (here refl)) ∙ first-none p d l (λ b m. h b (there m))
+
   pub first-append : (p : A → Bool) (d : A) (l r : List A) → first p d (l ++ r) ≡ first p (first p d r) l
   unfolding first
   first-append p d [] r = refl

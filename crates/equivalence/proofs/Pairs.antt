@@ -61,6 +61,10 @@ module _ {A : Type 0} (R : A → A → Type 0) where
   sorted-append (a ∷ l) r s t f =
       (λ b i. elim (append-cases l i) [ inl j ↦ s .0 b j | inr j ↦ f a b (here refl) j ], sorted-append l r (s .1) t (λ x y i j. f x y (there i) j))
 
+  pub sorted-right : (l r : List A) → Sorted (l ++ r) → Sorted r
+  sorted-right [] r s = s
+  sorted-right (a ∷ l) r s = sorted-right l r (s .1)
+
   pub sorted-keep : (p : A → Bool) (l : List A) → Sorted l → Sorted (keep p l)
   unfolding keep
   sorted-keep p [] s = tt

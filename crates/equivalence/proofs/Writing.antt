@@ -4,8 +4,8 @@ use mathlib.Core.List.{List, _++_}
 use mathlib.Core.Path.{_≡_, sym, ap, _∙_}
 use native.Mathlib.Decide.{decLt}
 use native.Mathlib.Omega.{arith}
-use lib.ListN.{length, drop, take, getD, length-append, length-drop, List·getD-append}
-use lib.Seq.{ext-getD, getD-append-add, getD-drop}
+use lib.ListN.{length, drop, length-append, List·getD-append, length-drop}
+use lib.Seq.{getD-drop, ext-getD, getD-append-add}
 use Rattle.equivalence.specs.Equivalence.{byte}
 use Rattle.equivalence.specs.Kernel.{Filled}
 use Rattle.equivalence.specs.Refusal.{written}

@@ -45,3 +45,19 @@ pub record Merged (n a b : ℕ) (f f′ : ℕ → ℕ) : Type 0 where
   pub least : (g : ℕ → ℕ) → Within n f g → g a ≡ g b → Within n f′ g
   pub blocks : names n f′ + 1 ≡ names n f
   pub rest : (x : ℕ) → n ≤ x → f′ x ≡ f x
+
+-- f′ is the least equivalence that joins what f joins, and a and b
+pub record United (n a b : ℕ) (f f′ : ℕ → ℕ) : Type 0 where
+  pub canonical : Canonical n f′
+  pub within : Within n f f′
+  pub holds : f′ a ≡ f′ b
+  pub least : (g : ℕ → ℕ) → Within n f g → g a ≡ g b → Within n f′ g
+  pub rest : (x : ℕ) → n ≤ x → f′ x ≡ f x
+
+-- f′ is the least equivalence that joins what f joins, and each element below i with its name in g
+pub record Joined (n i : ℕ) (g f f′ : ℕ → ℕ) : Type 0 where
+  pub canonical : Canonical n f′
+  pub within : Within n f f′
+  pub holds : (x : ℕ) → x < i → f′ x ≡ f′ (g x)
+  pub least : (h : ℕ → ℕ) → Within n f h → ((x : ℕ) → x < i → h x ≡ h (g x)) → Within n f′ h
+  pub rest : (x : ℕ) → n ≤ x → f′ x ≡ f x

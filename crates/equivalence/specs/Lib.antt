@@ -4,3 +4,4 @@ pub mod Order
 pub mod Refusal
 pub mod Calls
 pub mod Kernel
+pub mod Search

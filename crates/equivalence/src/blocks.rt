@@ -2,7 +2,7 @@
 ghost use mathlib.Core.Path.{_≡_};
 ghost use Prim.Native.Nat.{ℕ, _+_, _<_, _≤_};
 ghost use Rattle.equivalence.specs.Equivalence.{byte};
-ghost use Rattle.equivalence.specs.Kernel.{Canonical, Filled, Merged, relabel};
+ghost use Rattle.equivalence.specs.Kernel.{Canonical, Filled, Merged, United, relabel};
 
 // v, or `new` where v is `old`.
 fn relabelled(v: u8, old: u8, new: u8) -> u8
@@ -39,6 +39,20 @@ pub fn merge(m: &mut [u8], n: usize, a: usize, b: usize)
     } else {
         relabel_all(m, n, p, q);
     }
+}
+
+// Puts x and y into one block, if they are not.
+pub fn unite(m: &mut [u8], n: usize, x: usize, y: usize)
+    requires { do ⌜ n ≤ (← ⟦m.len()⟧) ⌝ }
+    requires { ⌜ x < n ⌝ }
+    requires { ⌜ y < n ⌝ }
+    requires { ⌜ Canonical n (byte (now m)) ⌝ }
+    ensures { λ _. ⌜ United n x y (byte (now (m .entry))) (byte (now (m .exit))) ⌝ }
+{
+    if m[x] == m[y] {
+        return;
+    }
+    merge(m, n, x, y);
 }
 
 // The first n bytes of m become the identity.

@@ -3,8 +3,9 @@ ghost use mathlib.Core.Path.{_≡_};
 ghost use mathlib.Core.Bool.{true, false};
 ghost use Prim.Native.Nat.{ℕ, _+_, _*_, _<_, _≤_};
 ghost use lib.ListN.{length};
-ghost use Rattle.equivalence.specs.Equivalence.{byte, meet};
-ghost use Rattle.equivalence.specs.Kernel.{Canonical, Filled, seenOr};
+ghost use Rattle.equivalence.specs.Equivalence.{byte, meet, join};
+ghost use Rattle.equivalence.specs.Kernel.{Canonical, Filled, Joined, seenOr};
+use crate::blocks;
 ghost use Rattle.equivalence.specs.Refusal.{written};
 
 // No element was seen.
@@ -52,4 +53,33 @@ pub fn meet_into(n: usize, a: &[u8], b: &[u8], out: &mut [u8])
 {
     let mut table = [NONE; 4096];
     meet_by(n, a, b, &mut table, out);
+}
+
+// Puts each element and its first member in b into one block.
+fn unite_all(m: &mut [u8], n: usize, b: &[u8])
+    requires { do ⌜ n ≤ (← ⟦m.len()⟧) ⌝ }
+    requires { do ⌜ n ≤ (← ⟦b.len()⟧) ⌝ }
+    requires { ⌜ Canonical n (byte (now m)) ⌝ }
+    requires { ⌜ Canonical n (byte (now b)) ⌝ }
+    ensures { λ _. ⌜ Joined n n (byte (now (b .entry))) (byte (now (m .entry))) (byte (now (m .exit))) ⌝ }
+{
+    let mut x = 0;
+    while x < n {
+        let first = b[x] as usize;
+        blocks::unite(m, n, x, first);
+        x += 1;
+    }
+}
+
+// The join of a and b goes to the first n bytes of out.
+pub fn join_into(n: usize, a: &[u8], b: &[u8], out: &mut [u8])
+    requires { do ⌜ n ≤ (← ⟦a.len()⟧) ⌝ }
+    requires { do ⌜ n ≤ (← ⟦b.len()⟧) ⌝ }
+    requires { do ⌜ n ≤ (← ⟦out.len()⟧) ⌝ }
+    requires { ⌜ Canonical n (byte (now a)) ⌝ }
+    requires { ⌜ Canonical n (byte (now b)) ⌝ }
+    ensures { λ _. ⌜ now (out .exit) ≡ written (join n (now (a .entry)) (now (b .entry))) (now (out .entry)) ⌝ }
+{
+    blocks::copy(a, out, n);
+    unite_all(out, n, b);
 }

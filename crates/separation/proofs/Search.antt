@@ -10,17 +10,17 @@ use Rattle.equivalence.specs.Lists.{first}
 use Rattle.equivalence.proofs.Kernels.{identity-canonical, identity-within}
 use Rattle.algebra.specs.Algebra.{Algebra}
 use Rattle.algebra.specs.Translations.{Compatible, Closed, Refined}
-use Rattle.separation.specs.Search.{Keeps, Before, Refused, Settled, TwoBlocks, Earliest}
+use Rattle.separation.specs.Search.{Before, Keeps, Refused, Settled, TwoBlocks, Earliest}
 
 module _ (a : Algebra) (v w : ℕ) where
-  pub settled-start : (f : ℕ → ℕ) → v < a .size → w < a .size → ¬ (v ≡ w) → ((x : ℕ) → x < a .size → f x ≡ x) → Compatible a f → Settled a v w 0 0 f
+  pub settled-start : (f : ℕ → ℕ) → v < a .size → w < a .size → ¬ (v ≡ w) → ((x : ℕ) → x < a .size → f x ≡ x) → Compatible a f → Settled a v w 0 1 f
   settled-start f lv lw d e c =
       record {
         canonical = identity-canonical (a .size) f e;
         compatible = c;
         apart = λ h. d (sym (e v lv) ∙ h ∙ e w lw);
         own = λ g cg k. identity-within (a .size) f g e;
-        refused = λ p q l k b. elim b [ inl o ↦ absurd (omega arith) | inr o ↦ absurd (omega (arith, o .1)) ];
+        refused = λ p q l k b. elim b [ inl o ↦ absurd (omega arith) | inr o ↦ absurd (omega (arith, o .0, o .1)) ];
       }
 
   module _ (x y : ℕ) (f : ℕ → ℕ) (s : Settled a v w x y f) (lx : x < y) (ly : y < a .size) where

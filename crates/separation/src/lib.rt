@@ -1,1 +1,2 @@
-// Separate's search.
+// Separate: the earliest congruence that holds two elements apart.
+pub mod blocks;

@@ -1,0 +1,29 @@
+/* The optimized implementation that the proved library is compared with: the
+ * same four services as include/congruence.h, parameter for parameter, under
+ * names of its own so that both can be linked into one program. */
+#ifndef BASELINE_H
+#define BASELINE_H
+
+#include <stddef.h>
+#include <stdint.h>
+
+uint32_t baseline_generate(size_t n, const uint8_t *arities, size_t arities_len,
+                           const uint8_t *cells, size_t cells_len,
+                           const uint8_t *pairs, size_t pairs_len,
+                           uint8_t *out, size_t out_len);
+
+uint32_t baseline_contained(size_t n, const uint8_t *arities, size_t arities_len,
+                            const uint8_t *cells, size_t cells_len,
+                            const uint8_t *map, size_t map_len,
+                            uint8_t *out, size_t out_len);
+
+uint32_t baseline_separate(size_t n, const uint8_t *arities, size_t arities_len,
+                           const uint8_t *cells, size_t cells_len,
+                           size_t v, size_t w,
+                           uint8_t *out, size_t out_len);
+
+uint32_t baseline_decompose(size_t n, const uint8_t *arities, size_t arities_len,
+                            const uint8_t *cells, size_t cells_len,
+                            uint8_t *out, size_t out_len);
+
+#endif

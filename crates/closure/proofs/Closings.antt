@@ -1,0 +1,275 @@
+-- Why the queue is enough: once each queued element has gone, with the name of its block, through the translations whose other arguments
+-- were still in use, the map is a congruence. Every argument list is led, one argument at a time and in the order of the queue, to the
+-- list of the names of its blocks.
+use Prim.Native.Nat.{ℕ, zero, suc, _+_, _-_, _≤_, _<_}
+use mathlib.Core.List.{List, [], _∷_, _++_, map, append-assoc, map-append}
+use mathlib.Core.Logic.{_⊎_, inl, inr}
+use mathlib.Core.Path.{_≡_, refl, sym, ap, subst, _∙_, ap₂}
+use native.Mathlib.Decide.{ℕ-discrete}
+use native.Mathlib.Omega.{arith}
+use lib.ListN.{length, getD, set, length-append}
+use lib.Seq.{getD-set-same, getD-set-other}
+use Rattle.equivalence.specs.Equivalence.{byte}
+use Rattle.equivalence.specs.Kernel.{Canonical, Within, relabel}
+use Rattle.equivalence.proofs.Kernels.{relabel-same, relabel-other}
+use Rattle.algebra.specs.Algebra.{Algebra}
+use Rattle.algebra.specs.Translations.{result, Compatible}
+use Rattle.algebra.proofs.Accepted.{WellFormed}
+use Rattle.algebra.proofs.Congruences.{cells-below}
+use Rattle.closure.specs.Closing.{Begun, Retired}
+use Rattle.closure.specs.Contexts.{Listed, All, ImagesIn, OperationsIn, Contexts, Joined, Unless}
+use Rattle.closure.specs.Queue.{State, InQueue, Queued, Grown}
+use Rattle.closure.proofs.Images.{all-map, all-below, below-all, all-append, images-kept, listed-below}
+use Rattle.closure.proofs.Queues.{name-back, in-queue-kept}
+use Rattle.closure.proofs.Sweeps.{joined-kept}
+
+-- ---- lists of arguments
+
+module _ (a : Algebra) (j : ℕ) (f : ℕ → ℕ) where
+  -- replacing one argument after another
+  replaced : (L : ℕ → Type 0) (t : ℕ → ℕ) → ((x : ℕ) → L x → L (t x)) → ((x : ℕ) → L x → ImagesIn a j L x (t x) f) → (pre xs : List ℕ)
+      → length pre + length xs ≡ getD (a .arities) j 0 → All L pre → All L xs → f (result a j (pre ++ xs)) ≡ f (result a j (pre ++ map t xs))
+  replaced L t stays h pre [] e p q = refl
+  replaced L t stays h pre (x ∷ xs) e p q =
+      h x (q .0) pre xs (omega arith) p (q .1)
+      ∙ ap (λ (z : List ℕ). f (result a j z)) (sym (append-assoc pre (t x ∷ []) xs))
+      ∙ replaced L t stays h (pre ++ (t x ∷ [])) xs (rw (length-append pre (t x ∷ [])) (omega arith)) (all-append L pre (t x ∷ []) p (stays x (q .0), tt)) (q .1)
+      ∙ ap (λ (z : List ℕ). f (result a j z)) (append-assoc pre (t x ∷ []) (map t xs))
+
+images-fewer : (a : Algebra) (j x y : ℕ) (f : ℕ → ℕ) (L M : ℕ → Type 0) → ((c : ℕ) → M c → L c) → ImagesIn a j L x y f → ImagesIn a j M x y f
+images-fewer a j x y f L M h i pre post e p q = i pre post e (all-map h pre p) (all-map h post q)
+
+map-same : (f g : ℕ → ℕ) (L : ℕ → Type 0) → ((x : ℕ) → L x → f x ≡ g x) → (xs : List ℕ) → All L xs → map f xs ≡ map g xs
+map-same f g L h [] p = refl
+map-same f g L h (x ∷ xs) p = ap₂ (λ (y : ℕ) (ys : List ℕ). y ∷ ys) (h x (p .0)) (map-same f g L h xs (p .1))
+
+map-twice : (f t : ℕ → ℕ) (L : ℕ → Type 0) → ((x : ℕ) → L x → f (t x) ≡ f x) → (xs : List ℕ) → All L xs → map f (map t xs) ≡ map f xs
+map-twice f t L h [] p = refl
+map-twice f t L h (x ∷ xs) p = ap₂ (λ (y : ℕ) (ys : List ℕ). y ∷ ys) (h x (p .0)) (map-twice f t L h xs (p .1))
+
+map-still : (f : ℕ → ℕ) (L : ℕ → Type 0) → ((x : ℕ) → L x → f x ≡ x) → (xs : List ℕ) → All L xs → map f xs ≡ xs
+map-still f L h [] p = refl
+map-still f L h (x ∷ xs) p = ap₂ (λ (y : ℕ) (ys : List ℕ). y ∷ ys) (h x (p .0)) (map-still f L h xs (p .1))
+
+all-mapped : (L M : ℕ → Type 0) (t : ℕ → ℕ) → ((x : ℕ) → L x → M (t x)) → (xs : List ℕ) → All L xs → All M (map t xs)
+all-mapped L M t h [] p = tt
+all-mapped L M t h (x ∷ xs) p = (h x (p .0), all-mapped L M t h xs (p .1))
+
+map-length : (t : ℕ → ℕ) (xs : List ℕ) → length (map t xs) ≡ length xs
+map-length t [] = refl
+map-length t (x ∷ xs) = ap suc (map-length t xs)
+
+-- ---- in use
+
+-- x is a name of the congruence at the beginning, and not among the first k of the queue
+pub record Alive (n : ℕ) (base queue : ℕ → ℕ) (k x : ℕ) : Type 0 where
+  pub small : x < n
+  pub name : base x ≡ x
+  pub waiting : (i : ℕ) → i < k → queue i ≡ x → ⊥
+
+alive-same : {n k : ℕ} {base queue queue′ : ℕ → ℕ} → ((i : ℕ) → i < k → queue′ i ≡ queue i) → (x : ℕ) → Alive n base queue k x → Alive n base queue′ k x
+alive-same h x m = record { small = m .small; name = m .name; waiting = λ i l e. m .waiting i l (sym (h i l) ∙ e) }
+
+-- element number i of the queue has gone through the translations in use then, together with `to`
+pub record Dealt (a : Algebra) (base : ℕ → ℕ) (s : State) (i : ℕ) : Type 0 where
+  pub to : ℕ
+  pub alive : Alive (a .size) base (s .queue) (i + 1) to
+  pub same : s .map to ≡ s .map (s .queue i)
+  pub images : OperationsIn a (length (a .arities)) (Alive (a .size) base (s .queue) i) to (s .queue i) (s .map)
+
+-- where the loop stands: the first k of the queue are dealt with, unless v and w are joined
+pub record Running (a : Algebra) (v w k : ℕ) (s : State) (live : List ℕ) (count : ℕ) : Type 0 where
+  pub base : ℕ → ℕ
+  pub canonical : Canonical (a .size) base
+  pub compatible : Compatible a base
+  pub within : Within (a .size) base (s .map)
+  pub lost : (x : ℕ) → x < a .size → base x ≡ x → (s .map x ≡ x) ⊎ InQueue s x
+  pub listed : (x : ℕ) → Alive (a .size) base (s .queue) k x → Listed live count x
+  pub dealt : (Joined v w (s .map) → ⊥) → (i : ℕ) → i < k → Dealt a base s i
+
+pub running-none : {a : Algebra} {v w : ℕ} {s : State} {live : List ℕ} {count : ℕ} → Begun a s live count → Running a v w 0 s live count
+running-none b = record {
+  base = b .base;
+  canonical = b .canonical;
+  compatible = b .compatible;
+  within = b .within;
+  lost = b .lost;
+  listed = λ x m. b .listed x (m .small) (m .name);
+  dealt = λ u i l. absurd (omega arith);
+}
+
+module _ (a : Algebra) (ok : WellFormed a) {v w : ℕ} (lv : v < a .size) (lw : w < a .size) {Good : (ℕ → ℕ) → Type 0} {k : ℕ} {s t : State} {live live′ : List ℕ} {count count′ : ℕ}
+    (r : Running a v w k s live count) (lk : k < s .size) (q : Queued (a .size) s) (d : Grown (a .size) Good s t)
+    (done : Unless v w (OperationsIn a (length (a .arities)) (Listed live count) (s .map (s .queue k)) (s .queue k)) (t .map))
+    (out : Retired (s .queue k) live count live′ count′) where
+  -- the name of a queued element's block
+  abbrev name : ℕ
+  name = s .map (s .queue k)
+
+  name-small : name < a .size
+  name-small = omega (arith, q .canonical .below (s .queue k) (q .small k lk), q .small k lk)
+
+  name-alive : Alive (a .size) (r .base) (t .queue) (k + 1) name
+  name-alive = record {
+    small = name-small;
+    name = name-back (r .canonical) (q .canonical) (r .within) name name-small (q .canonical .root (s .queue k) (q .small k lk));
+    waiting = λ i l e. q .lost i (omega arith)
+        (subst (λ (z : ℕ). s .map z ≡ z) (sym (sym (d .kept i (omega arith)) ∙ e)) (q .canonical .root (s .queue k) (q .small k lk)));
+  }
+
+  alive-before : (i : ℕ) → i ≤ s .size → (x : ℕ) → Alive (a .size) (r .base) (t .queue) i x → Alive (a .size) (r .base) (s .queue) i x
+  alive-before i l = alive-same (λ h lh. sym (d .kept h (omega arith)))
+
+  dealt-new : (Joined v w (t .map) → ⊥) → Dealt a (r .base) t k
+  dealt-new u = record {
+    to = name;
+    alive = name-alive;
+    same = d .within name (s .queue k) name-small (q .small k lk) (q .canonical .root (s .queue k) (q .small k lk)) ∙ ap (t .map) (sym (d .kept k lk));
+    images = λ j lj. subst (λ (z : ℕ). ImagesIn a j (Alive (a .size) (r .base) (t .queue) k) name z (t .map)) (sym (d .kept k lk))
+        (images-fewer a j name (s .queue k) (t .map) (Listed live count) (Alive (a .size) (r .base) (t .queue) k) (λ c m. r .listed c (alive-before k (omega arith) c m)) (done u j lj));
+  }
+
+  dealt-old : (i : ℕ) → i < k → Dealt a (r .base) s i → Dealt a (r .base) t i
+  dealt-old i l e = record {
+    to = e .to;
+    alive = alive-same (λ h lh. d .kept h (omega arith)) (e .to) (e .alive);
+    same = d .within (e .to) (s .queue i) (e .alive .small) (q .small i (omega arith)) (e .same) ∙ ap (t .map) (sym (d .kept i (omega arith)));
+    images = λ j lj. subst (λ (z : ℕ). ImagesIn a j (Alive (a .size) (r .base) (t .queue) i) (e .to) z (t .map)) (sym (d .kept i (omega arith)))
+        (images-fewer a j (e .to) (s .queue i) (t .map) (Alive (a .size) (r .base) (s .queue) i) (Alive (a .size) (r .base) (t .queue) i) (alive-before i (omega arith))
+        (images-kept a ok j lj (λ c m. m .small) (e .alive .small) (q .small i (omega arith)) (d .within) (e .images j lj)));
+  }
+
+  pub running-more : Running a v w (k + 1) t live′ count′
+  running-more = record {
+    base = r .base;
+    canonical = r .canonical;
+    compatible = r .compatible;
+    within = λ x y lx ly e. d .within x y lx ly (r .within x y lx ly e);
+    lost = λ x l e. elim (r .lost x l e) [ inl i ↦ d .pushed x l i | inr i ↦ inr (in-queue-kept d x i) ];
+    listed = λ x m. out .kept x
+        (r .listed x (record { small = m .small; name = m .name; waiting = λ i l e. m .waiting i (omega arith) (d .kept i (omega arith) ∙ e) }))
+        (λ e. m .waiting k (omega arith) (d .kept k lk ∙ sym e));
+    dealt = λ u i l. elim (ℕ-discrete i k) [
+      | yes e ↦ subst (Dealt a (r .base) t) (sym e) (dealt-new u)
+      | no e ↦ dealt-old i (omega arith) (r .dealt (joined-kept lv lw (d .within) u) i (omega arith))
+    ];
+  }
+
+-- ---- the end
+
+module _ (a : Algebra) (ok : WellFormed a) {v w k : ℕ} {s : State} {live : List ℕ} {count : ℕ} (r : Running a v w k s live count) (all : s .size ≤ k)
+    (q : Queued (a .size) s) (u : Joined v w (s .map) → ⊥) (j : ℕ) (lj : j < length (a .arities)) where
+  abbrev f : ℕ → ℕ
+  f = s .map
+
+  abbrev InUse : ℕ → ℕ → Type 0
+  InUse i x = Alive (a .size) (r .base) (s .queue) i x
+
+  -- one queued element gives way to its `to`
+  module _ (i : ℕ) (l : i < s .size) where
+    entry : Dealt a (r .base) s i
+    entry = r .dealt u i (omega arith)
+
+    abbrev step : ℕ → ℕ
+    step x = relabel (s .queue i) (entry .to) x
+
+    step-alive : (x : ℕ) → InUse i x → InUse (i + 1) (step x)
+    step-alive x m = elim (ℕ-discrete x (s .queue i)) [
+      | yes e ↦ rw (relabel-same (s .queue i) (entry .to) x e) (entry .alive)
+      | no e ↦ rw (relabel-other (s .queue i) (entry .to) x e)
+          (record { small = m .small; name = m .name; waiting = λ h lh z. elim (ℕ-discrete h i) [ yes y ↦ e (sym z ∙ ap (s .queue) y) | no y ↦ m .waiting h (omega arith) z ] })
+    ]
+
+    earlier : (x : ℕ) → InUse (i + 1) x → InUse i x
+    earlier x m = record { small = m .small; name = m .name; waiting = λ h lh. m .waiting h (omega arith) }
+
+    step-same : (x : ℕ) → InUse i x → f (step x) ≡ f x
+    step-same x m = elim (ℕ-discrete x (s .queue i)) [
+      | yes e ↦ ap f (relabel-same (s .queue i) (entry .to) x e) ∙ entry .same ∙ ap f (sym e)
+      | no e ↦ ap f (relabel-other (s .queue i) (entry .to) x e)
+    ]
+
+    step-images : (x : ℕ) → InUse i x → ImagesIn a j (InUse i) x (step x) f
+    step-images x m pre post z p h = elim (ℕ-discrete x (s .queue i)) [
+      | yes e ↦ rw (relabel-same (s .queue i) (entry .to) x e, e) (sym (entry .images j lj pre post z p h))
+      | no e ↦ rw (relabel-other (s .queue i) (entry .to) x e) refl
+    ]
+
+    stepped : (xs : List ℕ) → length xs ≡ getD (a .arities) j 0 → All (InUse i) xs → f (result a j xs) ≡ f (result a j (map step xs))
+    stepped xs e p = replaced a j f (InUse i) step (λ x m. earlier (step x) (step-alive x m)) step-images [] xs (omega arith) tt p
+
+  settled : (d i : ℕ) → i + d ≡ s .size → (xs : List ℕ) → length xs ≡ getD (a .arities) j 0 → All (InUse i) xs → f (result a j xs) ≡ f (result a j (map f xs))
+  settled zero i e xs n p =
+      ap (λ (z : List ℕ). f (result a j z)) (sym (map-still f (InUse i) (λ x m. elim (r .lost x (m .small) (m .name)) [
+        | inl h ↦ h
+        | inr h ↦ absurd (m .waiting (h .0) (omega (arith, h .1 .0)) (h .1 .1))
+      ]) xs p))
+  settled (suc d) i e xs n p =
+      let l : i < s .size = omega arith in
+      stepped i l xs n p
+      ∙ settled d (i + 1) (omega arith) (map (step i l) xs) (map-length (step i l) xs ∙ n) (all-mapped (InUse i) (InUse (i + 1)) (step i l) (step-alive i l) xs p)
+      ∙ ap (λ (z : List ℕ). f (result a j z)) (map-twice f (step i l) (InUse i) (step-same i l) xs p)
+
+  abbrev Element : ℕ → Type 0
+  Element x = x < a .size
+
+  base-small : (x : ℕ) → Element x → Element (r .base x)
+  base-small x l = omega (arith, r .canonical .below x l)
+
+  base-images : (x : ℕ) → Element x → ImagesIn a j Element x (r .base x) f
+  base-images x l =
+      images-kept a ok j lj (λ c m. m) l (base-small x l) (r .within)
+      (λ pre post e p h. r .compatible x (r .base x) l (base-small x l) (sym (r .canonical .root x l)) j lj pre post e (all-below (a .size) pre p) (all-below (a .size) post h))
+
+  -- the result at an argument list is joined with the result at the names
+  pub named : (xs : List ℕ) → length xs ≡ getD (a .arities) j 0 → All Element xs → f (result a j xs) ≡ f (result a j (map f xs))
+  named xs e p =
+      replaced a j f Element (r .base) base-small base-images [] xs (omega arith) tt p
+      ∙ settled (s .size) 0 (omega arith) (map (r .base) xs) (map-length (r .base) xs ∙ e)
+      (all-mapped Element (InUse 0) (r .base) (λ x l. record { small = base-small x l; name = r .canonical .root x l; waiting = λ i li. absurd (omega arith) }) xs p)
+      ∙ ap (λ (z : List ℕ). f (result a j z)) (map-twice f (r .base) Element (λ x l. r .within (r .base x) x (base-small x l) l (r .canonical .root x l)) xs p)
+
+pub running-compatible : (a : Algebra) → WellFormed a → {v w k : ℕ} {s : State} {live : List ℕ} {count : ℕ} → Running a v w k s live count → s .size ≤ k → Queued (a .size) s
+    → Unless v w (Compatible a) (s .map)
+running-compatible a ok {s = s} r all q u x y lx ly e j lj pre post z p h =
+    let n = a .size in
+    let long : (c : ℕ) → length (pre ++ (c ∷ post)) ≡ getD (a .arities) j 0 = λ c. length-append pre (c ∷ post) ∙ omega arith in
+    let whole : (c : ℕ) → c < n → All (λ b. b < n) (pre ++ (c ∷ post)) = λ c l. all-append (λ b. b < n) pre (c ∷ post) (below-all n pre p) (l, below-all n post h) in
+    named a ok r all q u j lj (pre ++ (x ∷ post)) (long x) (whole x lx)
+    ∙ ap (λ (t : List ℕ). s .map (result a j t)) (map-append (s .map) pre (x ∷ post) ∙ ap (λ (b : ℕ). map (s .map) pre ++ (b ∷ map (s .map) post)) e ∙ sym (map-append (s .map) pre (y ∷ post)))
+    ∙ sym (named a ok r all q u j lj (pre ++ (y ∷ post)) (long y) (whole y ly))
+
+-- ---- the list of elements in use
+
+pub retired-none : {b : ℕ} (live : List ℕ) (count : ℕ) → Retired b live count live count
+retired-none live count = record { fewer = omega arith; kept = λ c m h. m; old = λ i l. (i, (l, refl)) }
+
+-- the last takes the place of b, which stands at i
+pub retired-swap : {b : ℕ} (live : List ℕ) (count i : ℕ) → count ≤ length live → i < count → byte live i ≡ b → Retired b live count (set live i (byte live (count - 1))) (count - 1)
+retired-swap {b} live count i room l e =
+    let last = byte live (count - 1) in
+    let new : byte (set live i last) i ≡ last = getD-set-same live i last 0 (omega arith) in
+    let rest : (h : ℕ) → (h ≡ i → ⊥) → byte (set live i last) h ≡ byte live h = λ h d. getD-set-other live i h last 0 d in
+    record {
+      fewer = omega arith;
+      kept = λ c m h. elim (ℕ-discrete (m .0) (count - 1)) [
+        | yes z ↦ elim (ℕ-discrete i (count - 1)) [
+          | yes y ↦ absurd (h (sym (m .1 .1) ∙ ap (byte live) (z ∙ sym y) ∙ e))
+          | no y ↦ (i, (omega arith, new ∙ ap (byte live) (sym z) ∙ m .1 .1))
+        ]
+        | no z ↦ (m .0, (omega (arith, m .1 .0), rest (m .0) (λ y. h (sym (m .1 .1) ∙ ap (byte live) y ∙ e)) ∙ m .1 .1))
+      ];
+      old = λ h lh. elim (ℕ-discrete h i) [
+        | yes z ↦ (count - 1, (omega arith, sym (ap (byte (set live i last)) z ∙ new)))
+        | no z ↦ (h, (omega arith, sym (rest h z)))
+      ];
+    }
+
+pub retired-contexts : {n b : ℕ} {cells live live′ : List ℕ} {count count′ : ℕ} → length live′ ≡ length live → Contexts n cells live count → Retired b live count live′ count′ → Contexts n cells live′ count′
+retired-contexts {n} {b} {cells} {live} {live′} e k r = record {
+  size = k .size;
+  cells-most = k .cells-most;
+  cells-below = k .cells-below;
+  live-room = omega (arith, k .live-room, r .fewer);
+  live-below = λ i l. listed-below k (byte live′ i) (r .old i l);
+}

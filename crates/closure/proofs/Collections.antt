@@ -1,0 +1,107 @@
+-- The laws of lists that a loop collects: one element after another, and how many there are.
+use Prim.Native.Nat.{ℕ, zero, suc, _+_, _≤_, _<_}
+use mathlib.Core.Bool.{Bool, true, false, not}
+use mathlib.Core.List.{List}
+use mathlib.Core.Path.{_≡_, refl, sym, ap, _∙_}
+use native.Mathlib.Decide.{ℕ-discrete}
+use native.Mathlib.Numerals.{add-one}
+use native.Mathlib.Omega.{arith}
+use lib.Dec.{eqb}
+use lib.ListN.{length, set}
+use lib.Seq.{getD-set-same, getD-set-other}
+use Rattle.equivalence.specs.Equivalence.{byte}
+use Rattle.equivalence.specs.Kernel.{bit, names}
+use Rattle.closure.specs.Starts.{Pushed, tally, Collected}
+
+pub collected-none : (test : ℕ → Bool) (p : ℕ → ℕ) → Collected test 0 p 0
+unfolding tally
+collected-none test p = record { small = λ i l. absurd (omega arith); right = λ i l. absurd (omega arith); all = λ x l. absurd (omega arith); count = refl }
+
+tally-more : (test : ℕ → Bool) (x : ℕ) → tally test (x + 1) ≡ tally test x + bit (test x)
+unfolding tally
+tally-more test x = rw (add-one x)
+
+module _ (test : ℕ → Bool) {x k k′ : ℕ} {p p′ : ℕ → ℕ} (h : Collected test x p k) where
+  wanted-more : test x ≡ true → Pushed x true p k p′ k′ → Collected test (x + 1) p′ k′
+  wanted-more t d = record {
+    small = λ i l. elim (ℕ-discrete i k) [
+      | yes e ↦ let z : p′ i ≡ x = ap p′ e ∙ d .new refl in omega arith
+      | no e ↦ let j : i < k = omega (arith, d .count) in omega (arith, d .kept i j, h .small i j)
+    ];
+    right = λ i l. elim (ℕ-discrete i k) [
+      | yes e ↦ ap test (ap p′ e ∙ d .new refl) ∙ t
+      | no e ↦ let j : i < k = omega (arith, d .count) in ap test (d .kept i j) ∙ h .right i j
+    ];
+    all = λ y l s. elim (ℕ-discrete y x) [
+      | yes e ↦ (k, (omega (arith, d .count), d .new refl ∙ sym e))
+      | no e ↦ let r = h .all y (omega arith) s in (r .0, (omega (arith, r .1 .0, d .count), d .kept (r .0) (r .1 .0) ∙ r .1 .1))
+    ];
+    count = omega (arith, d .count, h .count, tally-more test x, ap bit t);
+  }
+
+  other-more : test x ≡ false → Pushed x false p k p′ k′ → Collected test (x + 1) p′ k′
+  other-more t d = record {
+    small = λ i l. let j : i < k = omega (arith, d .count) in omega (arith, d .kept i j, h .small i j);
+    right = λ i l. let j : i < k = omega (arith, d .count) in ap test (d .kept i j) ∙ h .right i j;
+    all = λ y l s. elim (ℕ-discrete y x) [
+      | yes e ↦ let c : true ≡ false = sym s ∙ ap test e ∙ t in let z : _≡_ {A = ℕ} 0 1 = cc in absurd (omega arith)
+      | no e ↦ let r = h .all y (omega arith) s in (r .0, (omega (arith, r .1 .0, d .count), d .kept (r .0) (r .1 .0) ∙ r .1 .1))
+    ];
+    count = omega (arith, d .count, h .count, tally-more test x, ap bit t);
+  }
+
+  by-answer : (b : Bool) → test x ≡ b → Pushed x b p k p′ k′ → Collected test (x + 1) p′ k′
+  by-answer true t d = wanted-more t d
+  by-answer false t d = other-more t d
+
+  pub collected-more : Pushed x (test x) p k p′ k′ → Collected test (x + 1) p′ k′
+  collected-more d = by-answer (test x) refl d
+
+bit-most : (b : Bool) → bit b ≤ 1
+bit-most true = omega arith
+bit-most false = omega arith
+
+tally-most : (test : ℕ → Bool) (n : ℕ) → tally test n ≤ n
+unfolding tally
+tally-most test zero = omega arith
+tally-most test (suc n) = omega (arith, tally-most test n, bit-most (test n))
+
+pub collected-most : {test : ℕ → Bool} {n k : ℕ} {p : ℕ → ℕ} → Collected test n p k → k ≤ n
+collected-most {test} {n} h = omega (arith, h .count, tally-most test n)
+
+-- the names of a map, and the others
+pub tally-names : (f : ℕ → ℕ) (n : ℕ) → tally (λ x. eqb (f x) x) n ≡ names n f
+unfolding tally names
+tally-names f zero = refl
+tally-names f (suc n) = omega (arith, tally-names f n)
+
+bit-not : (b : Bool) → bit b + bit (not b) ≡ 1
+bit-not true = refl
+bit-not false = refl
+
+pub tally-others : (f : ℕ → ℕ) (n : ℕ) → tally (λ x. not (eqb (f x) x)) n + names n f ≡ n
+unfolding tally names
+tally-others f zero = refl
+tally-others f (suc n) = omega (arith, tally-others f n, bit-not (eqb (f n) n))
+
+-- ---- one push
+
+pub pushed-not : (x k : ℕ) (wanted : Bool) (p : ℕ → ℕ) → wanted ≡ false → Pushed x wanted p k p k
+pushed-not x k wanted p e = record {
+  count = omega (arith, ap bit e);
+  kept = λ i l. refl;
+  new = λ t. let z : _≡_ {A = ℕ} 0 1 = cc in absurd (omega arith);
+}
+
+pub pushed-yes : (x k : ℕ) (wanted : Bool) (out : List ℕ) → wanted ≡ true → k < length out → Pushed x wanted (byte out) k (byte (set out k x)) (k + 1)
+pushed-yes x k wanted out e l = record {
+  count = omega (arith, ap bit e);
+  kept = λ i li. getD-set-other out k i x 0 (omega arith);
+  new = λ t. getD-set-same out k x 0 l;
+}
+
+pub names-total : (f : ℕ → ℕ) {n k : ℕ} {p : ℕ → ℕ} → Collected (λ x. eqb (f x) x) n p k → 0 + names n f ≡ k
+names-total f {n} h = omega (arith, h .count, tally-names f n)
+
+pub others-total : (f : ℕ → ℕ) {n k : ℕ} {p : ℕ → ℕ} → Collected (λ x. not (eqb (f x) x)) n p k → k + names n f ≡ n
+others-total f {n} h = omega (arith, h .count, tally-others f n)

@@ -1,0 +1,305 @@
+// The images of two elements x and y under translations, joined in the map. The other arguments run through the first `count` elements
+// of `live`. A pass ends early where a single block is left, or where v and w, if they are two, have been joined.
+ghost use mathlib.Core.Path.{_≡_};
+ghost use mathlib.Core.Bool.{true};
+ghost use Prim.Native.Nat.{ℕ, _+_, _*_, _<_, _≤_};
+ghost use lib.ListN.{length};
+ghost use Rattle.equivalence.specs.Equivalence.{byte};
+ghost use Rattle.closure.specs.Queue.{state, Ready, Grown};
+ghost use Rattle.algebra.specs.Algebra.{algebraOf};
+ghost use Rattle.algebra.specs.Accepted.{Accepted};
+ghost use Rattle.closure.specs.Contexts.{Listed, OperationsIn, OnLine, OnPlane, OnTable, Contexts, LineFits, PlaneFits, TableFits, Unless, Halts, Bounded};
+
+// Is nothing more to be done?
+pub fn halted(m: &[u8], len: usize, limit: usize, v: usize, w: usize) -> bool
+    requires { ⌜ v < length (now m) ⌝ }
+    requires { ⌜ w < length (now m) ⌝ }
+    ensures { λ r. ⌜ (r ≡ true → Halts limit len v w (byte (now (m .entry)))) ⌝ }
+{
+    if limit <= len {
+        return true;
+    }
+    if v == w {
+        return false;
+    }
+    m[v] == m[w]
+}
+
+// One other argument, which moves the cells by `step`.
+fn line(
+    m: &mut [u8],
+    n: usize,
+    queue: &mut [u8],
+    start: usize,
+    cells: &[u8],
+    live: &[u8],
+    count: usize,
+    step: usize,
+    p: usize,
+    q: usize,
+) -> usize
+    requires { ⌜ Ready n start (now m) (now queue) ⌝ }
+    requires { ⌜ Contexts n (now cells) (now live) count ⌝ }
+    requires { ⌜ LineFits n (now cells) step p ⌝ }
+    requires { ⌜ LineFits n (now cells) step q ⌝ }
+    ensures { λ r. ⌜ Grown n (OnLine (now (cells .entry)) (now (live .entry)) count step p q) (state (now (m .entry)) (now (queue .entry)) start) (state (now (m .exit)) (now (queue .exit)) r) ⌝ }
+    ensures { λ _. ⌜ OnLine (now (cells .entry)) (now (live .entry)) count step p q (byte (now (m .exit))) ⌝ }
+{
+    let mut len = start;
+    let mut i = 0;
+    while i < count {
+        let shift = live[i] as usize * step;
+        len = crate::queue::join(m, n, queue, len, cells[p + shift], cells[q + shift]);
+        i += 1;
+    }
+    len
+}
+
+// Two other arguments: the first moves the cells by `row`, the second by `step`.
+fn plane(
+    m: &mut [u8],
+    n: usize,
+    queue: &mut [u8],
+    start: usize,
+    limit: usize,
+    cells: &[u8],
+    live: &[u8],
+    count: usize,
+    row: usize,
+    step: usize,
+    p: usize,
+    q: usize,
+    v: usize,
+    w: usize,
+) -> usize
+    requires { ⌜ Ready n start (now m) (now queue) ⌝ }
+    requires { ⌜ Bounded n limit start v w (byte (now m)) ⌝ }
+    requires { ⌜ Contexts n (now cells) (now live) count ⌝ }
+    requires { ⌜ PlaneFits n (now cells) row step p ⌝ }
+    requires { ⌜ PlaneFits n (now cells) row step q ⌝ }
+    ensures { λ r. ⌜ Grown n (OnPlane (now (cells .entry)) (now (live .entry)) count row step p q) (state (now (m .entry)) (now (queue .entry)) start) (state (now (m .exit)) (now (queue .exit)) r) ⌝ }
+    ensures { λ _. ⌜ Unless v w (OnPlane (now (cells .entry)) (now (live .entry)) count row step p q) (byte (now (m .exit))) ⌝ }
+{
+    let mut len = start;
+    let mut i = 0;
+    while i < count {
+        if halted(m, len, limit, v, w) {
+            return len;
+        }
+        let shift = live[i] as usize * row;
+        len = line(
+            m,
+            n,
+            queue,
+            len,
+            cells,
+            live,
+            count,
+            step,
+            p + shift,
+            q + shift,
+        );
+        i += 1;
+    }
+    len
+}
+
+// A table of arity 2 at o.
+fn binary(
+    m: &mut [u8],
+    n: usize,
+    queue: &mut [u8],
+    start: usize,
+    cells: &[u8],
+    live: &[u8],
+    count: usize,
+    o: usize,
+    x: usize,
+    y: usize,
+) -> usize
+    requires { ⌜ Ready n start (now m) (now queue) ⌝ }
+    requires { ⌜ Contexts n (now cells) (now live) count ⌝ }
+    requires { ⌜ TableFits n (now cells) o 2 x y ⌝ }
+    ensures { λ r. ⌜ Grown n (OnTable n (now (cells .entry)) (now (live .entry)) count o 2 x y) (state (now (m .entry)) (now (queue .entry)) start) (state (now (m .exit)) (now (queue .exit)) r) ⌝ }
+    ensures { λ _. ⌜ OnTable n (now (cells .entry)) (now (live .entry)) count o 2 x y (byte (now (m .exit))) ⌝ }
+{
+    let len = line(m, n, queue, start, cells, live, count, n, o + x, o + y);
+    line(
+        m,
+        n,
+        queue,
+        len,
+        cells,
+        live,
+        count,
+        1,
+        o + x * n,
+        o + y * n,
+    )
+}
+
+// A table of arity 3 at o.
+fn ternary(
+    m: &mut [u8],
+    n: usize,
+    queue: &mut [u8],
+    start: usize,
+    limit: usize,
+    cells: &[u8],
+    live: &[u8],
+    count: usize,
+    o: usize,
+    x: usize,
+    y: usize,
+    v: usize,
+    w: usize,
+) -> usize
+    requires { ⌜ Ready n start (now m) (now queue) ⌝ }
+    requires { ⌜ Bounded n limit start v w (byte (now m)) ⌝ }
+    requires { ⌜ Contexts n (now cells) (now live) count ⌝ }
+    requires { ⌜ TableFits n (now cells) o 3 x y ⌝ }
+    ensures { λ r. ⌜ Grown n (OnTable n (now (cells .entry)) (now (live .entry)) count o 3 x y) (state (now (m .entry)) (now (queue .entry)) start) (state (now (m .exit)) (now (queue .exit)) r) ⌝ }
+    ensures { λ _. ⌜ Unless v w (OnTable n (now (cells .entry)) (now (live .entry)) count o 3 x y) (byte (now (m .exit))) ⌝ }
+{
+    let area = n * n;
+    let a = plane(
+        m,
+        n,
+        queue,
+        start,
+        limit,
+        cells,
+        live,
+        count,
+        area,
+        n,
+        o + x,
+        o + y,
+        v,
+        w,
+    );
+    let b = plane(
+        m,
+        n,
+        queue,
+        a,
+        limit,
+        cells,
+        live,
+        count,
+        area,
+        1,
+        o + x * n,
+        o + y * n,
+        v,
+        w,
+    );
+    plane(
+        m,
+        n,
+        queue,
+        b,
+        limit,
+        cells,
+        live,
+        count,
+        n,
+        1,
+        o + x * area,
+        o + y * area,
+        v,
+        w,
+    )
+}
+
+// The table of an operation of arity s, at o.
+fn table(
+    m: &mut [u8],
+    n: usize,
+    queue: &mut [u8],
+    start: usize,
+    limit: usize,
+    cells: &[u8],
+    live: &[u8],
+    count: usize,
+    o: usize,
+    s: usize,
+    x: usize,
+    y: usize,
+    v: usize,
+    w: usize,
+) -> usize
+    requires { ⌜ Ready n start (now m) (now queue) ⌝ }
+    requires { ⌜ Bounded n limit start v w (byte (now m)) ⌝ }
+    requires { ⌜ Contexts n (now cells) (now live) count ⌝ }
+    requires { ⌜ s ≤ 3 ⌝ }
+    requires { ⌜ TableFits n (now cells) o s x y ⌝ }
+    ensures { λ r. ⌜ Grown n (OnTable n (now (cells .entry)) (now (live .entry)) count o s x y) (state (now (m .entry)) (now (queue .entry)) start) (state (now (m .exit)) (now (queue .exit)) r) ⌝ }
+    ensures { λ _. ⌜ Unless v w (OnTable n (now (cells .entry)) (now (live .entry)) count o s x y) (byte (now (m .exit))) ⌝ }
+{
+    if s == 3 {
+        return ternary(m, n, queue, start, limit, cells, live, count, o, x, y, v, w);
+    }
+    if s == 2 {
+        return binary(m, n, queue, start, cells, live, count, o, x, y);
+    }
+    if s == 1 {
+        return crate::queue::join(m, n, queue, start, cells[o + x], cells[o + y]);
+    }
+    start
+}
+
+// Every operation.
+pub fn operations(
+    m: &mut [u8],
+    n: usize,
+    queue: &mut [u8],
+    start: usize,
+    limit: usize,
+    arities: &[u8],
+    cells: &[u8],
+    live: &[u8],
+    count: usize,
+    x: usize,
+    y: usize,
+    v: usize,
+    w: usize,
+) -> usize
+    requires { ⌜ Ready n start (now m) (now queue) ⌝ }
+    requires { ⌜ Bounded n limit start v w (byte (now m)) ⌝ }
+    requires { ⌜ Contexts n (now cells) (now live) count ⌝ }
+    requires { ⌜ Accepted (algebraOf n (now arities) (now cells)) ⌝ }
+    requires { ⌜ x < n ⌝ }
+    requires { ⌜ y < n ⌝ }
+    ensures { λ r. ⌜ Grown n (OperationsIn (algebraOf n (now (arities .entry)) (now (cells .entry))) (length (now (arities .entry))) (Listed (now (live .entry)) count) x y) (state (now (m .entry)) (now (queue .entry)) start) (state (now (m .exit)) (now (queue .exit)) r) ⌝ }
+    ensures { λ _. ⌜ Unless v w (OperationsIn (algebraOf n (now (arities .entry)) (now (cells .entry))) (length (now (arities .entry))) (Listed (now (live .entry)) count) x y) (byte (now (m .exit))) ⌝ }
+{
+    let mut len = start;
+    let mut o = 0;
+    let mut j = 0;
+    while j < arities.len() {
+        if halted(m, len, limit, v, w) {
+            return len;
+        }
+        let s = arities[j] as usize;
+        len = table(
+            m,
+            n,
+            queue,
+            len,
+            limit,
+            cells,
+            live,
+            count,
+            o,
+            s,
+            x,
+            y,
+            v,
+            w,
+        );
+        o = o + algebra::power(n, s);
+        j += 1;
+    }
+    len
+}

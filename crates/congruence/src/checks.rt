@@ -1,0 +1,122 @@
+// The tests of each service, by rising number: the first that applies is the answer.
+ghost use mathlib.Core.Path.{_≡_};
+ghost use mathlib.Core.List.{List, [], _∷_, _++_};
+ghost use Prim.Native.Nat.{ℕ, _-_, _*_};
+ghost use lib.Dec.{ltb};
+ghost use Rattle.equivalence.specs.Lists.{every};
+ghost use Rattle.equivalence.specs.Equivalence.{blocks};
+ghost use Rattle.equivalence.specs.Refusal.{lowest, mapTest, spaceTest};
+ghost use Rattle.algebra.specs.Algebra.{algebraOf, cellCount};
+ghost use Rattle.algebra.specs.Accepted.{algebraTests};
+ghost use Rattle.congruence.specs.Calls.{pairsTest, elementsTest, equalTest, congruenceTest};
+use equivalence::Check;
+use equivalence::Refusal;
+
+// Whether all of s is below n.
+fn all_below(s: &[u8], n: usize) -> bool
+    ensures { λ r. ⌜ r ≡ every (λ x. ltb x n) (now (s .entry)) ⌝ }
+{
+    let mut i = 0;
+    while i < s.len() {
+        if n <= s[i] as usize {
+            return false;
+        }
+        i += 1;
+    }
+    true
+}
+
+// Generate's tests.
+pub fn generate_check(n: usize, arities: &[u8], cells: &[u8], pairs: &[u8], room: usize) -> Check
+    ensures { λ r. ⌜ r ≡ lowest (algebraTests (algebraOf n (now (arities .entry)) (now (cells .entry))) ++ (pairsTest n (now (pairs .entry)) ∷ spaceTest n room ∷ [])) ⌝ }
+{
+    let check = algebra::check(n, arities, cells);
+    if let Check::Failed(reason) = check {
+        return Check::Failed(reason);
+    }
+    if pairs.len() % 2 != 0 {
+        return Check::Failed(Refusal::Range);
+    }
+    if !all_below(pairs, n) {
+        return Check::Failed(Refusal::Range);
+    }
+    if room < n {
+        return Check::Failed(Refusal::Space);
+    }
+    Check::Passed
+}
+
+// Contained's tests.
+pub fn contained_check(n: usize, arities: &[u8], cells: &[u8], map: &[u8], room: usize) -> Check
+    ensures { λ r. ⌜ r ≡ lowest (algebraTests (algebraOf n (now (arities .entry)) (now (cells .entry))) ++ (mapTest n (now (map .entry)) ∷ spaceTest n room ∷ [])) ⌝ }
+{
+    let check = algebra::check(n, arities, cells);
+    if let Check::Failed(reason) = check {
+        return Check::Failed(reason);
+    }
+    if !equivalence::map::is_map(n, map) {
+        return Check::Failed(Refusal::NotMap);
+    }
+    if room < n {
+        return Check::Failed(Refusal::Space);
+    }
+    Check::Passed
+}
+
+// Separate's tests.
+pub fn separate_check(n: usize, arities: &[u8], cells: &[u8], v: usize, w: usize, room: usize) -> Check
+    ensures { λ r. ⌜ r ≡ lowest (algebraTests (algebraOf n (now (arities .entry)) (now (cells .entry))) ++ (elementsTest n v w ∷ spaceTest n room ∷ equalTest v w ∷ [])) ⌝ }
+{
+    let check = algebra::check(n, arities, cells);
+    if let Check::Failed(reason) = check {
+        return Check::Failed(reason);
+    }
+    if n <= v {
+        return Check::Failed(Refusal::Range);
+    }
+    if n <= w {
+        return Check::Failed(Refusal::Range);
+    }
+    if room < n {
+        return Check::Failed(Refusal::Space);
+    }
+    if v == w {
+        return Check::Failed(Refusal::Equal);
+    }
+    Check::Passed
+}
+
+// Quotient's tests. Space is measured by the number of blocks of the given map, whether it is a congruence or not.
+pub fn quotient_check(n: usize, arities: &[u8], cells: &[u8], map: &[u8], room: usize) -> Check
+    ensures { λ r. ⌜ r ≡ lowest (algebraTests (algebraOf n (now (arities .entry)) (now (cells .entry))) ++ (mapTest n (now (map .entry)) ∷ spaceTest (cellCount (blocks n (now (map .entry))) (now (arities .entry))) room ∷ congruenceTest (algebraOf n (now (arities .entry)) (now (cells .entry))) (now (map .entry)) ∷ [])) ⌝ }
+{
+    let check = algebra::check(n, arities, cells);
+    if let Check::Failed(reason) = check {
+        return Check::Failed(reason);
+    }
+    if !equivalence::map::is_map(n, map) {
+        return Check::Failed(Refusal::NotMap);
+    }
+    let wanted = algebra::cell_count(equivalence::map::block_count(n, map), arities);
+    if room < wanted {
+        return Check::Failed(Refusal::Space);
+    }
+    if !refinement::is_congruence(n, arities, cells, map) {
+        return Check::Failed(Refusal::NotCongruence);
+    }
+    Check::Passed
+}
+
+// Decompose's tests but the last, 11.
+pub fn decompose_check(n: usize, arities: &[u8], cells: &[u8], room: usize) -> Check
+    ensures { λ r. ⌜ r ≡ lowest (algebraTests (algebraOf n (now (arities .entry)) (now (cells .entry))) ++ (spaceTest ((n - 1) * n) room ∷ [])) ⌝ }
+{
+    let check = algebra::check(n, arities, cells);
+    if let Check::Failed(reason) = check {
+        return Check::Failed(reason);
+    }
+    if room < (n - 1) * n {
+        return Check::Failed(Refusal::Space);
+    }
+    Check::Passed
+}

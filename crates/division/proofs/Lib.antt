@@ -1,0 +1,4 @@
+pub mod Numbering
+pub mod Operations
+pub mod QuotientTables
+pub mod Walks

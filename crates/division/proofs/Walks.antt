@@ -1,0 +1,197 @@
+-- Bytes laid one stretch after the other, and the walk over the blocks of a first argument: what holds before the first block, what one
+-- block more adds, and that all of them make the table.
+use Prim.Native.Nat.{ℕ, zero, suc, _+_, _*_, _^_, _≤_, _<_}
+use mathlib.Core.Path.{_≡_, refl, sym, ap, _∙_}
+use mathlib.Core.List.{List, [], _∷_, _++_, map, append-assoc, append-nil, map-append}
+use native.Mathlib.Numerals.{add-one}
+use native.Mathlib.Nat.{pow-zero, pow-suc, pow-succ', suc-mul, one-mul, mul-one, mul-le-mul-right}
+use native.Mathlib.Omega.{arith}
+use lib.ListN.{length, take, drop, set, length-append, length-take, length-drop, take-append-drop}
+use lib.Seq.{take-at, drop-at, drop-drop, length-take-le, set-split}
+use Rattle.equivalence.specs.Equivalence.{byte}
+use Rattle.equivalence.specs.Lists.{upTo, concat}
+use Rattle.equivalence.specs.Refusal.{written}
+use Rattle.equivalence.proofs.Stretches.{concat-append, stretches}
+use Rattle.division.specs.Tables.{laid, joined, cellDivided, rowDivided, Source, divided, Sound, Fits, RowFits}
+
+pub power-one : (n : ℕ) → n ^ 1 ≡ n
+power-one n = pow-suc n 0 ∙ ap (λ (k : ℕ). k * n) (pow-zero n) ∙ one-mul n
+
+pub power-two : (n : ℕ) → n ^ 2 ≡ n * n
+power-two n = pow-suc n 1 ∙ ap (λ (k : ℕ). k * n) (power-one n)
+
+pub power-three : (n : ℕ) → n ^ 3 ≡ n * n * n
+power-three n = pow-suc n 2 ∙ ap (λ (k : ℕ). k * n) (power-two n)
+
+-- nothing laid
+pub laid-none : (lent : List ℕ) (at : ℕ) → laid lent at [] ≡ lent
+unfolding laid written
+laid-none lent at = take-append-drop at lent
+
+-- one byte laid is a store
+pub laid-one : (lent : List ℕ) (at v : ℕ) → at < length lent → set lent at v ≡ laid lent at (v ∷ [])
+unfolding laid written
+laid-one lent at v l = set-split lent at v l ∙ ap (λ (r : List ℕ). take at lent ++ (v ∷ r)) (sym (drop-drop 1 at lent ∙ ap (λ (k : ℕ). drop k lent) (add-one at)))
+
+pub laid-long : (lent : List ℕ) (at : ℕ) (new : List ℕ) → at + length new ≤ length lent → length (laid lent at new) ≡ length lent
+unfolding laid written
+laid-long lent at new h = simp (length-append, length-take, length-drop) (omega arith)
+
+-- a stretch laid behind another
+pub laid-laid : (lent : List ℕ) (at : ℕ) (one two : List ℕ) → at + length one ≤ length lent
+    → laid (laid lent at one) (at + length one) two ≡ laid lent at (one ++ two)
+unfolding laid written
+laid-laid lent at one two h =
+    let front : List ℕ = take at lent ++ one in
+    let back : List ℕ = drop (length one) (drop at lent) in
+    let e : take at lent ++ (one ++ back) ≡ front ++ back = sym (append-assoc (take at lent) one back) in
+    let w : length front ≡ at + length one = length-append (take at lent) one ∙ ap (λ (k : ℕ). k + length one) (length-take-le at lent (omega arith)) in
+    rw (e, take-at front back (at + length one) w, drop-at front back (at + length one) w, drop-drop (length two) (length one) (drop at lent), length-append one two)
+    (append-assoc (take at lent) one (two ++ drop (length one + length two) (drop at lent)) ∙ ap (λ (r : List ℕ). take at lent ++ r) (sym (append-assoc one two (drop (length one + length two) (drop at lent)))))
+
+-- ---- stretches g 0, g 1 and so on, laid from `to` on
+
+pub joined-none : (g : ℕ → List ℕ) → joined g 0 ≡ []
+unfolding joined upTo concat
+joined-none g = refl
+
+pub joined-more : (g : ℕ → List ℕ) (k : ℕ) → joined g (suc k) ≡ joined g k ++ g k
+unfolding joined upTo concat
+joined-more g k = rw (map-append g (upTo k) (k ∷ []), concat-append (map g (upTo k)) (g k ∷ []), append-nil (g k))
+
+-- k stretches are laid, the next begins at `at`, and the lent bytes are as many as they were
+pub record Laid (g : ℕ → List ℕ) (lent : List ℕ) (to : ℕ) (out : List ℕ) (k at : ℕ) : Type 0 where
+  pub place : at ≡ to + length (joined g k)
+  pub long : length out ≡ length lent
+  pub laid : out ≡ laid lent to (joined g k)
+
+pub laid-start : (g : ℕ → List ℕ) (lent : List ℕ) (to : ℕ) → Laid g lent to lent 0 to
+laid-start g lent to = record {
+  place = rw (joined-none g) (omega arith);
+  long = refl;
+  laid = rw (joined-none g) (sym (laid-none lent to));
+}
+
+pub laid-more : {g : ℕ → List ℕ} {lent : List ℕ} {to : ℕ} {out : List ℕ} {k at : ℕ} (out′ : List ℕ) → Laid g lent to out k at → at + length (g k) ≤ length lent
+    → out′ ≡ laid out at (g k) → Laid g lent to out′ (k + 1) (at + length (g k))
+laid-more {g} {lent} {to} {out} {k} {at} out′ s h e =
+    let more : joined g (k + 1) ≡ joined g k ++ g k = ap (joined g) (add-one k) ∙ joined-more g k in
+    record {
+      place = rw more (omega (arith, s .place, length-append (joined g k) (g k)));
+      long = ap length e ∙ laid-long out at (g k) (omega (arith, s .long)) ∙ s .long;
+      laid = rw more (e ∙ rw (s .laid, s .place) (laid-laid lent to (joined g k) (g k) (omega (arith, s .place))));
+    }
+
+-- ---- the walk over the blocks of a first argument
+
+pub divided-long : (q : Source) (s from : ℕ) → length (divided q s from) ≡ q .blocks ^ s
+unfolding divided joined
+divided-long q zero from = sym (pow-zero (q .blocks))
+divided-long q (suc s) from =
+    stretches (λ k. divided q s (from + byte (q .firsts) k * q .size ^ s)) (q .blocks ^ s) (λ k. divided-long q s (from + byte (q .firsts) k * q .size ^ s)) (q .blocks)
+    ∙ sym (pow-succ' (q .blocks) s)
+
+-- the table with block k as its first argument
+abbrev pub inner : Source → ℕ → ℕ → ℕ → List ℕ
+inner q s from k = divided q s (from + byte (q .firsts) k * q .size ^ s)
+
+-- a table of arity s + 1 whose first argument has gone through k blocks: w cells of the source and v of the target belong to each
+pub record Walked (q : Source) (s w v from : ℕ) (lent : List ℕ) (to : ℕ) (out : List ℕ) (k at : ℕ) : Type 0 where
+  pub sound : Sound q
+  pub fits : Fits q (suc s) from lent to
+  pub wide : w ≡ q .size ^ s
+  pub tall : v ≡ q .blocks ^ s
+  pub upto : k ≤ q .blocks
+  pub laid : Laid (inner q s from) lent to out k at
+
+pub walked-start : {q : Source} {s w v from : ℕ} {lent : List ℕ} {to : ℕ} → Sound q → Fits q (suc s) from lent to → w ≡ q .size ^ s → v ≡ q .blocks ^ s
+    → Walked q s w v from lent to lent 0 to
+walked-start {q} {s} {w} {v} {from} {lent} {to} ok f e d =
+    record { sound = ok; fits = f; wide = e; tall = d; upto = omega arith; laid = laid-start (inner q s from) lent to }
+
+module _ {q : Source} {s w v from : ℕ} {lent : List ℕ} {to : ℕ} {out : List ℕ} {k at : ℕ} (r : Walked q s w v from lent to out k at) where
+  -- the next inner table lies within the cells, and its quotient's within the lent bytes
+  pub walked-fits : (start : ℕ) → k < q .blocks → start ≡ from + byte (q .firsts) k * w → Fits q s start out at
+  unfolding joined
+  walked-fits start l e =
+      let long : length (concat (map (inner q s from) (upTo k))) ≡ k * q .blocks ^ s =
+      stretches (inner q s from) (q .blocks ^ s) (λ i. divided-long q s (from + byte (q .firsts) i * q .size ^ s)) k in
+      let i : start ≡ from + byte (q .firsts) k * q .size ^ s = e ∙ ap (λ (z : ℕ). from + byte (q .firsts) k * z) (r .wide) in
+      record {
+        source = omega (arith, r .fits .source, pow-succ' (q .size) s, suc-mul (byte (q .firsts) k) (q .size ^ s), mul-le-mul-right (q .size ^ s) (r .sound .first k l));
+        target = omega (arith, r .fits .target, r .laid .place, r .laid .long, pow-succ' (q .blocks) s, suc-mul k (q .blocks ^ s), mul-le-mul-right (q .blocks ^ s) l);
+      }
+
+  pub walked-more : (start : ℕ) (out′ : List ℕ) → k < q .blocks → start ≡ from + byte (q .firsts) k * w → out′ ≡ laid out at (divided q s start)
+      → Walked q s w v from lent to out′ (k + 1) (at + v)
+  walked-more start out′ l e h =
+      let long : length (inner q s from k) ≡ v = divided-long q s (from + byte (q .firsts) k * q .size ^ s) ∙ sym (r .tall) in
+      let i : start ≡ from + byte (q .firsts) k * q .size ^ s = e ∙ ap (λ (z : ℕ). from + byte (q .firsts) k * z) (r .wide) in
+      record {
+        sound = r .sound;
+        fits = r .fits;
+        wide = r .wide;
+        tall = r .tall;
+        upto = omega arith;
+        laid = rw (← long) (laid-more out′ (r .laid) (omega (arith, long, r .tall, walked-fits start l e .target, r .laid .long)) (h ∙ ap (λ (z : ℕ). laid out at (divided q s z)) i));
+      }
+
+  pub walked-all : q .blocks ≤ k → out ≡ laid lent to (divided q (suc s) from)
+  unfolding divided
+  walked-all l = let e : k ≡ q .blocks = omega (arith, r .upto) in r .laid .laid ∙ ap (λ (i : ℕ). laid lent to (joined (inner q s from) i)) e
+
+-- ---- a row
+
+-- a row whose argument has gone through k blocks
+pub record RowWalked (b : ℕ) (cells numbers firsts : List ℕ) (from : ℕ) (lent : List ℕ) (to : ℕ) (out : List ℕ) (k at : ℕ) : Type 0 where
+  pub fits : RowFits b cells numbers firsts from lent to
+  pub upto : k ≤ b
+  pub place : at ≡ to + k
+  pub laid : Laid (λ i. cellDivided cells numbers (from + byte firsts i)) lent to out k at
+
+pub row-start : {b : ℕ} {cells numbers firsts : List ℕ} {from : ℕ} {lent : List ℕ} {to : ℕ} → RowFits b cells numbers firsts from lent to
+    → RowWalked b cells numbers firsts from lent to lent 0 to
+row-start {b} {cells} {numbers} {firsts} {from} {lent} {to} f =
+    record { fits = f; upto = omega arith; place = omega arith; laid = laid-start (λ i. cellDivided cells numbers (from + byte firsts i)) lent to }
+
+module _ {b : ℕ} {cells numbers firsts : List ℕ} {from : ℕ} {lent : List ℕ} {to : ℕ} {out : List ℕ} {k at : ℕ}
+    (r : RowWalked b cells numbers firsts from lent to out k at) where
+  pub row-more : (out′ : List ℕ) → k < b → out′ ≡ laid out at (cellDivided cells numbers (from + byte firsts k))
+      → RowWalked b cells numbers firsts from lent to out′ (k + 1) (at + 1)
+  row-more out′ l e = record {
+    fits = r .fits;
+    upto = omega arith;
+    place = omega (arith, r .place);
+    laid = laid-more out′ (r .laid) (omega (arith, r .fits .target, r .place)) e;
+  }
+
+  pub row-all : b ≤ k → out ≡ laid lent to (rowDivided b cells numbers firsts from)
+  row-all l =
+      r .laid .laid
+      ∙ ap (λ (i : ℕ). laid lent to (joined (λ j. cellDivided cells numbers (from + byte firsts j)) i)) (omega (arith, r .upto))
+
+-- a row is a table of arity 1
+row-divided : (q : Source) (from : ℕ) → rowDivided (q .blocks) (q .cells) (q .numbers) (q .firsts) from ≡ divided q 1 from
+unfolding divided
+row-divided q from = simp (pow-zero, mul-one)
+
+pub laid-row : (q : Source) (from : ℕ) (lent : List ℕ) (to : ℕ) (out : List ℕ) → out ≡ laid lent to (rowDivided (q .blocks) (q .cells) (q .numbers) (q .firsts) from)
+    → out ≡ laid lent to (divided q 1 from)
+laid-row q from lent to out e = e ∙ ap (laid lent to) (row-divided q from)
+
+pub fits-row : {q : Source} {from : ℕ} {lent : List ℕ} {to : ℕ} → Sound q → Fits q 1 from lent to → RowFits (q .blocks) (q .cells) (q .numbers) (q .firsts) from lent to
+fits-row {q} {from} ok f =
+    let below : (k : ℕ) → k < q .blocks → from + byte (q .firsts) k < length (q .cells) = λ k l. omega (arith, f .source, power-one (q .size), ok .first k l) in
+    record {
+      enough = ok .firsts;
+      cell = below;
+      number = λ k l. omega (arith, ok .cell (from + byte (q .firsts) k) (below k l), ok .numbers);
+      target = omega (arith, f .target, power-one (q .blocks));
+    }
+
+-- a cell is a table of arity 0
+pub fits-cell : {q : Source} {from : ℕ} {lent : List ℕ} {to : ℕ} → Sound q → Fits q 0 from lent to
+    → (from < length (q .cells)) × ((byte (q .cells) from < length (q .numbers)) × (to < length lent))
+fits-cell {q} {from} ok f =
+    let l : from < length (q .cells) = omega (arith, f .source, pow-zero (q .size)) in
+    (l, (omega (arith, ok .cell from l, ok .numbers), omega (arith, f .target, pow-zero (q .blocks))))

@@ -1,0 +1,72 @@
+-- The tables of a quotient as the walk over them writes them, from the first argument inwards.
+use Prim.Native.Nat.{ℕ, zero, suc, _+_, _*_, _^_, _≤_, _<_}
+use mathlib.Core.List.{List, [], _∷_, _++_, map}
+use lib.ListN.{length, getD, take, drop}
+use Rattle.equivalence.specs.Lists.{upTo, concat}
+use Rattle.equivalence.specs.Equivalence.{byte}
+use Rattle.equivalence.specs.Refusal.{written}
+use Rattle.algebra.specs.Algebra.{cellCount}
+
+-- the lent bytes with the new ones from place `at` on
+unfoldable pub laid : List ℕ → ℕ → List ℕ → List ℕ
+laid lent at new = take at lent ++ written new (drop at lent)
+
+-- g 0, g 1 and so on up to g (k - 1), one after the other
+unfoldable pub joined : (ℕ → List ℕ) → ℕ → List ℕ
+joined g k = concat (map g (upTo k))
+
+-- arity 0: the block number of the cell at a place
+abbrev pub cellDivided : List ℕ → List ℕ → ℕ → List ℕ
+cellDivided cells numbers from = byte numbers (byte cells from) ∷ []
+
+-- arity 1: the block numbers of the cells at the b smallest members
+abbrev pub rowDivided : ℕ → List ℕ → List ℕ → List ℕ → ℕ → List ℕ
+rowDivided b cells numbers firsts from = joined (λ k. cellDivided cells numbers (from + byte firsts k)) b
+
+-- what a quotient's tables are made from: the size, the number of blocks, the cells, each element's block number and each block's smallest member
+pub record Source : Type 0 where
+  pub size : ℕ
+  pub blocks : ℕ
+  pub cells : List ℕ
+  pub numbers : List ℕ
+  pub firsts : List ℕ
+
+-- the source that a call is handed
+abbrev pub sourceOf : ℕ → ℕ → List ℕ → List ℕ → List ℕ → Source
+sourceOf n b cells numbers firsts = record { size = n; blocks = b; cells = cells; numbers = numbers; firsts = firsts }
+
+-- the table over blocks of the operation of arity s whose table begins at `from`: one block of a first argument after the other, each read at its smallest member
+unfoldable pub divided : Source → ℕ → ℕ → List ℕ
+divided q zero from = cellDivided (q .cells) (q .numbers) from
+divided q (suc s) from = joined (λ k. divided q s (from + byte (q .firsts) k * q .size ^ s)) (q .blocks)
+
+-- every cell is an element and so is every smallest member; each element has a number and each block a smallest member
+pub record Sound (q : Source) : Type 0 where
+  pub most : q .size ≤ 64
+  pub few : q .blocks ≤ q .size
+  pub cell : (c : ℕ) → c < length (q .cells) → byte (q .cells) c < q .size
+  pub first : (k : ℕ) → k < q .blocks → byte (q .firsts) k < q .size
+  pub numbers : q .size ≤ length (q .numbers)
+  pub firsts : q .blocks ≤ length (q .firsts)
+
+-- a table of arity s lies within the cells, and its quotient's within the lent bytes
+pub record Fits (q : Source) (s from : ℕ) (lent : List ℕ) (to : ℕ) : Type 0 where
+  pub source : from + q .size ^ s ≤ length (q .cells)
+  pub target : to + q .blocks ^ s ≤ length lent
+
+-- the row that begins at `from` lies within the cells, each of its cells has a number, and its quotient lies within the lent bytes
+pub record RowFits (b : ℕ) (cells numbers firsts : List ℕ) (from : ℕ) (lent : List ℕ) (to : ℕ) : Type 0 where
+  pub enough : b ≤ length firsts
+  pub cell : (k : ℕ) → k < b → from + byte firsts k < length cells
+  pub number : (k : ℕ) → k < b → byte cells (from + byte firsts k) < length numbers
+  pub target : to + b ≤ length lent
+
+-- the table over blocks of operation j, whose table begins behind those of the operations before it
+abbrev pub dividedAt : Source → List ℕ → ℕ → List ℕ
+dividedAt q arities j = divided q (getD arities j 0) (cellCount (q .size) (take j arities))
+
+-- no arity is above 3, the tables lie within the cells, and their quotients' within the lent bytes
+pub record AllFit (q : Source) (arities lent : List ℕ) : Type 0 where
+  pub arity : (j : ℕ) → j < length arities → getD arities j 0 ≤ 3
+  pub source : cellCount (q .size) arities ≤ length (q .cells)
+  pub target : cellCount (q .blocks) arities ≤ length lent

@@ -1,0 +1,56 @@
+// The tests of a call, by rising number: the first that applies is the answer.
+ghost use mathlib.Core.Path.{_≡_};
+ghost use mathlib.Core.Bool.{not};
+ghost use mathlib.Core.List.{List, [], _∷_};
+ghost use Prim.Native.Nat.{ℕ};
+ghost use Rattle.equivalence.specs.Refusal.{lowest, sizeTest, mapTest, spaceTest};
+ghost use Rattle.equivalence.specs.Calls.{preferCheck};
+use crate::Check;
+use crate::Refusal;
+use crate::map;
+
+// The largest number of elements.
+pub const MAX_SIZE: usize = 64;
+
+// Whether n is a number of elements: 1 to 64.
+pub fn is_size(n: usize) -> bool
+    ensures { λ r. ⌜ r ≡ not (sizeTest n .applies) ⌝ }
+{
+    if n == 0 {
+        return false;
+    }
+    if MAX_SIZE < n {
+        return false;
+    }
+    true
+}
+
+// The tests of a call that is handed two maps.
+pub fn maps_check(n: usize, a: &[u8], b: &[u8]) -> Check
+    ensures { λ r. ⌜ r ≡ preferCheck n (now (a .entry)) (now (b .entry)) ⌝ }
+{
+    if !is_size(n) {
+        return Check::Failed(Refusal::Size);
+    }
+    if !map::is_map(n, a) {
+        return Check::Failed(Refusal::NotMap);
+    }
+    if !map::is_map(n, b) {
+        return Check::Failed(Refusal::NotMap);
+    }
+    Check::Passed
+}
+
+// The tests of a call that is handed two maps and writes one into `room` bytes.
+pub fn maps_space_check(n: usize, a: &[u8], b: &[u8], room: usize) -> Check
+    ensures { λ r. ⌜ r ≡ lowest (sizeTest n ∷ mapTest n (now (a .entry)) ∷ mapTest n (now (b .entry)) ∷ spaceTest n room ∷ []) ⌝ }
+{
+    let check = maps_check(n, a, b);
+    if let Check::Failed(reason) = check {
+        return Check::Failed(reason);
+    }
+    if room < n {
+        return Check::Failed(Refusal::Space);
+    }
+    Check::Passed
+}

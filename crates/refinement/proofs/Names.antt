@@ -1,0 +1,70 @@
+-- The number of names, which is the number of blocks of a canonical function: at most n, n for the identity alone, more where more elements
+-- are names.
+use Prim.Native.Nat.{ℕ, zero, suc, _+_, _≤_, _<_}
+use mathlib.Core.Bool.{Bool, true, false}
+use mathlib.Core.Path.{_≡_, ap}
+use native.Mathlib.Decide.{ℕ-discrete}
+use native.Mathlib.Numerals.{add-one}
+use native.Mathlib.Omega.{arith}
+use lib.Dec.{eqb}
+use borrow.Author.Tests.{eq-eqb, ne-eqb}
+use Rattle.equivalence.specs.Kernel.{Canonical, Within, bit, names}
+
+bit-most : (b : Bool) → bit b ≤ 1
+bit-most true = omega arith
+bit-most false = omega arith
+
+pub names-most : (n : ℕ) (f : ℕ → ℕ) → names n f ≤ n
+unfolding names
+names-most zero f = omega arith
+names-most (suc n) f = omega (arith, names-most n f, bit-most (eqb (f n) n))
+
+pub names-next : (n : ℕ) (f : ℕ → ℕ) → names (n + 1) f ≡ names n f + bit (eqb (f n) n)
+unfolding names
+names-next n f = rw (add-one n)
+
+pub names-full : (n : ℕ) (f : ℕ → ℕ) → names n f ≡ n → (x : ℕ) → x < n → f x ≡ x
+unfolding names
+names-full zero f e x l = absurd (omega arith)
+names-full (suc n) f e x l =
+    elim (ℕ-discrete (f n) n) [
+      | yes p ↦ elim (ℕ-discrete x n) [
+        | yes q ↦ rw q p
+        | no q ↦ names-full n f (omega (arith, names-most n f, bit-most (eqb (f n) n))) x (omega arith)
+      ]
+      | no p ↦ absurd (omega (arith, names-most n f, ap bit (ne-eqb (f n) n p)))
+    ]
+
+bit-more : (f f′ : ℕ → ℕ) (x : ℕ) → (f x ≡ x → f′ x ≡ x) → bit (eqb (f x) x) ≤ bit (eqb (f′ x) x)
+bit-more f f′ x h =
+    elim (ℕ-discrete (f x) x) [
+      | yes p ↦ omega (arith, bit-most (eqb (f x) x), ap bit (eq-eqb (f′ x) x (h p)))
+      | no p ↦ omega (arith, ap bit (ne-eqb (f x) x p))
+    ]
+
+-- where f′ keeps the names of f it has as many at least
+pub names-more : (n : ℕ) (f f′ : ℕ → ℕ) → ((x : ℕ) → x < n → f x ≡ x → f′ x ≡ x) → names n f ≤ names n f′
+unfolding names
+names-more zero f f′ h = omega arith
+names-more (suc n) f f′ h = omega (arith, names-more n f f′ (λ x l. h x (omega arith)), bit-more f f′ n (h n (omega arith)))
+
+-- and more where it has another
+pub names-another : (n : ℕ) (f f′ : ℕ → ℕ) → ((x : ℕ) → x < n → f x ≡ x → f′ x ≡ x) → (w : ℕ) → w < n → f′ w ≡ w → (f w ≡ w → ⊥) → names n f < names n f′
+unfolding names
+names-another zero f f′ h w l p q = absurd (omega arith)
+names-another (suc n) f f′ h w l p q =
+    elim (ℕ-discrete w n) [
+      | yes e ↦
+          let s : bit (eqb (f n) n) ≡ 0 = ap bit (ne-eqb (f n) n (rw e at q)) in
+          let t : bit (eqb (f′ n) n) ≡ 1 = ap bit (eq-eqb (f′ n) n (rw e at p)) in
+          omega (arith, names-more n f f′ (λ x k. h x (omega arith)))
+      | no e ↦ omega (arith, names-another n f f′ (λ x k. h x (omega arith)) w (omega arith) p q, bit-more f f′ n (h n (omega arith)))
+    ]
+
+-- a function that joins more has as many names at most
+pub names-within : (n : ℕ) (f f′ : ℕ → ℕ) → Canonical n f → Canonical n f′ → Within n f f′ → names n f′ ≤ names n f
+names-within n f f′ c c′ w =
+    names-more n f′ f (λ x l e.
+    let k : f x < n = omega (arith, c .below x l) in
+    let s : f′ (f x) ≡ f′ x = w (f x) x k l (c .root x l) in
+    omega (arith, c .below x l, c′ .below (f x) k))

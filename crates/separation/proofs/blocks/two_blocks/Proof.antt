@@ -1,0 +1,41 @@
+use native.Mathlib.Omega.{arith}
+use Rattle.separation.proofs.TwoBlocks.{painted-two, painted-canonical}
+use borrow.Author.Needs.{needs}
+use Rattle.separation.proofs.blocks.two_blocks.Statement.{statement}
+use Rattle.separation.proofs.blocks.two_blocks.Tie as tie
+
+shared-slice-read-r : tie.Need-shared-slice-read-r
+shared-slice-read-r c = search needs
+
+first-other-requires : tie.Need-first-other-requires
+first-other-requires c κs = search needs
+
+cast-paint : tie.Need-cast-paint
+cast-paint c = search needs
+
+paint-requires : tie.Need-paint-requires
+paint-requires c κs = search needs
+
+same-length : tie.Need-same-length
+same-length c = search needs
+
+returns : tie.Need-returns
+returns c =
+    let s = c .before .before .before .before .before .before .before .before in
+    let f = c .before .before .paint .ensures in
+    let o = c .before .before .before .before .first-other .ensures in
+    let pre = s .pre in (
+      painted-two (s .args .n) (s .args .v) _ _ _ (search needs) (omega arith) o (f .first),
+      (painted-canonical (s .args .n) (s .args .v) _ _ _ (search needs) (omega arith) o (f .first), f .rest),
+    )
+
+pub two-blocks-spec : {M : Type 1} → statement M
+two-blocks-spec =
+    tie.close
+    (tie.spec
+    shared-slice-read-r
+    first-other-requires
+    cast-paint
+    paint-requires
+    same-length
+    returns)

@@ -1,0 +1,568 @@
+//! The services that only the probe makes callable (tests/PROBE.md).
+
+#[cfg(not(have_probe))]
+pub fn suites(_run: &mut outside_tests::report::Run) -> bool {
+    false
+}
+
+#[cfg(have_probe)]
+pub use linked::suites;
+
+#[cfg(have_probe)]
+mod linked {
+    use outside_tests::algebras;
+    use outside_tests::random::Rng;
+    use outside_tests::reference::algebra::Algebra;
+    use outside_tests::reference::bench::{self, Bench};
+    use outside_tests::reference::brute;
+    use outside_tests::reference::map;
+    use outside_tests::reference::plain::Plain;
+    use outside_tests::reference::service::{prefer, Answer, Reference};
+    use outside_tests::reference::Engine;
+    use outside_tests::report::{Run, Suite};
+
+    use crate::compare::{ask, Call, Guarded, Question};
+    use crate::ffi::{probe, worksheet, Library};
+
+    /// A map, sometimes damaged into none.
+    fn some_map(n: usize, rng: &mut Rng) -> Vec<u8> {
+        let size = n.clamp(1, 64);
+        let most = rng.within(1, size);
+        let mut bytes = rng.map(size, most);
+        match rng.below(24) {
+            0 => bytes.push(0),
+            1 => {
+                bytes.pop();
+            }
+            2 => {
+                let i = rng.below(size);
+                bytes[i] = rng.byte();
+            }
+            3 => {
+                let i = rng.below(size);
+                bytes[i] = rng.below(size) as u8;
+            }
+            4 => bytes.clear(),
+            _ => {}
+        }
+        bytes
+    }
+
+    fn some_size(limit: usize, rng: &mut Rng) -> usize {
+        match rng.below(30) {
+            0 => *rng.pick(&[0, 65, 255, 256, 257, 1 << 32, usize::MAX]),
+            1 => 64,
+            _ => rng.within(1, limit),
+        }
+    }
+
+    fn some_length(wanted: usize, rng: &mut Rng) -> usize {
+        match rng.below(8) {
+            0 => rng.below(wanted + 1),
+            1 | 2 => wanted + rng.below(40),
+            _ => wanted,
+        }
+    }
+
+    type OfMaps = unsafe extern "C" fn(usize, *const u8, usize, *const u8, usize, *mut u8, usize) -> u32;
+
+    fn of_maps(f: OfMaps, n: usize, a: &[u8], b: &[u8], lent: &[u8], rng: &mut Rng) -> (Answer, bool) {
+        let (mut a, mut b) = (Guarded::new(a, rng), Guarded::new(b, rng));
+        let mut out = Guarded::new(lent, rng);
+        let (al, bl, ol) = (a.len(), b.len(), out.len());
+        let number = unsafe { f(n, a.pointer(), al, b.pointer(), bl, out.pointer(), ol) };
+        let untouched = a.is_intact() && b.is_intact() && out.is_intact_around();
+        (Answer { number, lent: out.content() }, untouched)
+    }
+
+    fn two_maps(s: &mut Suite, f: OfMaps, is_join: bool) {
+        let mut reference = Reference::<Plain>::default();
+        for round in 0..20_000 {
+            let limit = if round % 4 == 0 { 64 } else { 7 };
+            let n = some_size(limit, &mut s.rng);
+            let (a, b) = (some_map(n, &mut s.rng), some_map(n, &mut s.rng));
+            let length = some_length(n.min(64), &mut s.rng);
+            let lent = s.rng.bytes(length);
+            let wanted =
+                if is_join { reference.join(n, &a, &b, &lent) } else { reference.meet(n, &a, &b, &lent) };
+            let (found, untouched) = of_maps(f, n, &a, &b, &lent, &mut s.rng);
+            s.check(found == wanted && untouched, || {
+                format!("  n = {n}, {a:?}, {b:?}, lent {lent:?}\n  found    {found:?}\n  expected {wanted:?}\n  all else untouched: {untouched}")
+            });
+            if s.is_over() {
+                break;
+            }
+        }
+        // All pairs of maps over four elements.
+        for a in brute::maps(4) {
+            for b in brute::maps(4) {
+                let lent = [9; 5];
+                let wanted =
+                    if is_join { reference.join(4, &a, &b, &lent) } else { reference.meet(4, &a, &b, &lent) };
+                let found = of_maps(f, 4, &a, &b, &lent, &mut s.rng);
+                s.same("two maps", found, (wanted, true));
+            }
+        }
+    }
+
+    fn preferred(s: &mut Suite) {
+        for round in 0..20_000 {
+            let limit = if round % 4 == 0 { 64 } else { 5 };
+            let n = some_size(limit, &mut s.rng);
+            let a = some_map(n, &mut s.rng);
+            let b = if s.rng.once_in(6) { a.clone() } else { some_map(n, &mut s.rng) };
+            let lent = s.rng.bytes(a.len() + b.len() + 3);
+            let mut wanted = prefer(n, &a, &b).to_vec();
+            let length = wanted.len();
+            wanted.extend_from_slice(&lent[length..]);
+            let (mut ga, mut gb) = (Guarded::new(&a, &mut s.rng), Guarded::new(&b, &mut s.rng));
+            let mut out = Guarded::new(&lent, &mut s.rng);
+            let (al, bl, ol) = (ga.len(), gb.len(), out.len());
+            let found =
+                unsafe { probe::probe_prefer(n, ga.pointer(), al, gb.pointer(), bl, out.pointer(), ol) };
+            let untouched = ga.is_intact() && gb.is_intact() && out.is_intact_around();
+            s.check(found == length && out.content() == wanted && untouched, || {
+                format!(
+                    "  n = {n}, {a:?}, {b:?}\n  found    {found} {:?}\n  expected {length} {wanted:?}",
+                    out.content()
+                )
+            });
+            if s.is_over() {
+                break;
+            }
+        }
+    }
+
+    fn places(s: &mut Suite) {
+        for x in 0..=255u8 {
+            for y in 0..=255u8 {
+                let wanted = map::place(x as usize, y as usize).unwrap_or(65_535);
+                s.same("place", unsafe { probe::probe_place(x, y) }, wanted);
+            }
+        }
+    }
+
+    /// An algebra, sometimes damaged.
+    fn some_algebra(limit: usize, cells: usize, rng: &mut Rng) -> Algebra {
+        let mut a = algebras::any(limit, cells, rng).algebra;
+        match rng.below(40) {
+            0 => a.n = *rng.pick(&[0, 65, 256, usize::MAX]),
+            1 => a.arities.push(4),
+            2 => a.arities = vec![0; 17],
+            3 => a.cells.push(0),
+            4 => {
+                a.cells.pop();
+            }
+            5 if !a.cells.is_empty() => {
+                let i = rng.below(a.cells.len());
+                a.cells[i] = rng.byte();
+            }
+            6 => {
+                a.n = 64;
+                a.arities = vec![3];
+            }
+            _ => {}
+        }
+        a
+    }
+
+    fn quotients(s: &mut Suite) {
+        let mut reference = Reference::<Plain>::default();
+        let mut seen = [0u32; 256];
+        for round in 0..20_000 {
+            let (limit, cells) = if round % 100 == 0 { (64, 6000) } else { (7, 400) };
+            let a = some_algebra(limit, cells, &mut s.rng);
+            let mut given = some_map(a.n, &mut s.rng);
+            let good = outside_tests::reference::algebra::reason(a.n, &a.arities, &a.cells) == 0;
+            if good && map::is_map(a.n, &given) && !s.rng.once_in(4) {
+                // A congruence that holds a pair or two.
+                let engine = reference.engine(a.n, &a.arities, &a.cells);
+                let count = s.rng.below(3);
+                let pairs: Vec<(usize, usize)> =
+                    (0..count).map(|_| (s.rng.below(a.n), s.rng.below(a.n))).collect();
+                given = engine.least(&pairs);
+            }
+            let b = given.iter().enumerate().filter(|(x, &f)| *x == f as usize).count();
+            let wanted: usize = a.arities.iter().take(16).map(|&k| b.pow(k.min(3) as u32)).sum();
+            let length = some_length(wanted.min(40_000), &mut s.rng);
+            let lent = s.rng.bytes(length);
+            let expected = reference.quotient(a.n, &a.arities, &a.cells, &given, &lent);
+            seen[expected.number as usize & 255] += 1;
+            let (mut ar, mut ce) = (Guarded::new(&a.arities, &mut s.rng), Guarded::new(&a.cells, &mut s.rng));
+            let (mut mp, mut out) = (Guarded::new(&given, &mut s.rng), Guarded::new(&lent, &mut s.rng));
+            let (al, cl, ml, ol) = (ar.len(), ce.len(), mp.len(), out.len());
+            let number = unsafe {
+                probe::probe_quotient(
+                    a.n,
+                    ar.pointer(),
+                    al,
+                    ce.pointer(),
+                    cl,
+                    mp.pointer(),
+                    ml,
+                    out.pointer(),
+                    ol,
+                )
+            };
+            let untouched = ar.is_intact() && ce.is_intact() && mp.is_intact() && out.is_intact_around();
+            let found = Answer { number, lent: out.content() };
+            s.check(found == expected && untouched, || {
+                format!("  {a:?}\n  map {given:?}, lent {lent:?}\n  found    {found:?}\n  expected {expected:?}\n  all else untouched: {untouched}")
+            });
+            if s.is_over() {
+                break;
+            }
+        }
+        for number in [0, 1, 2, 3, 4, 5, 6, 8, 9, 12] {
+            s.check(seen[number] > 0, || format!("  no case with reason {number}"));
+        }
+    }
+
+    fn certificates(s: &mut Suite) {
+        let mut reference = Reference::<Plain>::default();
+        let mut seen = [0u32; 3];
+        for round in 0..20_000 {
+            let (limit, cells) = if round % 100 == 0 { (40, 3000) } else { (6, 300) };
+            let a = some_algebra(limit, cells, &mut s.rng);
+            let n = a.n;
+            let maps = some_list(&mut reference, &a, &mut s.rng);
+            let expected = match reference.certify(n, &a.arities, &a.cells, &maps) {
+                Ok(yes) => 256 * yes as u32,
+                Err(refusal) => refusal,
+            };
+            seen[match expected {
+                256 => 0,
+                0 => 1,
+                _ => 2,
+            }] += 1;
+            let (mut ar, mut ce) = (Guarded::new(&a.arities, &mut s.rng), Guarded::new(&a.cells, &mut s.rng));
+            let mut mp = Guarded::new(&maps, &mut s.rng);
+            let (al, cl, ml) = (ar.len(), ce.len(), mp.len());
+            let found =
+                unsafe { probe::probe_certify(n, ar.pointer(), al, ce.pointer(), cl, mp.pointer(), ml) };
+            let untouched = ar.is_intact() && ce.is_intact() && mp.is_intact();
+            s.check(found == expected && untouched, || {
+                format!(
+                    "  {a:?}\n  maps {maps:?}\n  found {found}, expected {expected}, untouched {untouched}"
+                )
+            });
+            if s.is_over() {
+                break;
+            }
+        }
+        for (kind, count) in ["yes", "no", "refused"].iter().zip(seen) {
+            s.check(count > 50, || format!("  only {count} cases with the answer {kind}"));
+        }
+    }
+
+    /// A list of maps: Decompose's own, changed, or any.
+    fn some_list(reference: &mut Reference<Plain>, a: &Algebra, rng: &mut Rng) -> Vec<u8> {
+        let n = a.n;
+        if outside_tests::reference::algebra::reason(n, &a.arities, &a.cells) != 0 {
+            return (0..rng.below(3)).flat_map(|_| some_map(n, &mut rng.clone())).collect();
+        }
+        let own = reference.decompose(n, &a.arities, &a.cells, &vec![0; n * n]);
+        let mut list: Vec<Vec<u8>> = if own.number & 255 == 0 {
+            own.lent[..own.number as usize / 256 * n].chunks(n).map(|m| m.to_vec()).collect()
+        } else {
+            vec![map::identity(n)]
+        };
+        let engine = reference.engine(n, &a.arities, &a.cells);
+        match rng.below(14) {
+            0 => {
+                list.pop();
+            }
+            1 => list.push(map::all(n)),
+            2 => list.push(map::identity(n)),
+            3 => list.push(list[0].clone()),
+            4 => list.push(some_map(n, rng)),
+            5 => {
+                let i = rng.below(list.len());
+                list[i] = engine.greatest_inside(&list[i]);
+                let j = rng.below(list.len());
+                let other = list[j].clone();
+                list[i] = engine.meet(&list[i], &other);
+            }
+            6 => list.reverse(),
+            7 => list = (0..rng.within(60, 66)).map(|_| map::identity(n)).collect(),
+            8 => {
+                let (v, w) = (rng.below(n), rng.below(n));
+                if v != w {
+                    list.push(engine.separate(v, w));
+                }
+            }
+            9 => {
+                let i = rng.below(list.len());
+                list[i] = engine.least(&[(rng.below(n), rng.below(n))]);
+            }
+            10 => list = vec![some_map(n, rng)],
+            _ => {}
+        }
+        let mut bytes = list.concat();
+        if rng.once_in(25) {
+            bytes.pop();
+        }
+        bytes
+    }
+
+    const IMAGE: usize = 517;
+
+    fn image(bench: &Bench) -> Vec<u8> {
+        let mut bytes = bench.sheets.concat();
+        bytes.push(bench.n as u8);
+        bytes.extend(bench.tally.to_le_bytes());
+        bytes
+    }
+
+    /// Compares a bench call's number and its image.
+    fn compare_bench(s: &mut Suite, what: &str, found: (u32, Guarded), expected: (u32, Bench)) {
+        let (number, guarded) = found;
+        let wanted = image(&expected.1);
+        let good = number == expected.0 && guarded.content() == wanted && guarded.is_intact_around();
+        s.check(good, || {
+            format!(
+                "  {what}\n  found    {number} {:?}\n  expected {} {wanted:?}",
+                guarded.content(),
+                expected.0
+            )
+        });
+    }
+
+    fn starts(s: &mut Suite) {
+        for n in (0..=300).chain([1 << 16, 1 << 32, usize::MAX]) {
+            let bytes = s.rng.bytes(IMAGE);
+            let mut out = Guarded::new(&bytes, &mut s.rng);
+            let number = unsafe { probe::probe_bench_start(n, out.pointer(), IMAGE) };
+            compare_bench(s, &format!("start {n}"), (number, out), bench::start(n));
+        }
+    }
+
+    /// Sequences of calls, each over the bench that the one before gave.
+    fn sequences(s: &mut Suite) {
+        let mut reference = Reference::<Plain>::default();
+        let mut seen = [0u32; 256];
+        for round in 0..4000 {
+            let limit = if round % 30 == 0 { 64 } else { 6 };
+            let n = s.rng.within(1, limit);
+            let (_, mut now) = bench::start(n);
+            if s.rng.once_in(3) {
+                now.tally = u32::MAX - s.rng.below(2 * n + 2) as u32;
+            }
+            if s.rng.once_in(8) {
+                spoil(&mut now, &mut s.rng);
+            }
+            for _ in 0..12 {
+                let sheet = if s.rng.once_in(20) { s.rng.next() as usize } else { s.rng.below(9) };
+                let before = image(&now);
+                let mut out = Guarded::new(&before, &mut s.rng);
+                let (what, number, expected);
+                if s.rng.once_in(5) {
+                    what = format!("clear {sheet} of {now:?}");
+                    number = unsafe { probe::probe_bench_clear(out.pointer(), IMAGE, sheet) };
+                    expected = bench::clear(&now, sheet);
+                } else {
+                    let blocks = s.rng.within(1, n);
+                    let arities = algebras::random_arities(n, 200, &mut s.rng);
+                    let mut a = algebras::lifted(n, blocks, &arities, &mut s.rng);
+                    if s.rng.once_in(15) {
+                        a = some_algebra(limit, 200, &mut s.rng);
+                    }
+                    let (x, y) = (s.rng.below(n + s.rng.clone().below(2)), s.rng.below(n));
+                    what = format!("add {x} {y} to {sheet}, {a:?}, of {now:?}");
+                    let (mut ar, mut ce) =
+                        (Guarded::new(&a.arities, &mut s.rng), Guarded::new(&a.cells, &mut s.rng));
+                    let (al, cl) = (ar.len(), ce.len());
+                    number = unsafe {
+                        probe::probe_bench_add(
+                            out.pointer(),
+                            IMAGE,
+                            a.n,
+                            ar.pointer(),
+                            al,
+                            ce.pointer(),
+                            cl,
+                            sheet,
+                            x,
+                            y,
+                        )
+                    };
+                    s.check(ar.is_intact() && ce.is_intact(), || format!("  {what}: tables changed"));
+                    expected = bench::add(&mut reference, &now, a.n, &a.arities, &a.cells, sheet, x, y);
+                }
+                seen[expected.0 as usize] += 1;
+                now = expected.1.clone();
+                compare_bench(s, &what, (number, out), expected);
+            }
+            if s.is_over() {
+                break;
+            }
+        }
+        for number in [0, 1, 2, 3, 4, 5, 6, 7, 8, 13] {
+            s.check(seen[number] > 0, || format!("  no case with reason {number}"));
+        }
+    }
+
+    /// A bench that no call gave: wild sheets, sizes or spare bytes.
+    fn spoil(bench: &mut Bench, rng: &mut Rng) {
+        match rng.below(5) {
+            0 => bench.n = rng.below(256),
+            1 => bench.sheets[rng.below(8)][rng.clone().below(64)] = rng.byte(),
+            2 => bench.n = 0,
+            3 => {
+                // Bytes past n are never read and stay.
+                for sheet in &mut bench.sheets {
+                    for b in &mut sheet[bench.n..] {
+                        *b = rng.byte();
+                    }
+                }
+            }
+            _ => {
+                let sheet = rng.below(8);
+                let most = rng.within(1, bench.n);
+                let m = rng.map(bench.n, most);
+                bench.sheets[sheet][..bench.n].copy_from_slice(&m);
+            }
+        }
+    }
+
+    fn documents(s: &mut Suite) {
+        let (_, mut full) = bench::start(2);
+        full.tally = u32::MAX;
+        for (tally, x, number) in [(u32::MAX, 0, 13), (u32::MAX, 1, 0), (u32::MAX - 1, 0, 0)] {
+            full.tally = tally;
+            let mut out = Guarded::new(&image(&full), &mut s.rng);
+            let found = unsafe {
+                probe::probe_bench_add(
+                    out.pointer(),
+                    IMAGE,
+                    2,
+                    std::ptr::null(),
+                    0,
+                    std::ptr::null(),
+                    0,
+                    5,
+                    x,
+                    1,
+                )
+            };
+            let mut after = full.clone();
+            if number == 0 && x == 0 {
+                after.tally = u32::MAX;
+                after.sheets[5][1] = 0;
+            }
+            compare_bench(s, "tally at its top", (found, out), (number, after));
+        }
+        let (u, given) = ([1u8, 0, 3, 2], [0u8, 1, 0, 3]);
+        for (length, number) in [(14, 12), (3, 12), (2, 9), (0, 9)] {
+            let mut out = vec![7u8; 14];
+            let found = unsafe {
+                probe::probe_quotient(
+                    4,
+                    [1u8].as_ptr(),
+                    1,
+                    u.as_ptr(),
+                    4,
+                    given.as_ptr(),
+                    4,
+                    out.as_mut_ptr(),
+                    length,
+                )
+            };
+            s.same("cells 1 0 3 2, map 0 1 0 3", (found, out), (number, vec![7; 14]));
+        }
+        let mut out = vec![7u8; 4];
+        let found = unsafe {
+            probe::probe_quotient(
+                4,
+                [1u8].as_ptr(),
+                1,
+                u.as_ptr(),
+                4,
+                [0u8, 1, 0, 1].as_ptr(),
+                4,
+                out.as_mut_ptr(),
+                4,
+            )
+        };
+        s.same("quotient by 0 1 0 1", (found, out), (512, vec![1, 0, 7, 7]));
+        for (maps, number) in [
+            (&[0u8, 1, 0, 1, 0, 0, 2, 2][..], 256),
+            (&[0, 1, 0, 1][..], 0),
+            (&[0, 1, 2, 3][..], 0),
+            (&[][..], 0),
+            (&[0, 2, 2, 3][..], 8),
+            (&[0, 1, 0][..], 8),
+        ] {
+            let found = unsafe {
+                probe::probe_certify(4, [1u8].as_ptr(), 1, u.as_ptr(), 4, maps.as_ptr(), maps.len())
+            };
+            s.same(&format!("certify {maps:?}"), found, number);
+        }
+    }
+
+    /// Demand 3 through the product's own calls: Decompose; Quotient by each
+    /// factor as listed; Decompose on what that gave, which must be refusal 11.
+    fn demand_three(s: &mut Suite, library: Library) {
+        let mut list = algebras::structured(16, &mut s.rng);
+        list.extend(algebras::workloads(&mut s.rng));
+        for _ in 0..3000 {
+            list.push(algebras::any(10, 1000, &mut s.rng));
+        }
+        for one in list {
+            let Algebra { n, arities, cells } = one.algebra.clone();
+            let decompose = |n: usize, cells: &[u8], rng: &mut Rng| {
+                let lent = rng.bytes((n - 1) * n);
+                let (arities, cells) = (arities.clone(), cells.to_vec());
+                ask(&library, &Call { n, arities, cells, question: Question::Decompose, lent }, rng)
+            };
+            let (answer, untouched) = decompose(n, &cells, &mut s.rng);
+            let [reason, count, _, _] = answer.number.to_le_bytes();
+            s.check(untouched && (reason == 0 || reason == 11), || format!("  {}: {answer:?}", one.name));
+            for i in 0..count as usize {
+                let factor = &answer.lent[i * n..(i + 1) * n];
+                let mut tables = vec![0; cells.len()];
+                let number = unsafe {
+                    probe::probe_quotient(
+                        n,
+                        arities.as_ptr(),
+                        arities.len(),
+                        cells.as_ptr(),
+                        cells.len(),
+                        factor.as_ptr(),
+                        n,
+                        tables.as_mut_ptr(),
+                        tables.len(),
+                    )
+                };
+                let b = number as usize / 256;
+                tables.truncate(arities.iter().map(|&k| b.pow(k as u32)).sum());
+                let (again, untouched) = decompose(b, &tables, &mut s.rng);
+                s.check(number & 255 == 0 && again.number & 255 == 11 && untouched, || {
+                    format!(
+                        "  {} {:?}\n  factor {factor:?}: quotient {number}, then {again:?}",
+                        one.name, one.algebra
+                    )
+                });
+            }
+            if s.is_over() {
+                break;
+            }
+        }
+    }
+
+    pub fn suites(run: &mut Run) -> bool {
+        run.suite("probe: document 01's values", documents);
+        run.suite("probe: meet", |s| two_maps(s, probe::probe_meet, false));
+        run.suite("probe: join", |s| two_maps(s, probe::probe_join, true));
+        run.suite("probe: prefer", preferred);
+        run.suite("probe: pair places", places);
+        run.suite("probe: quotient", quotients);
+        run.suite("probe: certify", certificates);
+        run.suite("probe: bench start", starts);
+        run.suite("probe: bench add and clear", sequences);
+        if let Some(library) = worksheet() {
+            run.suite("probe: demand 3 through the product's own calls", |s| demand_three(s, library));
+        }
+        true
+    }
+}

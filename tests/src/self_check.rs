@@ -1,0 +1,202 @@
+//! The reference against document 01's own examples and texts, and its plain
+//! half against the definitions searched by brute force.
+
+use outside_tests::algebras;
+use outside_tests::random::Rng;
+use outside_tests::reference::algebra::Algebra;
+use outside_tests::reference::bench;
+use outside_tests::reference::brute::{self, Brute};
+use outside_tests::reference::desk::transcript;
+use outside_tests::reference::map;
+use outside_tests::reference::plain::Plain;
+use outside_tests::reference::service::{prefer, Reference};
+use outside_tests::reference::Engine;
+use outside_tests::report::{Run, Suite};
+
+use crate::texts;
+
+/// Document 01's examples and its table of refusals, for one engine.
+fn examples<E: Engine>(s: &mut Suite) {
+    let r = &mut Reference::<E>::default();
+    let (u, c, one): (&[u8], &[u8], &[u8]) = (&[1, 0, 3, 2], &[1, 2, 3, 0], &[1]);
+    let lent = [7u8; 14];
+    let show = |s: &mut Suite,
+                what: &str,
+                answer: outside_tests::reference::service::Answer,
+                number: u32,
+                written: &[u8]| {
+        let mut after = lent.to_vec();
+        after[..written.len()].copy_from_slice(written);
+        s.same(what, (answer.number, answer.lent), (number, after));
+    };
+    show(s, "1", r.generate(4, one, u, &[0, 2], &lent), 512, &[0, 1, 0, 1]);
+    show(s, "2", r.generate(4, one, u, &[2, 3], &lent), 256, &[0, 1, 2, 2]);
+    show(s, "3", r.generate(4, one, u, &[], &lent), 0, &[0, 1, 2, 3]);
+    show(s, "4", r.contained(4, one, u, &[0, 0, 0, 3], &lent), 0, &[0, 0, 2, 3]);
+    show(s, "5", r.separate(4, one, u, 0, 1, &lent), 0, &[0, 1, 0, 1]);
+    show(s, "the text's separate", r.separate(4, one, u, 0, 2, &lent), 0, &[0, 0, 2, 2]);
+    show(s, "6", r.decompose(4, one, u, &lent), 512, &[0, 1, 0, 1, 0, 0, 2, 2]);
+    show(s, "7", r.decompose(4, one, c, &lent), 11 + 2 * 16_777_216, &[]);
+    show(s, "8", r.decompose(3, &[], &[], &lent), 512, &[0, 1, 0, 0, 0, 2]);
+    show(s, "9", r.decompose(2, &[], &[], &lent), 11 + 16_777_216, &[]);
+    show(s, "10", r.decompose(1, &[], &[], &lent), 11, &[]);
+    show(s, "11", r.decompose(3, &[2], &[0, 0, 0, 0, 1, 1, 0, 1, 2], &lent), 512, &[0, 1, 1, 0, 0, 2]);
+    show(s, "first shortcut", r.generate(4, one, c, &[0, 1], &lent), 768, &[0, 0, 0, 0]);
+    show(s, "third shortcut", r.separate(4, one, c, 0, 1, &lent), 0, &[0, 1, 0, 1]);
+    // The table of refusals.
+    show(s, "refusal 1", r.generate(65, &[], &[], &[], &lent), 1, &[]);
+    show(s, "refusal 2", r.generate(2, &[0; 17], &[0; 17], &[], &lent), 2, &[]);
+    show(s, "refusal 3", r.generate(2, &[4], &[0; 16], &[], &lent), 3, &[]);
+    show(s, "refusal 4", r.generate(64, &[3], &[], &[], &lent), 4, &[]);
+    show(s, "refusal 5", r.generate(2, one, &[0], &[], &lent), 5, &[]);
+    show(s, "refusal 6", r.generate(2, one, &[0, 2], &[], &lent), 6, &[]);
+    show(s, "refusal 7", r.generate(2, &[], &[], &[0, 2], &lent), 7, &[]);
+    show(s, "refusal 8", r.contained(3, &[], &[], &[0, 2, 2], &lent), 8, &[]);
+    s.same("refusal 9", r.generate(4, &[], &[], &[], &lent[..3]).number, 9);
+    show(s, "refusal 10", r.separate(4, &[], &[], 1, 1, &lent), 10, &[]);
+    show(s, "refusal 12", r.quotient(4, one, u, &[0, 1, 0, 3], &lent), 12, &[]);
+    s.same("9 before 12", r.quotient(4, one, u, &[0, 1, 0, 3], &lent[..2]).number, 9);
+    show(s, "quotient", r.quotient(4, one, u, &[0, 1, 0, 1], &lent), 512, &[1, 0]);
+    show(s, "quotient by all", r.quotient(4, &[1, 0], &[1, 0, 3, 2, 3], &[0, 0, 0, 0], &lent), 256, &[0, 0]);
+    // Certify: readings of the edges.
+    let u_factors = [0, 1, 0, 1, 0, 0, 2, 2];
+    s.same("certify the factors", r.certify(4, one, u, &u_factors), Ok(true));
+    s.same("certify one of them", r.certify(4, one, u, &u_factors[..4]), Ok(false));
+    s.same("certify a repeated map", r.certify(4, one, u, &[u_factors, u_factors].concat()), Ok(false));
+    s.same("certify no congruence", r.certify(4, one, u, &[0, 1, 0, 3]), Ok(false));
+    s.same("certify no map", r.certify(3, &[], &[], &[0, 2, 2]), Err(8));
+    s.same("certify a part of a map", r.certify(3, &[], &[], &[0, 1]), Err(8));
+    s.same("certify 64 maps", r.certify(1, &[], &[], &[0; 64]), Err(8));
+    s.same("certify 63 maps", r.certify(1, &[], &[], &[0; 63]), Ok(false));
+    s.same("certify nothing, n = 1", r.certify(1, &[], &[], &[]), Ok(true));
+    s.same("certify 0, n = 1", r.certify(1, &[], &[], &[0]), Ok(false));
+    s.same("certify nothing, n = 2", r.certify(2, &[], &[], &[]), Ok(false));
+    s.same("certify the identity, irreducible", r.certify(4, one, c, &[0, 1, 2, 3]), Ok(true));
+    s.same("certify the identity, reducible", r.certify(4, one, u, &[0, 1, 2, 3]), Ok(false));
+    // Meet and Join.
+    show(s, "meet", r.meet(4, &[0, 0, 0, 3], &[0, 1, 1, 1], &lent), 0, &[0, 1, 1, 3]);
+    show(s, "join", r.join(4, &[0, 0, 2, 3], &[0, 1, 1, 3], &lent), 0, &[0, 0, 0, 3]);
+    show(s, "meet: 1 before 8", r.meet(0, &[1], &[], &lent), 1, &[]);
+    show(s, "meet: 8", r.meet(2, &[0, 1], &[1, 1], &lent), 8, &[]);
+    // The bench.
+    let top = 4_294_967_295;
+    let (_, mut full) = bench::start(2);
+    full.tally = top;
+    s.same("refusal 13", bench::add(r, &full, 2, &[], &[], 3, 0, 1), (13, full.clone()));
+    s.same("nothing lost at the top", bench::add(r, &full, 2, &[], &[], 3, 1, 1), (0, full.clone()));
+    full.tally = top - 1;
+    let (number, after) = bench::add(r, &full, 2, &[], &[], 3, 0, 1);
+    s.same("one below the top", (number, after.tally, after.sheets[3][1]), (0, top, 0));
+    s.same("clear keeps the tally", bench::clear(&after, 3).1.tally, top);
+    let zeros = bench::Bench::zeros();
+    s.same("refused start", bench::start(65), (1, zeros.clone()));
+    s.same("zeros in Add", bench::add(r, &zeros, 2, &[], &[], 0, 0, 1).0, 8);
+    s.same("zeros in Clear", bench::clear(&zeros, 0).0, 1);
+    // Prefer.
+    s.same("prefer", prefer(4, &[0, 0, 2, 2], &[0, 1, 0, 1]), &[0, 0, 2, 2][..]);
+    s.same("prefer the second", prefer(3, &[0, 1, 2], &[0, 1, 1]), &[0, 1, 1][..]);
+    s.same("prefer a bad map", prefer(3, &[0, 1, 2], &[0, 2, 2]), &[][..]);
+}
+
+/// Whether both engines agree on everything about one algebra.
+fn agree(s: &mut Suite, a: &Algebra, maps: &[map::Map]) {
+    let (brute, plain) = (Brute::new(a), Plain::new(a));
+    let n = a.n;
+    let same = |s: &mut Suite, what: &str, left: map::Map, right: map::Map| {
+        s.check(left == right, || format!("  {what} of {a:?}\n  brute {left:?}\n  plain {right:?}"));
+    };
+    same(s, "no pairs", brute.least(&[]), plain.least(&[]));
+    for (x, y) in map::pairs(n) {
+        same(s, "separate", brute.separate(x, y), plain.separate(x, y));
+        same(s, "generate", brute.least(&[(x, y)]), plain.least(&[(x, y)]));
+        let (v, w) = (s.rng.below(n), s.rng.below(n));
+        same(s, "generate two", brute.least(&[(x, y), (v, w)]), plain.least(&[(x, y), (v, w)]));
+    }
+    let mut some: Vec<map::Map> = (0..8).map(|_| s.rng.pick(maps).clone()).collect();
+    some.extend([map::identity(n), map::all(n)]);
+    for m in &some {
+        same(s, "contained", brute.greatest_inside(m), plain.greatest_inside(m));
+        let other = s.rng.pick(&some).clone();
+        same(s, "meet", brute.meet(m, &other), plain.meet(m, &other));
+        same(s, "join", brute.join(m, &other), plain.join(m, &other));
+        s.check(brute.respects(m) == plain.respects(m), || format!("  congruence? {a:?} {m:?}"));
+        let inner = plain.greatest_inside(m);
+        s.same("quotient", brute.quotient(&inner), plain.quotient(&inner));
+        s.same("maximal", brute.is_maximal_for_a_pair(&inner), plain.is_maximal_for_a_pair(&inner));
+        let place = prefer(n, m, &other);
+        s.check(place == m.as_slice() || map::is_earlier(&other, m), || format!("  prefer {m:?} {other:?}"));
+    }
+    s.same("common pair", brute.common_pair(), plain.common_pair());
+    let (mut first, mut second) = (Reference::<Brute>::default(), Reference::<Plain>::default());
+    let lent = s.rng.bytes(n * n);
+    let left = first.decompose(n, &a.arities, &a.cells, &lent);
+    let right = second.decompose(n, &a.arities, &a.cells, &lent);
+    s.check(left == right, || format!("  decompose {a:?}\n  brute {left:?}\n  plain {right:?}"));
+    let count = left.number as usize / 256 % 256;
+    if left.number % 256 == 0 {
+        let factors = &left.lent[..count * n];
+        s.same("certify", first.certify(n, &a.arities, &a.cells, factors), Ok(true));
+        s.same("certify", second.certify(n, &a.arities, &a.cells, factors), Ok(true));
+    }
+    for _ in 0..3 {
+        let list: Vec<u8> = (0..s.rng.below(4)).flat_map(|_| s.rng.clone().pick(&some).clone()).collect();
+        s.rng.next();
+        s.same(
+            "certify any list",
+            first.certify(n, &a.arities, &a.cells, &list),
+            second.certify(n, &a.arities, &a.cells, &list),
+        );
+    }
+}
+
+fn many(s: &mut Suite, limit: usize, cells: usize, times: usize) {
+    let maps: Vec<Vec<map::Map>> = (0..=limit).map(brute::maps).collect();
+    for one in algebras::structured(limit, &mut s.rng) {
+        if one.algebra.cells.len() <= cells {
+            agree(s, &one.algebra, &maps[one.algebra.n]);
+        }
+    }
+    for _ in 0..times {
+        let one = algebras::any(limit, cells, &mut s.rng);
+        agree(s, &one.algebra, &maps[one.algebra.n]);
+        if s.is_over() {
+            break;
+        }
+    }
+}
+
+pub fn suites(run: &mut Run) {
+    run.suite("reference: document 01's examples, by brute force", examples::<Brute>);
+    run.suite("reference: document 01's examples, plain", examples::<Plain>);
+    run.suite("reference: brute force and plain agree, n to 5", |s| many(s, 5, 300, 6000));
+    run.suite("reference: brute force and plain agree, n to 6", |s| many(s, 6, 250, 1000));
+    run.suite("reference: pair places", |s| {
+        let mut next = 0;
+        for (x, y) in map::pairs(64) {
+            s.same("place", map::place(x, y), Some(next));
+            next += 1;
+        }
+        s.same("pairs", next, 2016);
+        s.same("equal", map::place(3, 3), None);
+        s.same("turned", map::place(4, 3), None);
+        s.same("outside", map::place(3, 64), None);
+    });
+    run.suite("reference: numbers of maps", |s| {
+        for (n, count) in [1, 1, 2, 5, 15, 52, 203].into_iter().enumerate() {
+            s.same("maps", brute::maps(n).len(), count);
+        }
+    });
+    run.suite("reference: texts with their answers", |s| {
+        for (input, output) in texts::known() {
+            let found = transcript(&input);
+            s.check(found == output, || texts::difference(&input, &found, &output));
+        }
+    });
+    run.suite("reference: workloads are accepted", |s| {
+        for one in algebras::workloads(&mut Rng::new(1)) {
+            let a = &one.algebra;
+            let reason = outside_tests::reference::algebra::reason(a.n, &a.arities, &a.cells);
+            s.same(&one.name, reason, 0);
+        }
+    });
+}

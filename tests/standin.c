@@ -1,0 +1,558 @@
+/* Stands in for the proved static libraries while they are not there, and shows
+ * that the comparisons can fail.
+ *
+ * The four services of include/congruence.h go to the optimized baseline; the
+ * nine functions of tests/PROBE.md are written out plainly here. The environment
+ * variable STANDIN_FAULT names one fault of the list below; without it there is
+ * none. */
+#include <stdlib.h>
+#include <string.h>
+
+#include "../benches/baseline.h"
+#include "../include/congruence.h"
+
+enum { SHEETS = 8, STRIDE = 64, IMAGE = 517, NO_PLACE = 65535, NO_IMAGE = 255 };
+
+/* ---- faults ------------------------------------------------------------- */
+
+static const char *const faults[] = {
+    "",
+    "closes-once",          /* generate: operations applied to the given pairs only */
+    "first-argument",       /* generate: only the first argument is varied */
+    "one-round",            /* contained: one splitting round */
+    "last-member",          /* generate: blocks named by their last member */
+    "reducible-too-early",  /* decompose: the list before the dropping */
+    "always-irreducible",   /* decompose: 11 before looking */
+    "identities",           /* decompose: the first factor, then identities */
+    "fixed-identity",       /* every map is the identity */
+    "fixed-all",            /* every map is all */
+    "refuses",              /* everything is refused with 9 */
+    "merges",               /* the merge count is one too high */
+    "scratch",              /* decompose writes past count * n */
+    "before",               /* the byte before the output is written */
+    "after",                /* the byte after the output is written */
+    "input",                /* a cell is written */
+    "truncates",            /* n is cut to one byte */
+    "order",                /* 9 is tested before 7 and 8 */
+    "pair",                 /* 11 carries its pair turned */
+    "prefix",               /* the first n bytes of a longer map count */
+    "separate-turned",      /* separate takes the latest congruence's pairs first */
+    "meet", "join", "prefer", "place", "quotient", "certify", "start", "tally", "other-sheet", "clear-tally",
+};
+
+static int fault(const char *name)
+{
+    static int chosen = -1;
+    const int count = (int)(sizeof faults / sizeof *faults);
+    if (chosen < 0) {
+        const char *wanted = getenv("STANDIN_FAULT");
+        chosen = 0;
+        for (int i = 0; wanted && i < count; i++) {
+            if (strcmp(wanted, faults[i]) == 0) {
+                chosen = i;
+            }
+        }
+        if (wanted && *wanted && chosen == 0) {
+            abort();
+        }
+    }
+    return chosen != 0 && strcmp(name, faults[chosen]) == 0;
+}
+
+/* ---- maps and tables ------------------------------------------------------ */
+
+static int is_map(size_t n, const uint8_t *m, size_t len)
+{
+    if (len != n) {
+        return 0;
+    }
+    for (size_t x = 0; x < n; x++) {
+        if (m[x] > x || m[m[x]] != m[x]) {
+            return 0;
+        }
+    }
+    return 1;
+}
+
+static size_t blocks(size_t n, const uint8_t *m)
+{
+    size_t count = 0;
+    for (size_t x = 0; x < n; x++) {
+        count += m[x] == x;
+    }
+    return count;
+}
+
+static int join_pair(size_t n, uint8_t *m, uint8_t x, uint8_t y)
+{
+    const uint8_t a = m[x] < m[y] ? m[x] : m[y], b = m[x] < m[y] ? m[y] : m[x];
+    for (size_t z = 0; z < n; z++) {
+        m[z] = m[z] == b ? a : m[z];
+    }
+    return a != b;
+}
+
+static size_t power(size_t n, unsigned s)
+{
+    return s == 0 ? 1 : n * power(n, s - 1);
+}
+
+/* Reasons 1 to 6, asked of the baseline with nothing else to refuse. */
+static uint32_t algebra_reason(size_t n, const uint8_t *arities, size_t arities_len,
+                               const uint8_t *cells, size_t cells_len)
+{
+    uint8_t map[STRIDE];
+    return baseline_generate(n, arities, arities_len, cells, cells_len, NULL, 0, map, STRIDE) & 255;
+}
+
+/* One pass over all translations: joins, or tells, where the map is not
+ * respected. `positions` limits the arguments that are varied. */
+static int pass(size_t n, const uint8_t *arities, size_t arities_len, const uint8_t *cells,
+                uint8_t *m, int join, unsigned positions)
+{
+    int found = 0;
+    for (size_t i = 0; i < arities_len; i++) {
+        const size_t size = power(n, arities[i]);
+        for (unsigned k = 0; k < arities[i] && k < positions; k++) {
+            const size_t step = power(n, arities[i] - 1 - k);
+            for (size_t place = 0; place < size; place++) {
+                const size_t x = place / step % n;
+                const uint8_t p = cells[place], q = cells[place - x * step + m[x] * step];
+                if (m[p] != m[q]) {
+                    found = 1;
+                    if (join) {
+                        join_pair(n, m, p, q);
+                    }
+                }
+            }
+        }
+        cells += size;
+    }
+    return found;
+}
+
+/* ---- the four services ---------------------------------------------------- */
+
+static uint32_t spoil(uint32_t number, size_t n, uint8_t *out, size_t out_len)
+{
+    if (fault("refuses")) {
+        return 9;
+    }
+    if ((number & 255) == 0 && out_len > 0) {
+        for (size_t x = 0; x < n && (fault("fixed-identity") || fault("fixed-all")); x++) {
+            out[x] = (uint8_t)(fault("fixed-all") ? 0 : x);
+        }
+        if (fault("before")) {
+            out[-1]++;
+        }
+        if (fault("after")) {
+            out[out_len]++;
+        }
+    }
+    return number;
+}
+
+uint32_t congruence_generate(size_t n, const uint8_t *arities, size_t arities_len,
+                             const uint8_t *cells, size_t cells_len,
+                             const uint8_t *pairs, size_t pairs_len, uint8_t *out, size_t out_len)
+{
+    if (fault("truncates")) {
+        n = (uint8_t)n;
+    }
+    uint32_t number = baseline_generate(n, arities, arities_len, cells, cells_len, pairs, pairs_len,
+                                        out, out_len);
+    if (number == 7 && out_len < n && fault("order")) {
+        return 9;
+    }
+    if ((number & 255) == 0 && (fault("closes-once") || fault("first-argument"))) {
+        uint8_t m[STRIDE];
+        baseline_generate(n, NULL, 0, NULL, 0, pairs, pairs_len, m, STRIDE);
+        if (fault("closes-once")) {
+            pass(n, arities, arities_len, cells, m, 1, 3);
+        }
+        while (fault("first-argument") && pass(n, arities, arities_len, cells, m, 1, 1)) {
+        }
+        memcpy(out, m, n);
+        number = 256 * (uint32_t)(n - blocks(n, m));
+    }
+    if ((number & 255) == 0 && fault("last-member")) {
+        uint8_t last[STRIDE];
+        for (size_t x = 0; x < n; x++) {
+            last[out[x]] = (uint8_t)x;
+        }
+        for (size_t x = 0; x < n; x++) {
+            out[x] = last[out[x]];
+        }
+    }
+    if ((number & 255) == 0 && fault("merges")) {
+        number += 256;
+    }
+    if (cells_len > 0 && fault("input")) {
+        ((uint8_t *)cells)[0] ^= 1;
+    }
+    return spoil(number, n, out, out_len);
+}
+
+uint32_t congruence_contained(size_t n, const uint8_t *arities, size_t arities_len,
+                              const uint8_t *cells, size_t cells_len,
+                              const uint8_t *map, size_t map_len, uint8_t *out, size_t out_len)
+{
+    if (map_len > n && fault("prefix")) {
+        map_len = n;
+    }
+    uint32_t number = baseline_contained(n, arities, arities_len, cells, cells_len, map, map_len,
+                                         out, out_len);
+    if ((number & 255) == 0 && fault("one-round")) {
+        /* Only against the first member, by the blocks as they were given. */
+        uint8_t kept[STRIDE];
+        memcpy(kept, map, n);
+        for (size_t x = 0; x < n; x++) {
+            const uint8_t *t = cells;
+            for (size_t i = 0; i < arities_len; i++) {
+                if (arities[i] == 1 && map[t[x]] != map[t[map[x]]]) {
+                    kept[x] = (uint8_t)x;
+                }
+                t += power(n, arities[i]);
+            }
+        }
+        for (size_t x = 0; x < n; x++) {
+            out[x] = kept[x];
+        }
+    }
+    return spoil(number, n, out, out_len);
+}
+
+uint32_t congruence_separate(size_t n, const uint8_t *arities, size_t arities_len,
+                             const uint8_t *cells, size_t cells_len,
+                             size_t v, size_t w, uint8_t *out, size_t out_len)
+{
+    uint32_t number = baseline_separate(n, arities, arities_len, cells, cells_len, v, w, out, out_len);
+    if (number == 0 && fault("separate-turned")) {
+        uint8_t now[STRIDE], next[STRIDE], pairs[2 * STRIDE + 2];
+        baseline_generate(n, arities, arities_len, cells, cells_len, NULL, 0, now, STRIDE);
+        for (size_t x = n; x-- > 0;) {
+            for (size_t y = n; y-- > x + 1;) {
+                for (size_t z = 0; z < n; z++) {
+                    pairs[2 * z] = (uint8_t)z;
+                    pairs[2 * z + 1] = now[z];
+                }
+                pairs[2 * n] = (uint8_t)x;
+                pairs[2 * n + 1] = (uint8_t)y;
+                baseline_generate(n, arities, arities_len, cells, cells_len, pairs, 2 * n + 2, next, STRIDE);
+                if (next[v] != next[w]) {
+                    memcpy(now, next, n);
+                }
+            }
+        }
+        memcpy(out, now, n);
+    }
+    return spoil(number, n, out, out_len);
+}
+
+uint32_t congruence_decompose(size_t n, const uint8_t *arities, size_t arities_len,
+                              const uint8_t *cells, size_t cells_len, uint8_t *out, size_t out_len)
+{
+    uint32_t number = baseline_decompose(n, arities, arities_len, cells, cells_len, out, out_len);
+    const uint32_t reason = number & 255, count = number >> 8 & 255;
+    if (reason == 11 && fault("pair")) {
+        number = 11 + (number >> 24 << 16) + ((number >> 16 & 255) << 24);
+    }
+    if (reason == 0 && fault("always-irreducible")) {
+        return 11 + (1 << 24);
+    }
+    if (reason == 11 && n > 1 && fault("reducible-too-early")) {
+        if (baseline_separate(n, arities, arities_len, cells, cells_len, 0, 1, out, out_len) == 0) {
+            return 256;
+        }
+    }
+    if (reason == 0) {
+        for (size_t k = n; k < count * n && fault("identities"); k++) {
+            out[k] = (uint8_t)(k % n);
+        }
+        if (count < n - 1 && fault("scratch")) {
+            out[count * n]++;
+        }
+    }
+    if (reason == 0 && fault("refuses")) {
+        return 9;
+    }
+    return number;
+}
+
+/* ---- the probe ------------------------------------------------------------ */
+
+static uint32_t maps_reason(size_t n, const uint8_t *a, size_t a_len, const uint8_t *b, size_t b_len,
+                            size_t out_len)
+{
+    if (n == 0 || n > STRIDE) {
+        return 1;
+    }
+    if (!is_map(n, a, a_len) || !is_map(n, b, b_len)) {
+        return 8;
+    }
+    return out_len < n ? 9 : 0;
+}
+
+static void meet(size_t n, uint8_t *out, const uint8_t *a, const uint8_t *b)
+{
+    for (size_t x = 0; x < n; x++) {
+        size_t first = 0;
+        while (a[first] != a[x] || b[first] != b[x]) {
+            first++;
+        }
+        out[x] = (uint8_t)first;
+    }
+}
+
+uint32_t probe_meet(size_t n, const uint8_t *a, size_t a_len, const uint8_t *b, size_t b_len,
+                    uint8_t *out, size_t out_len)
+{
+    const uint32_t reason = maps_reason(n, a, a_len, b, b_len, out_len);
+    if (reason == 0) {
+        meet(n, out, a, fault("meet") ? a : b);
+    }
+    return reason;
+}
+
+uint32_t probe_join(size_t n, const uint8_t *a, size_t a_len, const uint8_t *b, size_t b_len,
+                    uint8_t *out, size_t out_len)
+{
+    const uint32_t reason = maps_reason(n, a, a_len, b, b_len, out_len);
+    if (reason == 0) {
+        memcpy(out, a, n);
+        for (size_t x = 0; x < n; x++) {
+            if (fault("join")) {
+                out[x] = out[b[x]]; /* blocks that b brings together stay apart elsewhere */
+            } else {
+                join_pair(n, out, (uint8_t)x, b[x]);
+            }
+        }
+    }
+    return reason;
+}
+
+size_t probe_prefer(size_t n, const uint8_t *a, size_t a_len, const uint8_t *b, size_t b_len,
+                    uint8_t *out, size_t out_len)
+{
+    const uint8_t *best = a;
+    if (maps_reason(n, a, a_len, b, b_len, n) != 0 || out_len < n) {
+        return 0;
+    }
+    for (size_t x = 0, found = 0; x < n && !found; x++) {
+        for (size_t y = x + 1; y < n && !found; y++) {
+            found = (a[x] == a[y]) != (b[x] == b[y]);
+            if (found) {
+                best = (a[x] == a[y]) != fault("prefer") ? a : b;
+            }
+        }
+    }
+    memcpy(out, best, n);
+    return n;
+}
+
+uint32_t probe_place(uint8_t x, uint8_t y)
+{
+    uint32_t place = 0;
+    if (x >= y || y >= STRIDE) {
+        return NO_PLACE;
+    }
+    for (unsigned row = 0; row < x; row++) {
+        place += 63 - row;
+    }
+    return place + y - x - !fault("place");
+}
+
+uint32_t probe_quotient(size_t n, const uint8_t *arities, size_t arities_len,
+                        const uint8_t *cells, size_t cells_len, const uint8_t *map, size_t map_len,
+                        uint8_t *out, size_t out_len)
+{
+    const uint32_t reason = algebra_reason(n, arities, arities_len, cells, cells_len);
+    uint8_t number[STRIDE], first[STRIDE], copy[STRIDE];
+    size_t b = 0, wanted = 0;
+    if (reason) {
+        return reason;
+    }
+    if (!is_map(n, map, map_len)) {
+        return 8;
+    }
+    for (size_t x = 0; x < n; x++) {
+        if (map[x] == x) {
+            first[b] = (uint8_t)x;
+            number[x] = (uint8_t)b++;
+        } else {
+            number[x] = number[map[x]];
+        }
+    }
+    for (size_t i = 0; i < arities_len; i++) {
+        wanted += power(b, arities[i]);
+    }
+    if (out_len < wanted) {
+        return 9;
+    }
+    memcpy(copy, map, n);
+    if (pass(n, arities, arities_len, cells, copy, 0, 3)) {
+        return 12;
+    }
+    for (size_t i = 0; i < arities_len; i++) {
+        const size_t size = power(b, arities[i]);
+        for (size_t place = 0; place < size; place++) {
+            size_t from = 0, rest = place;
+            for (size_t step = 1, k = 0; k < arities[i]; k++, rest /= b, step *= n) {
+                from += first[rest % b] * step;
+            }
+            *out++ = fault("quotient") ? cells[from] : number[cells[from]];
+        }
+        cells += power(n, arities[i]);
+    }
+    return 256 * (uint32_t)b;
+}
+
+/* Whether the maps, one of them left out, meet in the identity. */
+static int meets_in_identity(size_t n, const uint8_t *maps, size_t count, size_t without)
+{
+    uint8_t now[STRIDE] = {0};
+    for (size_t i = 0; i < count; i++) {
+        if (i != without) {
+            uint8_t next[STRIDE];
+            meet(n, next, now, maps + i * n);
+            memcpy(now, next, n);
+        }
+    }
+    return blocks(n, now) == n;
+}
+
+uint32_t probe_certify(size_t n, const uint8_t *arities, size_t arities_len,
+                       const uint8_t *cells, size_t cells_len, const uint8_t *maps, size_t maps_len)
+{
+    const uint32_t reason = algebra_reason(n, arities, arities_len, cells, cells_len);
+    if (reason) {
+        return reason;
+    }
+    const size_t count = maps_len / n;
+    if (maps_len % n != 0 || count > 63) {
+        return 8;
+    }
+    for (size_t i = 0; i < count; i++) {
+        if (!is_map(n, maps + i * n, n)) {
+            return 8;
+        }
+    }
+    if (!meets_in_identity(n, maps, count, count)) {
+        return 0;
+    }
+    for (size_t i = 0; i < count; i++) {
+        uint8_t m[STRIDE], common[STRIDE] = {0};
+        memcpy(m, maps + i * n, n);
+        if (pass(n, arities, arities_len, cells, m, 0, 3) || meets_in_identity(n, maps, count, i)) {
+            return 0;
+        }
+        for (size_t x = 0; x < n; x++) {
+            for (size_t y = x + 1; y < n; y++) {
+                uint8_t larger[STRIDE], next[STRIDE];
+                if (m[x] != m[y]) {
+                    memcpy(larger, m, n);
+                    join_pair(n, larger, (uint8_t)x, (uint8_t)y);
+                    while (pass(n, arities, arities_len, cells, larger, 1, 3)) {
+                    }
+                    meet(n, next, common, larger);
+                    memcpy(common, next, n);
+                }
+            }
+        }
+        if (memcmp(common, m, n) == 0 && !fault("certify")) {
+            return 0;
+        }
+    }
+    return 256;
+}
+
+/* ---- the bench, as an image ----------------------------------------------- */
+
+static int has_maps(size_t n, const uint8_t *image)
+{
+    for (size_t i = 0; i < SHEETS; i++) {
+        if (!is_map(n, image + i * STRIDE, n)) {
+            return 0;
+        }
+    }
+    return 1;
+}
+
+uint32_t probe_bench_start(size_t n, uint8_t *image, size_t image_len)
+{
+    if (image_len != IMAGE) {
+        return NO_IMAGE;
+    }
+    memset(image, 0, IMAGE);
+    if (n == 0 || n > STRIDE) {
+        return 1;
+    }
+    image[SHEETS * STRIDE] = (uint8_t)n;
+    for (size_t i = 0; i < SHEETS; i++) {
+        for (size_t x = 0; x < n; x++) {
+            image[i * STRIDE + x] = (uint8_t)x;
+        }
+    }
+    image[IMAGE - 1] = fault("start");
+    return 0;
+}
+
+uint32_t probe_bench_add(uint8_t *image, size_t image_len, size_t n,
+                         const uint8_t *arities, size_t arities_len,
+                         const uint8_t *cells, size_t cells_len, size_t sheet, size_t x, size_t y)
+{
+    if (image_len != IMAGE) {
+        return NO_IMAGE;
+    }
+    const uint32_t reason = algebra_reason(n, arities, arities_len, cells, cells_len);
+    if (reason) {
+        return reason;
+    }
+    if (sheet >= SHEETS || x >= n || y >= n) {
+        return 7;
+    }
+    if (image[SHEETS * STRIDE] != n || !has_maps(n, image)) {
+        return 8;
+    }
+    uint8_t m[STRIDE], *tally = image + SHEETS * STRIDE + 1;
+    memcpy(m, image + sheet * STRIDE, n);
+    join_pair(n, m, (uint8_t)x, (uint8_t)y);
+    while (pass(n, arities, arities_len, cells, m, 1, 3)) {
+    }
+    uint64_t sum = blocks(n, image + sheet * STRIDE) - blocks(n, m);
+    for (unsigned i = 0; i < 4; i++) {
+        sum += (uint64_t)tally[i] << (8 * i);
+    }
+    if (sum > UINT32_MAX && !fault("tally")) {
+        return 13;
+    }
+    for (unsigned i = 0; i < 4; i++) {
+        tally[i] = (uint8_t)(sum >> (8 * i));
+    }
+    memcpy(image + (fault("other-sheet") ? sheet ^ 1 : sheet) * STRIDE, m, n);
+    return 0;
+}
+
+uint32_t probe_bench_clear(uint8_t *image, size_t image_len, size_t sheet)
+{
+    if (image_len != IMAGE) {
+        return NO_IMAGE;
+    }
+    const size_t n = image[SHEETS * STRIDE];
+    if (n == 0 || n > STRIDE) {
+        return 1;
+    }
+    if (sheet >= SHEETS) {
+        return 7;
+    }
+    if (!has_maps(n, image)) {
+        return 8;
+    }
+    for (size_t x = 0; x < n; x++) {
+        image[sheet * STRIDE + x] = (uint8_t)x;
+    }
+    if (fault("clear-tally")) {
+        image[SHEETS * STRIDE + 1] = 0;
+    }
+    return 0;
+}
