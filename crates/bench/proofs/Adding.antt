@@ -4,8 +4,13 @@ use Prim.Native.Nat.{ℕ, _+_, _≤_, _<_}
 use mathlib.Core.List.{List, [], _∷_, _++_}
 use mathlib.Core.Logic.{_⊎_, inl, inr}
 use mathlib.Core.Path.{_≡_, refl, sym, ap, _∙_}
-use lib.ListN.{length, drop}
-use Rattle.equivalence.specs.Equivalence.{Map, identity, blocks}
+use native.Mathlib.Omega.{arith}
+use lib.Dec.{T}
+use lib.ListN.{length, take, drop}
+use Rattle.equivalence.specs.Equivalence.{Map, byte, isMap, identity, blocks}
+use Rattle.equivalence.specs.Kernel.{Canonical, names}
+use Rattle.equivalence.proofs.Bytes.{names-blocks, names-le}
+use Rattle.equivalence.proofs.Kernels.{names-same}
 use Rattle.equivalence.specs.Refusal.{lowest}
 use Rattle.equivalence.proofs.Maps.{identity-map, of-isMap, holds-of, of-holds, inside-of, of-inside}
 use Rattle.algebra.specs.Accepted.{Accepted}
@@ -14,11 +19,15 @@ use Rattle.algebra.specs.Congruence.{Congruence}
 use Rattle.algebra.proofs.Accepted.{accepted-wellFormed}
 use Rattle.algebra.proofs.Congruences.{congruence-is, congruence-of}
 use Rattle.congruence.specs.Extremal.{extended}
+use Rattle.algebra.specs.Translations.{Closed}
+use Rattle.closure.specs.Starts.{Extends}
+use Rattle.congruence.proofs.Bridges.{front-byte, front-written, closed-extended}
 use Rattle.congruence.proofs.Extension.{LeastAbove, extended-law}
 use Rattle.bench.specs.Calls.{tallyTest, benched, addTests, clearTests, added, lostByAdd, addCall, clearCall}
+use Rattle.bench.specs.Growth.{MapGrown, SheetGrown}
 use Rattle.bench.specs.Promises.{OnlySheet, LeastExtension}
 use Rattle.bench.specs.State.{mapOn, redrawn, sheetOf, withSheet, withMap, raisedBy, blocksLost}
-use Rattle.bench.proofs.Drawing.{mapOn-redrawn, blocks-fewer, withMap-other, withMap-sheets, withMap-past}
+use Rattle.bench.proofs.Drawing.{mapOn-redrawn, withMap-other, withMap-sheets, withMap-past}
 use Rattle.bench.proofs.Testing.{done, refused, benched-cases, benched-append, passed-append, Clearable, clear-passed, Addable, add-passed}
 use Rattle.equivalence.specs.declared.Refusal.{Refusal}
 use Rattle.equivalence.specs.declared.Check.the-variants.{Passed}
@@ -47,11 +56,6 @@ module _ (b : Bench) (a : Algebra) (k x y : ℕ) where
     pub added-length : length (added b a k x y) ≡ a .size
     added-length = above .cong .map .long
 
-    -- the new map has no more blocks
-    pub added-fewer : k < length (b .sheets) → blocks (a .size) (added b a k x y) ≤ blocks (a .size) (mapOn (a .size) (sheetOf b k))
-    added-fewer l =
-        blocks-fewer (a .size) (mapOn (a .size) (sheetOf b k)) (added b a k x y) (of-isMap (a .size) _ (p .placed .drawn .map k l)) (above .cong .map) (above .larger)
-
     -- demand 2 for Add
     pub added-least : LeastExtension a (mapOn (a .size) (sheetOf b k)) x y (added b a k x y)
     added-least =
@@ -64,26 +68,48 @@ module _ (b : Bench) (a : Algebra) (k x y : ℕ) where
           least = λ c q h e. inside-of (a .size) new c (above .least c (congruence-is a c q) (of-inside (a .size) old c h) (of-holds c x y e));
         }
 
--- ---- Add by its steps: the old sheet, the new one and the blocks lost
+-- ---- Add by its steps
 
-module _ (b : Bench) (a : Algebra) (k x y : ℕ) (e : lowest (addTests b a k x y) ≡ Passed) (old new : Sheet) where
-  p : Addable b a k x y
-  p = add-passed b a k x y e
+-- bytes that begin with a map are canonical
+pub front-canonical : (n : ℕ) (l : List ℕ) → T (isMap n (take n l)) → Canonical n (byte l)
+front-canonical n l t =
+    let p = of-isMap n (take n l) t in
+    record {
+      below = λ x h. rw (front-byte n l x h) at (p .low x h);
+      root = λ x h.
+          let k : byte l x < n = omega (arith, rw (front-byte n l x h) at (p .low x h)) in
+          sym (front-byte n l (byte l x) k) ∙ (rw (front-byte n l x h) at (p .named x h));
+    }
 
-  module _ (o : old ≡ sheetOf b k) (w : new ≡ redrawn (extended a (mapOn (a .size) old) x y) old) where
-    new-map : mapOn (a .size) new ≡ added b a k x y
-    unfolding added
-    new-map = rw (w, o) (mapOn-redrawn (a .size) (added b a k x y) (sheetOf b k) (added-length b a k x y p))
+-- the closure's promise, in kernels, is the definition's map; the blocks lost are the names lost
+pub closed-grown : (a : Algebra) → Accepted a → (x y : ℕ) → x < a .size → y < a .size → (old new : List ℕ) (lost : ℕ) → length old ≡ 64 → length new ≡ 64
+    → Closed a (Extends (a .size) (byte old) x y) (byte new) → lost + names (a .size) (byte new) ≡ names (a .size) (byte old)
+    → ((z : ℕ) → a .size ≤ z → byte new z ≡ byte old z) → MapGrown a x y old new lost
+unfolding blocksLost
+closed-grown a ok x y lx ly old new lost e f h c rest =
+    let n : ℕ = a .size in
+    let w = accepted-wellFormed a ok in
+    let fits : n ≤ 64 = w .most in
+    let m : extended a (take n old) x y ≡ take n new =
+    closed-extended a w new (omega arith) (take n old) x y lx ly
+    (record {
+      canonical = h .canonical;
+      compatible = h .compatible;
+      good = (λ p q lp lq s. h .good .0 p q lp lq (sym (front-byte n old p lp) ∙ s ∙ front-byte n old q lq), h .good .1);
+      least = λ g k i. h .least g k (λ p q lp lq s. i .0 p q lp lq (front-byte n old p lp ∙ s ∙ sym (front-byte n old q lq)), i .1);
+    }) in
+    let before : blocks n (take n old) ≡ names n (byte old) = sym (names-blocks n (take n old)) ∙ names-same n (byte (take n old)) (byte old) (front-byte n old) in
+    let after : blocks n (take n new) ≡ names n (byte new) = sym (names-blocks n (take n new)) ∙ names-same n (byte (take n new)) (byte new) (front-byte n new) in
+    record {
+      bytes = rw m (front-written n old new (omega arith) (omega arith) rest);
+      blocks = rw (m, before, after) (omega arith);
+      few = omega (arith, names-le n (byte old));
+    }
 
-    pub steps-fewer : k < length (b .sheets) → blocks (a .size) (mapOn (a .size) new) ≤ blocks (a .size) (mapOn (a .size) old)
-    steps-fewer l = rw (new-map, o) (added-fewer b a k x y p l)
-
-    pub steps-call : (lost : ℕ) → lost ≡ blocksLost (a .size) (mapOn (a .size) old) (mapOn (a .size) new)
-        → benched (tallyTest (b .tally + lost) ∷ []) (raisedBy lost (withSheet b k new)) b ≡ addCall b a k x y
-    unfolding addCall lostByAdd withMap added
-    steps-call lost h =
-        let q : lost ≡ lostByAdd b a k x y = rw (h, new-map, o) in
-        rw (q, w, o) (sym (benched-append (addTests b a k x y) _ _ _ e))
+pub grown-call : (b : Bench) (a : Algebra) (k x y : ℕ) → lowest (addTests b a k x y) ≡ Passed → (old new : Sheet) (lost : ℕ) → old ≡ sheetOf b k → SheetGrown a x y old new lost
+    → benched (tallyTest (b .tally + lost) ∷ []) (raisedBy lost (withSheet b k new)) b ≡ addCall b a k x y
+unfolding addCall lostByAdd withMap added
+grown-call b a k x y e old new lost o g = rw (g .sheet, g .blocks, o) (sym (benched-append (addTests b a k x y) _ _ _ e))
 
 pub clear-cases : (b : Bench) (k : ℕ) → (Clearable b k × (clearCall b k ≡ done (withMap b k (identity (b .n))))) ⊎ ((r : Refusal) × (clearCall b k ≡ refused r b))
 unfolding clearCall

@@ -6,16 +6,15 @@ use mathlib.Core.Logic.{_≢_}
 use mathlib.Core.Path.{_≡_, refl, sym, ap, subst, _∙_}
 use native.Mathlib.Decide.{decLt, ℕ-discrete}
 use native.Mathlib.Omega.{arith}
-use lib.Dec.{T, eqb, eqb→eq}
-use Rattle.equivalence.proofs.Tests.{eq→eqb}
+use lib.Dec.{T}
 use lib.ListN.{length, take, drop, getD, set, replicate, length-set}
 use lib.Seq.{take-at, drop-at, getD-set-same, getD-set-other, set-out}
-use Rattle.equivalence.specs.Equivalence.{Map, byte, isMap, identity, blocks, roots}
+use Rattle.equivalence.specs.Equivalence.{Map, byte, isMap, identity}
 use Rattle.equivalence.specs.Kernel.{Filled}
-use Rattle.equivalence.specs.Lists.{upTo, every}
+use Rattle.equivalence.specs.Lists.{every}
 use Rattle.equivalence.specs.Refusal.{written}
-use Rattle.equivalence.proofs.Maps.{identity-at, IsMap, Inside, low-inside}
-use Rattle.equivalence.proofs.Lists.{keep-mono, of-upTo, every-of, of-every, member-at, member-index}
+use Rattle.equivalence.proofs.Maps.{identity-at}
+use Rattle.equivalence.proofs.Lists.{every-of, of-every, member-at, member-index}
 use Rattle.bench.specs.State.{mapOn, redrawn, sheetOf, noSheet, withSheet, withMap}
 use Rattle.bench.specs.declared.Sheet.{Sheet}
 use Rattle.bench.specs.declared.Bench.{Bench}
@@ -69,10 +68,3 @@ module _ (p : Sheet → Bool) (l : List Sheet) where
 -- a pass that writes each element's own number leaves the identity
 pub filled-identity : (n : ℕ) (f f′ : ℕ → ℕ) → Filled n (λ x. x) f f′ → Filled n (byte (identity n)) f f′
 filled-identity n f f′ h = record { first = λ x l. h .first x l ∙ sym (identity-at n x l); rest = h .rest }
-
--- a larger equivalence has no more blocks
-pub blocks-fewer : (n : ℕ) (e d : Map) → IsMap n e → IsMap n d → Inside n e d → blocks n d ≤ blocks n e
-unfolding blocks roots
-blocks-fewer n e d p q h =
-    keep-mono (λ x. eqb (byte d x) x) (λ x. eqb (byte e x) x) (upTo n)
-    (λ y i t. let l : y < n = of-upTo n y i in eq→eqb (byte e y) y (omega (arith, eqb→eq (byte d y) y t, low-inside n e d p q h y l, p .low y l)))

@@ -72,9 +72,9 @@ fn extend(bench: Bench, n: usize, arities: &[u8], cells: &[u8], k: usize, x: usi
 {
     let on_bench = bench.sheets;
     let old = sheets::nth(on_bench, k);
-    let new = sheets::extended(old, n, arities, cells, x, y);
-    let lost = sheets::lost(old, new, n);
-    raised(bench, k, new, lost)
+    let grown = sheets::extended(old, n, arities, cells, x, y);
+    let new = grown.sheet;
+    raised(bench, k, new, grown.lost)
 }
 
 // The sheet becomes the least congruence of the algebra that holds its old map and the pair; the tally rises by the blocks lost.

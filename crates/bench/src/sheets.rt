@@ -4,12 +4,12 @@ ghost use Prim.Native.Nat.{ℕ, _<_, _≤_};
 ghost use lib.ListN.{length, getD, take};
 ghost use Rattle.equivalence.specs.Lists.{every};
 ghost use lib.Dec.{T};
-ghost use Rattle.equivalence.specs.Equivalence.{isMap, identity, blocks};
+ghost use Rattle.equivalence.specs.Equivalence.{isMap, identity};
 ghost use Rattle.equivalence.specs.Refusal.{written};
 ghost use Rattle.algebra.specs.Algebra.{algebraOf};
 ghost use Rattle.algebra.specs.Accepted.{Accepted};
-ghost use Rattle.congruence.specs.Extremal.{extended};
-ghost use Rattle.bench.specs.State.{mapOn, redrawn, noSheet, zeroSheet, zeroBench, freshBench, withMap, blocksLost};
+ghost use Rattle.bench.specs.State.{mapOn, redrawn, noSheet, zeroSheet, zeroBench, freshBench, withMap};
+ghost use Rattle.bench.specs.Growth.{MapGrown, SheetGrown};
 
 use super::Bench;
 use super::Sheet;
@@ -102,48 +102,32 @@ pub fn all_drawn(sheets: [Sheet; 8], n: usize) -> bool
     true
 }
 
-// The first n bytes, a map, become the least congruence that holds the map and the pair.
-fn extend_map(map: &mut [u8; 64], n: usize, arities: &[u8], cells: &[u8], x: usize, y: usize)
+// A sheet with a larger map, and how many blocks fewer it has.
+pub struct Grown {
+    pub sheet: Sheet,
+    pub lost: usize,
+}
+
+// The first n bytes, a map, become the least congruence that holds the map and the pair. Gives how many blocks fewer that has.
+fn extend_map(map: &mut [u8; 64], n: usize, arities: &[u8], cells: &[u8], x: usize, y: usize) -> usize
     requires { ⌜ Accepted (algebraOf n (now arities) (now cells)) ⌝ }
     requires { ⌜ T (isMap n (take n (now map))) ⌝ }
     requires { ⌜ x < n ⌝ }
     requires { ⌜ y < n ⌝ }
-    ensures { λ _. ⌜ now (map .exit) ≡ written (extended (algebraOf n (now (arities .entry)) (now (cells .entry))) (take n (now (map .entry))) x y) (now (map .entry)) ⌝ }
+    ensures { λ r. ⌜ MapGrown (algebraOf n (now (arities .entry)) (now (cells .entry))) x y (now (map .entry)) (now (map .exit)) r ⌝ }
 {
-    map[0] = 0;
+    closure::extend(map, n, arities, cells, x, y)
 }
 
 // The sheet with the least congruence of the algebra that holds its map and the pair.
-pub fn extended(sheet: Sheet, n: usize, arities: &[u8], cells: &[u8], x: usize, y: usize) -> Sheet
+pub fn extended(sheet: Sheet, n: usize, arities: &[u8], cells: &[u8], x: usize, y: usize) -> Grown
     requires { ⌜ Accepted (algebraOf n (now arities) (now cells)) ⌝ }
     requires { ⌜ T (isMap n (mapOn n sheet)) ⌝ }
     requires { ⌜ x < n ⌝ }
     requires { ⌜ y < n ⌝ }
-    ensures { λ r. ⌜ r ≡ redrawn (extended (algebraOf n (now (arities .entry)) (now (cells .entry))) (mapOn n sheet) x y) sheet ⌝ }
+    ensures { λ r. ⌜ SheetGrown (algebraOf n (now (arities .entry)) (now (cells .entry))) x y sheet (r .sheet) (r .lost) ⌝ }
 {
     let mut map = sheet.map;
-    extend_map(&mut map, n, arities, cells, x, y);
-    Sheet { map }
-}
-
-// How many blocks the map in the first n bytes has.
-fn block_count(map: &[u8; 64], n: usize) -> usize
-    requires { ⌜ n ≤ 64 ⌝ }
-    ensures { λ r. ⌜ r ≡ blocks n (take n (now (map .entry))) ⌝ }
-{
-    let bytes = &map[..];
-    equivalence::map::block_count(n, &bytes[0..n])
-}
-
-// How many blocks fewer the new sheet's map has than the old one's.
-pub fn lost(old: Sheet, new: Sheet, n: usize) -> usize
-    requires { ⌜ n ≤ 64 ⌝ }
-    requires { ⌜ blocks n (mapOn n new) ≤ blocks n (mapOn n old) ⌝ }
-    ensures { λ r. ⌜ (r ≡ blocksLost n (mapOn n old) (mapOn n new)) × (r ≤ 64) ⌝ }
-{
-    let old_map = old.map;
-    let new_map = new.map;
-    let blocks_before = block_count(&old_map, n);
-    let blocks_after = block_count(&new_map, n);
-    blocks_before - blocks_after
+    let lost = extend_map(&mut map, n, arities, cells, x, y);
+    Grown { sheet: Sheet { map }, lost }
 }

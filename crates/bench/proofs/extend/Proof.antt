@@ -1,7 +1,6 @@
-use Rattle.bench.proofs.Adding.{steps-fewer, steps-call}
+use Rattle.bench.proofs.Adding.{grown-call}
 use Rattle.bench.proofs.Testing.{add-passed}
 use Rattle.bench.specs.State.{sheetOf}
-use Rattle.algebra.proofs.Accepted.{accepted-wellFormed}
 use mathlib.Core.Path.{_∙_}
 use Rattle.bench.proofs.extend.Statement.{statement}
 use Rattle.bench.proofs.extend.Tie as tie
@@ -9,7 +8,6 @@ use Rattle.bench.proofs.extend.Reads as reads
 use Rattle.bench.proofs.extend.Lts as lts
 use Rattle.bench.proofs.raised.Reads as raised-reads
 use Rattle.bench.proofs.sheets.extended.Reads as extended-reads
-use Rattle.bench.proofs.sheets.lost.Reads as lost-reads
 use Rattle.bench.proofs.sheets.nth.Reads as nth-reads
 
 -- src/lib.rt:74:9
@@ -23,22 +21,14 @@ extended-requires c κs =
     let p = add-passed _ _ _ _ _ (c .before .before .before .before .pre) in
     (p .accepted, (rw (c .nth .ensures .0) (p .placed .drawn .map _ (c .nth .ensures .1)), (p .placed .first, p .placed .second)))
 
--- src/lib.rt:76:9
-lost-requires : tie.Need-lost-requires
-unfolding sheetOf
-lost-requires c κs = 
-    (accepted-wellFormed _ (add-passed _ _ _ _ _ (c .before .before .before .before .before .pre) .accepted) .most,
-    steps-fewer _ _ _ _ _ (c .before .before .before .before .before .pre) _ _ (c .before .nth .ensures .0) (c .extended .ensures) (c .before .nth .ensures .1))
-
 -- src/lib.rt:77:5
 raised-requires : tie.Need-raised-requires
-raised-requires c κs = (add-passed _ _ _ _ _ (c .before .before .before .before .before .before .pre) .placed .sheet, c .lost .ensures .1)
+raised-requires c κs = (add-passed _ _ _ _ _ (c .before .before .before .before .before .before .pre) .placed .sheet, c .before .extended .ensures .few)
 
 -- src/lib.rt:69:1
 returns : tie.Need-returns
 unfolding sheetOf
-returns c = c .raised .ensures ∙ steps-call _ _ _ _ _ (c .before .before .before .before .before .before .before .pre) _ _ (c .before .before .before .nth .ensures .0) (c .before .before .extended .ensures) _ (c .before .lost .ensures .0)
+returns c = c .raised .ensures ∙ grown-call _ _ _ _ _ (c .before .before .before .before .before .before .before .pre) _ _ _ (c .before .before .before .nth .ensures .0) (c .before .before .extended .ensures)
 
 pub extend-spec : {M : Type 1} → statement M
-extend-spec =
-    tie.close (tie.spec nth-requires extended-requires lost-requires raised-requires returns)
+extend-spec = tie.close (tie.spec nth-requires extended-requires raised-requires returns)
