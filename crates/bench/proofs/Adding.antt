@@ -3,42 +3,40 @@
 use Prim.Native.Nat.{ℕ, _+_, _≤_, _<_}
 use mathlib.Core.List.{List, [], _∷_, _++_}
 use mathlib.Core.Logic.{_⊎_, inl, inr}
-use mathlib.Core.Path.{_≡_, refl, sym, ap, _∙_}
+use mathlib.Core.Path.{_≡_, refl, sym, _∙_}
 use native.Mathlib.Omega.{arith}
 use lib.Dec.{T}
-use lib.ListN.{length, take, drop}
+use lib.ListN.{length, take}
 use Rattle.equivalence.specs.Equivalence.{Map, byte, isMap, identity, blocks}
 use Rattle.equivalence.specs.Kernel.{Canonical, names}
+use Rattle.equivalence.specs.Refusal.{lowest}
 use Rattle.equivalence.proofs.Bytes.{names-blocks, names-le}
 use Rattle.equivalence.proofs.Kernels.{names-same}
-use Rattle.equivalence.specs.Refusal.{lowest}
 use Rattle.equivalence.proofs.Maps.{identity-map, of-isMap, holds-of, of-holds, inside-of, of-inside}
+use Rattle.equivalence.specs.declared.Check.the-variants.{Passed}
+use Rattle.equivalence.specs.declared.Refusal.{Refusal}
 use Rattle.algebra.specs.Accepted.{Accepted}
 use Rattle.algebra.specs.Algebra.{Algebra}
-use Rattle.algebra.specs.Congruence.{Congruence}
+use Rattle.algebra.specs.Translations.{Closed}
 use Rattle.algebra.proofs.Accepted.{accepted-wellFormed}
 use Rattle.algebra.proofs.Congruences.{congruence-is, congruence-of}
-use Rattle.congruence.specs.Extremal.{extended}
-use Rattle.algebra.specs.Translations.{Closed}
 use Rattle.closure.specs.Starts.{Extends}
+use Rattle.congruence.specs.Extremal.{extended}
 use Rattle.congruence.proofs.Bridges.{front-byte, front-written, closed-extended}
 use Rattle.congruence.proofs.Extension.{LeastAbove, extended-law}
-use Rattle.bench.specs.Calls.{tallyTest, benched, addTests, clearTests, added, lostByAdd, addCall, clearCall}
+use Rattle.bench.specs.Calls.{tallyTest, benched, addTests, clearTests, mapByAdd, lostByAdd, addCall, clearCall}
 use Rattle.bench.specs.Growth.{MapGrown, SheetGrown}
 use Rattle.bench.specs.Promises.{OnlySheet, LeastExtension}
-use Rattle.bench.specs.State.{mapOn, redrawn, sheetOf, withSheet, withMap, raisedBy, blocksLost}
-use Rattle.bench.proofs.Drawing.{mapOn-redrawn, withMap-other, withMap-sheets, withMap-past}
+use Rattle.bench.specs.State.{mapOn, sheetOf, withSheet, withMap, raisedBy, blocksLost}
+use Rattle.bench.proofs.Drawing.{withMap-other, withMap-sheets, withMap-past}
 use Rattle.bench.proofs.Testing.{done, refused, benched-cases, benched-append, passed-append, Clearable, clear-passed, Addable, add-passed}
-use Rattle.equivalence.specs.declared.Refusal.{Refusal}
-use Rattle.equivalence.specs.declared.Check.the-variants.{Passed}
-use Rattle.bench.specs.declared.Sheet.{Sheet}
 use Rattle.bench.specs.declared.Bench.{Bench}
-use Rattle.bench.specs.declared.Benched.{Benched}
+use Rattle.bench.specs.declared.Sheet.{Sheet}
 
 module _ (b : Bench) (a : Algebra) (k x y : ℕ) where
   -- the bench after an accepted Add
   abbrev pub afterAdd : Bench
-  afterAdd = raisedBy (lostByAdd b a k x y) (withMap b k (added b a k x y))
+  afterAdd = raisedBy (lostByAdd b a k x y) (withMap b k (mapByAdd b a k x y))
 
   pub add-cases : (Addable b a k x y × (addCall b a k x y ≡ done afterAdd)) ⊎ ((r : Refusal) × (addCall b a k x y ≡ refused r b))
   unfolding addCall
@@ -49,18 +47,18 @@ module _ (b : Bench) (a : Algebra) (k x y : ℕ) where
       ]
 
   module _ (p : Addable b a k x y) where
-    above : LeastAbove a (mapOn (a .size) (sheetOf b k)) (x, y) (added b a k x y)
-    unfolding added
+    above : LeastAbove a (mapOn (a .size) (sheetOf b k)) (x, y) (mapByAdd b a k x y)
+    unfolding mapByAdd
     above = extended-law a (accepted-wellFormed a (p .accepted)) (mapOn (a .size) (sheetOf b k)) x y (p .placed .first) (p .placed .second)
 
-    pub added-length : length (added b a k x y) ≡ a .size
+    pub added-length : length (mapByAdd b a k x y) ≡ a .size
     added-length = above .cong .map .long
 
     -- demand 2 for Add
-    pub added-least : LeastExtension a (mapOn (a .size) (sheetOf b k)) x y (added b a k x y)
+    pub added-least : LeastExtension a (mapOn (a .size) (sheetOf b k)) x y (mapByAdd b a k x y)
     added-least =
         let old : Map = mapOn (a .size) (sheetOf b k) in
-        let new : Map = added b a k x y in
+        let new : Map = mapByAdd b a k x y in
         record {
           congruence = congruence-of a new (above .cong);
           larger = inside-of (a .size) old new (above .larger);
@@ -108,7 +106,7 @@ closed-grown a ok x y lx ly old new lost e f h c rest =
 
 pub grown-call : (b : Bench) (a : Algebra) (k x y : ℕ) → lowest (addTests b a k x y) ≡ Passed → (old new : Sheet) (lost : ℕ) → old ≡ sheetOf b k → SheetGrown a x y old new lost
     → benched (tallyTest (b .tally + lost) ∷ []) (raisedBy lost (withSheet b k new)) b ≡ addCall b a k x y
-unfolding addCall lostByAdd withMap added
+unfolding addCall lostByAdd withMap mapByAdd
 grown-call b a k x y e old new lost o g = rw (g .sheet, g .blocks, o) (sym (benched-append (addTests b a k x y) _ _ _ e))
 
 pub clear-cases : (b : Bench) (k : ℕ) → (Clearable b k × (clearCall b k ≡ done (withMap b k (identity (b .n))))) ⊎ ((r : Refusal) × (clearCall b k ≡ refused r b))
@@ -136,7 +134,7 @@ raised-only k lost b after h = record { size = h .size; count = h .count; others
 pub add-only : (b : Bench) (a : Algebra) (k x y : ℕ) → OnlySheet k b (addCall b a k x y .bench)
 add-only b a k x y =
     elim (add-cases b a k x y) [
-      | inl p ↦ rw (p .1) (raised-only k (lostByAdd b a k x y) b _ (redrawn-only b k (added b a k x y) (added-length b a k x y (p .0) ∙ sym (p .0 .placed .drawn .size))))
+      | inl p ↦ rw (p .1) (raised-only k (lostByAdd b a k x y) b _ (redrawn-only b k (mapByAdd b a k x y) (added-length b a k x y (p .0) ∙ sym (p .0 .placed .drawn .size))))
       | inr p ↦ rw (p .1) (untouched k b)
     ]
 

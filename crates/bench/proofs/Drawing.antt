@@ -1,23 +1,23 @@
 -- Sheets with a new map: the map that is then on them, the bytes past it, and the other sheets of the bench; a test of every sheet.
-use Prim.Native.Nat.{ℕ, _+_, _≤_, _<_}
-use mathlib.Core.Bool.{Bool, true, false}
+use Prim.Native.Nat.{ℕ, _≤_, _<_}
+use mathlib.Core.Bool.{Bool}
 use mathlib.Core.List.{List}
 use mathlib.Core.Logic.{_≢_}
-use mathlib.Core.Path.{_≡_, refl, sym, ap, subst, _∙_}
+use mathlib.Core.Path.{_≡_, sym, ap, subst, _∙_}
 use native.Mathlib.Decide.{decLt, ℕ-discrete}
 use native.Mathlib.Omega.{arith}
 use lib.Dec.{T}
-use lib.ListN.{length, take, drop, getD, set, replicate, length-set}
+use lib.ListN.{length, drop, getD, length-set}
 use lib.Seq.{take-at, drop-at, getD-set-same, getD-set-other, set-out}
-use Rattle.equivalence.specs.Equivalence.{Map, byte, isMap, identity}
+use Rattle.equivalence.specs.Equivalence.{Map, byte, identity}
 use Rattle.equivalence.specs.Kernel.{Filled}
 use Rattle.equivalence.specs.Lists.{every}
 use Rattle.equivalence.specs.Refusal.{written}
-use Rattle.equivalence.proofs.Maps.{identity-at}
 use Rattle.equivalence.proofs.Lists.{every-of, of-every, member-at, member-index}
+use Rattle.equivalence.proofs.Maps.{identity-at}
 use Rattle.bench.specs.State.{mapOn, redrawn, sheetOf, noSheet, withSheet, withMap}
-use Rattle.bench.specs.declared.Sheet.{Sheet}
 use Rattle.bench.specs.declared.Bench.{Bench}
+use Rattle.bench.specs.declared.Sheet.{Sheet}
 
 module _ (n : ℕ) (m : Map) (s : Sheet) (e : length m ≡ n) where
   pub mapOn-redrawn : mapOn n (redrawn m s) ≡ m

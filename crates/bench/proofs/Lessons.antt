@@ -1,31 +1,29 @@
 -- The theorem over lists of calls: a Start begins a lesson whose bench is as told, and every call keeps it so.
-use Prim.Native.Nat.{ℕ, _+_, _<_}
+use Prim.Native.Nat.{ℕ, _<_}
 use mathlib.Core.Bool.{Bool, true, false, _&&_}
 use mathlib.Core.List.{List, [], _∷_}
-use mathlib.Core.Logic.{_⊎_, inl, inr, _≢_}
-use mathlib.Core.Path.{_≡_, refl, sym, ap, subst, _∙_}
+use mathlib.Core.Logic.{inl, inr, _≢_}
+use mathlib.Core.Path.{_≡_, refl, sym, ap, _∙_}
 use native.Mathlib.Decide.{ℕ-discrete}
 use native.Mathlib.Omega.{arith}
 use lib.Dec.{T, eqb, eqb→eq, eqb-refl}
-use lib.ListN.{length, getD, replicate, length-replicate, getD-replicate}
+use lib.ListN.{length, getD-replicate}
 use Rattle.equivalence.specs.Equivalence.{Map, identity}
 use Rattle.equivalence.specs.Refusal.{lowest, sizeTest}
 use Rattle.equivalence.proofs.Maps.{identity-map}
-use Rattle.equivalence.proofs.Tests.{right, pick, pick-yes, pick-no}
+use Rattle.equivalence.proofs.Tests.{right, pick-yes, pick-no}
+use Rattle.equivalence.specs.declared.Check.the-variants.{Passed}
+use Rattle.equivalence.specs.declared.Refusal.{Refusal}
 use Rattle.algebra.specs.Algebra.{Algebra}
 use Rattle.congruence.specs.Extremal.{extended}
-use Rattle.bench.specs.Calls.{added, lostByAdd, startCall}
-use Rattle.bench.specs.Lessons.{Call, Start, Add, Clear, called, Made, Lesson, isDone, next, played, StartsAccepted, sizeAfter, Addition, additions, drawn, mapAfter, lostAfter, IsLeast, EachLeast, AsTold, LessonTheorem}
-use Rattle.bench.specs.Promises.{LeastExtension}
+use Rattle.bench.specs.Calls.{mapByAdd, lostByAdd, startCall}
+use Rattle.bench.specs.Lessons.{Call, Start, Add, Clear, called, Made, Lesson, isDone, next, played, StartsAccepted, sizeAfter, additions, drawn, mapAfter, lostAfter, IsLeast, EachLeast, AsTold, LessonTheorem}
 use Rattle.bench.specs.State.{mapOn, redrawn, zeroSheet, noSheet, freshBench, sheetOf, withSheet, withMap, raisedBy, blocksLost}
 use Rattle.bench.proofs.Adding.{afterAdd, add-cases, added-length, added-least, clear-cases}
 use Rattle.bench.proofs.Drawing.{mapOn-redrawn, withMap-same, withMap-other, withMap-sheets}
 use Rattle.bench.proofs.Testing.{done, refused, benched-passed, Addable, Clearable}
-use Rattle.equivalence.specs.declared.Check.the-variants.{Passed}
-use Rattle.equivalence.specs.declared.Refusal.{Refusal}
 use Rattle.bench.specs.declared.Bench.{Bench}
 use Rattle.bench.specs.declared.Benched.{Benched}
-use Rattle.bench.specs.declared.Sheet.{Sheet}
 
 -- ---- what one more call changes in what is told
 
@@ -115,8 +113,8 @@ module _ (l : Lesson) (h : Kept l) where
     old-told : mapOn (a .size) (sheetOf (l .bench) k) ≡ mapAfter k (l .made)
     old-told = rw (← p .placed .drawn .size) (h .told .maps k (p .placed .sheet))
 
-    new-told : added (l .bench) a k x y ≡ mapAfter k (made (Add a k x y) true ∷ l .made)
-    unfolding added
+    new-told : mapByAdd (l .bench) a k x y ≡ mapAfter k (made (Add a k x y) true ∷ l .made)
+    unfolding mapByAdd
     new-told = ap (λ (m : Map). extended a m x y) old-told ∙ sym (map-add (l .made) k a x y)
 
     add-map : (j : ℕ) → j < 8 → mapOn (l .bench .n) (sheetOf (afterAdd (l .bench) a k x y) j) ≡ mapAfter j (made (Add a k x y) true ∷ l .made)
@@ -124,10 +122,10 @@ module _ (l : Lesson) (h : Kept l) where
     add-map j o =
         elim (ℕ-discrete j k) [
           | yes e ↦ rw e
-              (ap (mapOn (l .bench .n)) (withMap-same (l .bench) k (added (l .bench) a k x y) (omega (arith, h .eight, p .placed .sheet)))
-              ∙ mapOn-redrawn (l .bench .n) (added (l .bench) a k x y) (sheetOf (l .bench) k) (added-length (l .bench) a k x y p ∙ sym (p .placed .drawn .size))
+              (ap (mapOn (l .bench .n)) (withMap-same (l .bench) k (mapByAdd (l .bench) a k x y) (omega (arith, h .eight, p .placed .sheet)))
+              ∙ mapOn-redrawn (l .bench .n) (mapByAdd (l .bench) a k x y) (sheetOf (l .bench) k) (added-length (l .bench) a k x y p ∙ sym (p .placed .drawn .size))
               ∙ new-told)
-          | no e ↦ ap (mapOn (l .bench .n)) (withMap-other (l .bench) k (added (l .bench) a k x y) j e) ∙ h .told .maps j o
+          | no e ↦ ap (mapOn (l .bench .n)) (withMap-other (l .bench) k (mapByAdd (l .bench) a k x y) j e) ∙ h .told .maps j o
               ∙ sym (map-add-apart (l .made) j a k x y true (other-sheet j k e true))
         ]
 
@@ -145,7 +143,7 @@ module _ (l : Lesson) (h : Kept l) where
             tally = omega (arith, h .told .tally, add-lost);
             least = (λ t. rw (← old-told, ← new-told) (added-least (l .bench) a k x y p), h .told .least);
           };
-          eight = withMap-sheets (l .bench) k (added (l .bench) a k x y) ∙ h .eight;
+          eight = withMap-sheets (l .bench) k (mapByAdd (l .bench) a k x y) ∙ h .eight;
         }
 
   module _ (k : ℕ) (p : Clearable (l .bench) k) where

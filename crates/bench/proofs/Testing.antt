@@ -12,19 +12,19 @@ use Rattle.equivalence.specs.Equivalence.{isMap}
 use Rattle.equivalence.specs.Lists.{every}
 use Rattle.equivalence.specs.Refusal.{Test, lowest, sizeTest, answered}
 use Rattle.equivalence.proofs.Refusals.{of-passed, lowest-append, lowest-failed}
-use Rattle.equivalence.proofs.Tests.{T?, or-left, or-right, eq→eqb}
+use Rattle.equivalence.proofs.Tests.{or-left, or-right, eq→eqb}
+use Rattle.equivalence.specs.declared.Check.the-variants.{Passed, Failed}
+use Rattle.equivalence.specs.declared.Check.{Check}
+use Rattle.equivalence.specs.declared.Refusal.{Refusal}
 use Rattle.algebra.specs.Accepted.{algebraTests, Accepted}
 use Rattle.algebra.specs.Algebra.{Algebra}
 use Rattle.congruence.specs.Calls.{elementsTest}
 use Rattle.bench.specs.Calls.{sheetTest, benchTest, placeTests, addTests, clearTests, benched}
 use Rattle.bench.specs.State.{mapOn, sheetOf}
 use Rattle.bench.proofs.Drawing.{of-every-sheet}
-use Rattle.equivalence.specs.declared.Refusal.{Refusal}
-use Rattle.equivalence.specs.declared.Check.{Check}
-use Rattle.equivalence.specs.declared.Check.the-variants.{Passed, Failed}
+use Rattle.bench.specs.declared.Answer.the-variants.{Done, Refused}
 use Rattle.bench.specs.declared.Bench.{Bench}
 use Rattle.bench.specs.declared.Benched.{Benched}
-use Rattle.bench.specs.declared.Answer.the-variants.{Done, Refused}
 
 abbrev pub done : Bench → Benched
 done b = record { answer = Done; bench = b }

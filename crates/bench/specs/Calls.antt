@@ -3,18 +3,18 @@ use Prim.Native.Nat.{ℕ, _+_}
 use mathlib.Core.Bool.{not, _||_}
 use mathlib.Core.List.{List, [], _∷_, _++_}
 use lib.Dec.{eqb, ltb}
-use Rattle.equivalence.specs.Lists.{every}
 use Rattle.equivalence.specs.Equivalence.{Map, isMap, identity}
+use Rattle.equivalence.specs.Lists.{every}
 use Rattle.equivalence.specs.Refusal.{Test, lowest, sizeTest, answered}
 use Rattle.equivalence.specs.declared.Refusal.the-variants.{Range, NotMap, Tally}
-use Rattle.algebra.specs.Algebra.{Algebra}
 use Rattle.algebra.specs.Accepted.{algebraTests}
-use Rattle.congruence.specs.Extremal.{extended}
+use Rattle.algebra.specs.Algebra.{Algebra}
 use Rattle.congruence.specs.Calls.{elementsTest}
+use Rattle.congruence.specs.Extremal.{extended}
 use Rattle.bench.specs.State.{mapOn, zeroBench, freshBench, sheetOf, withMap, raisedBy, blocksLost}
+use Rattle.bench.specs.declared.Answer.the-variants.{Done, Refused}
 use Rattle.bench.specs.declared.Bench.{Bench}
 use Rattle.bench.specs.declared.Benched.{Benched}
-use Rattle.bench.specs.declared.Answer.the-variants.{Done, Refused}
 
 -- 7: a sheet above 7
 unfoldable pub sheetTest : ℕ → Test
@@ -38,12 +38,12 @@ unfoldable pub startCall : ℕ → Benched
 startCall n = benched (sizeTest n ∷ []) (freshBench n) zeroBench
 
 -- the map that Add gives sheet k: the least congruence of the algebra that holds the sheet's old map and the pair
-unfoldable pub added : Bench → Algebra → ℕ → ℕ → ℕ → Map
-added b a k x y = extended a (mapOn (a .size) (sheetOf b k)) x y
+unfoldable pub mapByAdd : Bench → Algebra → ℕ → ℕ → ℕ → Map
+mapByAdd b a k x y = extended a (mapOn (a .size) (sheetOf b k)) x y
 
 -- the blocks that sheet k loses by it
 unfoldable pub lostByAdd : Bench → Algebra → ℕ → ℕ → ℕ → ℕ
-lostByAdd b a k x y = blocksLost (a .size) (mapOn (a .size) (sheetOf b k)) (added b a k x y)
+lostByAdd b a k x y = blocksLost (a .size) (mapOn (a .size) (sheetOf b k)) (mapByAdd b a k x y)
 
 -- 7 and 8 of an Add over n
 unfoldable pub placeTests : Bench → ℕ → ℕ → ℕ → ℕ → List Test
@@ -56,7 +56,7 @@ addTests b a k x y = algebraTests a ++ placeTests b (a .size) k x y
 -- Add (1 to 8, 13): the sheet gets the map, and the tally rises by the blocks lost
 unfoldable pub addCall : Bench → Algebra → ℕ → ℕ → ℕ → Benched
 addCall b a k x y =
-    benched (addTests b a k x y ++ (tallyTest (b .tally + lostByAdd b a k x y) ∷ [])) (raisedBy (lostByAdd b a k x y) (withMap b k (added b a k x y))) b
+    benched (addTests b a k x y ++ (tallyTest (b .tally + lostByAdd b a k x y) ∷ [])) (raisedBy (lostByAdd b a k x y) (withMap b k (mapByAdd b a k x y))) b
 
 -- Clear's tests: 1 of the bench's own n, 7 and 8
 unfoldable pub clearTests : Bench → ℕ → List Test

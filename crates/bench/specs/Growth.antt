@@ -1,7 +1,7 @@
 -- What the bench's inner functions promise each other of a map, and of a sheet, that is extended by a pair.
 use Prim.Native.Nat.{ℕ, _≤_}
-use mathlib.Core.Path.{_≡_}
 use mathlib.Core.List.{List}
+use mathlib.Core.Path.{_≡_}
 use lib.ListN.{take}
 use Rattle.equivalence.specs.Refusal.{written}
 use Rattle.algebra.specs.Algebra.{Algebra}

@@ -1,22 +1,22 @@
 -- A lesson: calls made one after the other, each on the bench that the call before it gave back; and what is on the bench after it, read off
 -- the calls and their answers alone.
 use Prim.Native.Nat.{ℕ, _+_, _<_}
-use mathlib.Core.Path.{_≡_}
 use mathlib.Core.Bool.{Bool, true, false, _&&_}
 use mathlib.Core.List.{List, [], _∷_}
+use mathlib.Core.Path.{_≡_}
 use lib.Dec.{T, eqb}
 use Rattle.equivalence.specs.Equivalence.{Map, identity}
 use Rattle.equivalence.specs.Refusal.{lowest, sizeTest}
 use Rattle.equivalence.specs.declared.Check.the-variants.{Passed}
 use Rattle.algebra.specs.Algebra.{Algebra}
 use Rattle.congruence.specs.Extremal.{extended}
-use Rattle.bench.specs.State.{mapOn, sheetOf, blocksLost}
 use Rattle.bench.specs.Calls.{startCall, addCall, clearCall}
 use Rattle.bench.specs.Promises.{LeastExtension}
+use Rattle.bench.specs.State.{mapOn, sheetOf, blocksLost}
+use Rattle.bench.specs.declared.Answer.the-variants.{Done, Refused}
+use Rattle.bench.specs.declared.Answer.{Answer}
 use Rattle.bench.specs.declared.Bench.{Bench}
 use Rattle.bench.specs.declared.Benched.{Benched}
-use Rattle.bench.specs.declared.Answer.{Answer}
-use Rattle.bench.specs.declared.Answer.the-variants.{Done, Refused}
 
 -- a call: Start n; Add of an algebra, a sheet and a pair; Clear of a sheet
 pub data Call : Type 0 where

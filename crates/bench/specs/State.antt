@@ -4,8 +4,8 @@ use mathlib.Core.List.{[]}
 use lib.ListN.{take, getD, set, replicate}
 use Rattle.equivalence.specs.Equivalence.{Map, identity, blocks}
 use Rattle.equivalence.specs.Refusal.{written}
-use Rattle.bench.specs.declared.Sheet.{Sheet}
 use Rattle.bench.specs.declared.Bench.{Bench}
+use Rattle.bench.specs.declared.Sheet.{Sheet}
 
 -- the map on a sheet over n: its first n bytes
 unfoldable pub mapOn : ℕ → Sheet → Map

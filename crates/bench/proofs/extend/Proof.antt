@@ -1,31 +1,22 @@
+use mathlib.Core.Path.{_∙_}
+use Rattle.bench.specs.State.{sheetOf}
 use Rattle.bench.proofs.Adding.{grown-call}
 use Rattle.bench.proofs.Testing.{add-passed}
-use Rattle.bench.specs.State.{sheetOf}
-use mathlib.Core.Path.{_∙_}
 use Rattle.bench.proofs.extend.Statement.{statement}
 use Rattle.bench.proofs.extend.Tie as tie
-use Rattle.bench.proofs.extend.Reads as reads
-use Rattle.bench.proofs.extend.Lts as lts
-use Rattle.bench.proofs.raised.Reads as raised-reads
-use Rattle.bench.proofs.sheets.extended.Reads as extended-reads
-use Rattle.bench.proofs.sheets.nth.Reads as nth-reads
 
--- src/lib.rt:74:9
 nth-requires : tie.Need-nth-requires
 nth-requires c κs = add-passed _ _ _ _ _ (c .before .before .before .pre) .placed .sheet
 
--- src/lib.rt:75:9
 extended-requires : tie.Need-extended-requires
 unfolding sheetOf
 extended-requires c κs = 
     let p = add-passed _ _ _ _ _ (c .before .before .before .before .pre) in
     (p .accepted, (rw (c .nth .ensures .0) (p .placed .drawn .map _ (c .nth .ensures .1)), (p .placed .first, p .placed .second)))
 
--- src/lib.rt:77:5
 raised-requires : tie.Need-raised-requires
 raised-requires c κs = (add-passed _ _ _ _ _ (c .before .before .before .before .before .before .pre) .placed .sheet, c .before .extended .ensures .few)
 
--- src/lib.rt:69:1
 returns : tie.Need-returns
 unfolding sheetOf
 returns c = c .raised .ensures ∙ grown-call _ _ _ _ _ (c .before .before .before .before .before .before .before .pre) _ _ _ (c .before .before .before .nth .ensures .0) (c .before .before .extended .ensures)

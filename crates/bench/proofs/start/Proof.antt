@@ -1,43 +1,31 @@
 use mathlib.Core.List.{[], _∷_}
 use mathlib.Core.Path.{sym, _∙_}
+use borrow.Author.Needs.{needs}
 use Rattle.equivalence.specs.Refusal.{sizeTest}
 use Rattle.bench.specs.Calls.{startCall}
 use Rattle.bench.proofs.Testing.{size-passed, benched-passed, benched-failed}
-use borrow.Author.Needs.{needs}
 use Rattle.bench.proofs.start.Statement.{statement}
 use Rattle.bench.proofs.start.Tie as tie
-use Rattle.bench.proofs.start.Reads as reads
-use Rattle.bench.proofs.start.Lts as lts
-use Rattle.bench.proofs.checks.size_check.Reads as size-check-reads
-use Rattle.bench.proofs.sheets.fresh.Reads as fresh-reads
-use Rattle.bench.proofs.sheets.zeros.Reads as zeros-reads
 
--- src/lib.rt:36:9
 size-check-requires : tie.Need-size-check-requires
 size-check-requires c κs = search needs
 
--- src/lib.rt:38:36
 enum-known-check : tie.Need-enum-known-check
 enum-known-check c = search needs
 
--- src/lib.rt:38:97
 zeros-requires : tie.Need-zeros-requires
 zeros-requires c κs = search needs
 
--- src/lib.rt:39:57
 enum-told : tie.Need-enum-told
 enum-told c = search needs
 
--- src/lib.rt:39:78
 fresh-requires : tie.Need-fresh-requires
 fresh-requires c κs = size-passed _ _ (sym (c .before .before .size-check .ensures) ∙ c .enum-told .given .1) .1
 
--- src/lib.rt:33:1
 returns : tie.Need-returns
 unfolding startCall
 returns c = rw (c .zeros .ensures) (sym (benched-failed (sizeTest _ ∷ []) _ _ _ (sym (c .before .before .before .before .size-check .ensures) ∙ c .before .before .check .given .1)))
 
--- src/lib.rt:33:1
 returns-2 : tie.Need-returns-2
 unfolding startCall
 returns-2 c = rw (c .fresh .ensures) (sym (benched-passed (sizeTest _ ∷ []) _ _ (sym (c .before .before .before .size-check .ensures) ∙ c .before .enum-told .given .1)))

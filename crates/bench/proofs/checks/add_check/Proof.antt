@@ -1,39 +1,29 @@
-use Rattle.bench.specs.Calls.{addTests}
-use Rattle.algebra.proofs.Accepted.{accepted-wellFormed}
-use Rattle.algebra.specs.Accepted.{Accepted}
-use Rattle.equivalence.proofs.Refusals.{lowest-append, lowest-failed}
 use mathlib.Core.Path.{sym, _∙_}
 use borrow.Author.Needs.{needs}
+use Rattle.equivalence.proofs.Refusals.{lowest-append, lowest-failed}
+use Rattle.algebra.specs.Accepted.{Accepted}
+use Rattle.algebra.proofs.Accepted.{accepted-wellFormed}
+use Rattle.bench.specs.Calls.{addTests}
 use Rattle.bench.proofs.checks.add_check.Statement.{statement}
 use Rattle.bench.proofs.checks.add_check.Tie as tie
-use Rattle.bench.proofs.checks.add_check.Reads as reads
-use Rattle.bench.proofs.checks.add_check.Lts as lts
-use Rattle.algebra.proofs.check.Reads as check-reads
-use Rattle.bench.proofs.checks.place_check.Reads as place-check-reads
 
--- src/checks.rt:82:9
 check-requires : tie.Need-check-requires
 check-requires c κs = search needs
 
--- src/checks.rt:84:36
 enum-known-check : tie.Need-enum-known-check
 enum-known-check c = search needs
 
--- src/checks.rt:85:39
 enum-told : tie.Need-enum-told
 enum-told c = search needs
 
--- src/checks.rt:85:39
 place-check-requires : tie.Need-place-check-requires
 unfolding Accepted
 place-check-requires c κs = accepted-wellFormed _ (sym (c .before .before .check .ensures) ∙ c .enum-told .given .1) .most
 
--- src/checks.rt:79:1
 returns : tie.Need-returns
 unfolding addTests
 returns c = sym (lowest-failed _ _ _ (sym (c .before .before .before .check .ensures) ∙ c .before .check2 .given .1))
 
--- src/checks.rt:79:1
 returns-2 : tie.Need-returns-2
 unfolding addTests
 returns-2 c = c .place-check .ensures ∙ sym (lowest-append _ _ (sym (c .before .before .before .check .ensures) ∙ c .before .enum-told .given .1))

@@ -1,36 +1,28 @@
-use Rattle.bench.specs.Calls.{clearTests, sheetTest}
-use Rattle.equivalence.specs.Refusal.{lowest, sizeTest}
-use borrow.Author.Tests.{eq-eqb, ne-eqb, lt-ltb, le-ltb}
-use native.Mathlib.Omega.{arith}
-use mathlib.Core.Path.{_≡_}
 use Prim.Native.Nat.{_≤_}
+use mathlib.Core.Path.{_≡_}
+use native.Mathlib.Omega.{arith}
 use borrow.Author.Needs.{needs}
+use borrow.Author.Tests.{eq-eqb, ne-eqb, lt-ltb, le-ltb}
+use Rattle.equivalence.specs.Refusal.{lowest, sizeTest}
+use Rattle.bench.specs.Calls.{clearTests, sheetTest}
 use Rattle.bench.proofs.checks.clear_check.Statement.{statement}
 use Rattle.bench.proofs.checks.clear_check.Tie as tie
-use Rattle.bench.proofs.checks.clear_check.Reads as reads
-use Rattle.bench.proofs.checks.clear_check.Lts as lts
-use Rattle.bench.proofs.checks.bench_check.Reads as bench-check-reads
 
--- src/checks.rt:50:9
 returns : tie.Need-returns
 unfolding lowest clearTests sizeTest
 returns c = let e : c .before .args .bench .n ≡ 0 = omega arith in simp (eq-eqb _ _ e)
 
--- src/checks.rt:53:9
 returns-2 : tie.Need-returns-2
 unfolding lowest clearTests sizeTest
 returns-2 c = let e : ¬ (c .before .before .args .bench .n ≡ 0) = λ e. omega (arith, e) in simp (ne-eqb _ _ e, lt-ltb _ _ (c .if2 .taken))
 
--- src/checks.rt:56:9
 returns-3 : tie.Need-returns-3
 unfolding lowest clearTests sizeTest sheetTest
 returns-3 c = let e : ¬ (c .before .before .before .args .bench .n ≡ 0) = λ e. omega (arith, e) in simp (ne-eqb _ _ e, le-ltb _ _ (c .before .if2 .left), lt-ltb _ _ (c .if3 .taken))
 
--- src/checks.rt:58:5
 bench-check-requires : tie.Need-bench-check-requires
 bench-check-requires c κs = search needs
 
--- src/checks.rt:45:1
 returns-4 : tie.Need-returns-4
 unfolding lowest clearTests sizeTest sheetTest
 returns-4 c = let e : ¬ (c .before .before .before .before .args .bench .n ≡ 0) = λ e. omega (arith, e) in let s : c .before .before .before .before .args .sheet ≤ 7 = omega arith in simp (ne-eqb _ _ e, le-ltb _ _ (c .before .before .if2 .left), le-ltb _ _ s) (c .bench-check .ensures)

@@ -1,37 +1,28 @@
+use Prim.Native.Nat.{_≤_}
+use native.Mathlib.Omega.{arith}
+use borrow.Author.Needs.{needs}
+use borrow.Author.Tests.{lt-ltb, le-ltb}
+use Rattle.equivalence.specs.Refusal.{lowest}
 use Rattle.congruence.specs.Calls.{elementsTest}
 use Rattle.bench.specs.Calls.{placeTests, sheetTest}
-use Rattle.equivalence.specs.Refusal.{lowest}
-use borrow.Author.Tests.{lt-ltb, le-ltb}
-use native.Mathlib.Omega.{arith}
-use mathlib.Core.Path.{_≡_}
-use Prim.Native.Nat.{_≤_}
-use borrow.Author.Needs.{needs}
 use Rattle.bench.proofs.checks.place_check.Statement.{statement}
 use Rattle.bench.proofs.checks.place_check.Tie as tie
-use Rattle.bench.proofs.checks.place_check.Reads as reads
-use Rattle.bench.proofs.checks.place_check.Lts as lts
-use Rattle.bench.proofs.checks.bench_check.Reads as bench-check-reads
 
--- src/checks.rt:67:9
 returns : tie.Need-returns
 unfolding lowest placeTests sheetTest
 returns c = simp (lt-ltb _ _ (c .if1 .taken))
 
--- src/checks.rt:70:9
 returns-2 : tie.Need-returns-2
 unfolding lowest placeTests sheetTest elementsTest
 returns-2 c = let s : c .before .before .args .sheet ≤ 7 = omega arith in simp (le-ltb _ _ s, le-ltb _ _ (c .if2 .taken))
 
--- src/checks.rt:73:9
 returns-3 : tie.Need-returns-3
 unfolding lowest placeTests sheetTest elementsTest
 returns-3 c = let s : c .before .before .before .args .sheet ≤ 7 = omega arith in simp (le-ltb _ _ s, lt-ltb _ _ (c .before .if2 .left), le-ltb _ _ (c .if3 .taken))
 
--- src/checks.rt:75:5
 bench-check-requires : tie.Need-bench-check-requires
 bench-check-requires c κs = search needs
 
--- src/checks.rt:62:1
 returns-4 : tie.Need-returns-4
 unfolding lowest placeTests sheetTest elementsTest
 returns-4 c = let s : c .before .before .before .before .args .sheet ≤ 7 = omega arith in simp (le-ltb _ _ s, lt-ltb _ _ (c .before .before .if2 .left), lt-ltb _ _ (c .before .if3 .left)) (c .bench-check .ensures)

@@ -3,8 +3,8 @@ use mathlib.Core.Path.{_≡_, sym, _∙_}
 use native.Mathlib.Omega.{arith}
 use lib.Dec.{T}
 use lib.ListN.{length, getD}
-use borrow.Author.Needs.{needs}
 use borrow.Author.Count.{below-none, below-more}
+use borrow.Author.Needs.{needs}
 use borrow.Author.Tests.{not-true, not-false}
 use Rattle.equivalence.specs.Equivalence.{isMap}
 use Rattle.equivalence.proofs.Tests.{T-of, not-T-of, true-is, false-is}
@@ -12,9 +12,6 @@ use Rattle.bench.specs.State.{mapOn, noSheet}
 use Rattle.bench.proofs.Drawing.{every-sheet, of-every-sheet}
 use Rattle.bench.proofs.sheets.all_drawn.Statement.{statement}
 use Rattle.bench.proofs.sheets.all_drawn.Tie as tie
-use Rattle.bench.proofs.sheets.all_drawn.Reads as reads
-use Rattle.bench.proofs.sheets.all_drawn.Lts as lts
-use Rattle.bench.proofs.sheets.is_drawn.Reads as is-drawn-reads
 
 abbrev Inv-loop : tie.InvT-loop
 Inv-loop n sheets k₀ k = (k ≤ 8) × ((j : ℕ) → j < k → T (isMap n (mapOn n (getD sheets j noSheet))))
@@ -22,23 +19,18 @@ Inv-loop n sheets k₀ k = (k ≤ 8) × ((j : ℕ) → j < k → T (isMap n (map
 abbrev μ-loop : tie.MeasureT-loop
 μ-loop n sheets k₀ k = 8 - k
 
--- src/sheets.rt:82:5
 loop-holds : tie.Need-loop-holds Inv-loop μ-loop
 loop-holds c = (omega arith, below-none _)
 
--- src/sheets.rt:83:21
 mul-sheet : tie.Need-mul-sheet Inv-loop μ-loop
 mul-sheet c = search needs
 
--- src/sheets.rt:83:21
 array-copy-out-sheet : tie.Need-array-copy-out-sheet Inv-loop μ-loop
 array-copy-out-sheet c = search needs
 
--- src/sheets.rt:85:13
 is-drawn-requires : tie.Need-is-drawn-requires Inv-loop μ-loop
 is-drawn-requires c κs = search needs
 
--- src/sheets.rt:86:13
 returns : tie.Need-returns Inv-loop μ-loop
 unfolding mapOn
 returns c =
@@ -46,20 +38,16 @@ returns c =
     let e : length l ≡ 8 = search needs in
     false-is _ (λ t. not-T-of (sym (c .before .is-drawn .ensures) ∙ not-true _ (c .if1 .taken)) (of-every-sheet _ l t _ (omega (arith, c .before .before .before .before .before .loop-test .taken))))
 
--- src/sheets.rt:88:9
 add-k : tie.Need-add-k Inv-loop μ-loop
 add-k c = search needs
 
--- src/sheets.rt:82:5
 loop-less : tie.Need-loop-less Inv-loop μ-loop
 loop-less c = search needs
 
--- src/sheets.rt:82:5
 loop-again : tie.Need-loop-again Inv-loop μ-loop
 unfolding mapOn
 loop-again c = (search needs, below-more _ _ (c .before .before .before .before .before .before .loop .inv .1) (T-of (sym (c .before .is-drawn .ensures) ∙ not-false _ (c .if1 .left))))
 
--- src/sheets.rt:77:1
 returns-2 : tie.Need-returns-2 Inv-loop μ-loop
 returns-2 c =
     let l = c .before .before .args .t1 in

@@ -1,21 +1,16 @@
-use borrow.Author.Needs.{needs}
-use Rattle.bench.proofs.Adding.{front-canonical, closed-grown}
-use Rattle.algebra.proofs.Accepted.{accepted-wellFormed}
 use native.Mathlib.Omega.{arith}
+use borrow.Author.Needs.{needs}
+use Rattle.algebra.proofs.Accepted.{accepted-wellFormed}
+use Rattle.bench.proofs.Adding.{front-canonical, closed-grown}
 use Rattle.bench.proofs.sheets.extend_map.Statement.{statement}
 use Rattle.bench.proofs.sheets.extend_map.Tie as tie
-use Rattle.bench.proofs.sheets.extend_map.Reads as reads
-use Rattle.bench.proofs.sheets.extend_map.Lts as lts
-use Rattle.closure.proofs.extend.Reads as extend-reads
 
--- src/sheets.rt:119:5
 extend-requires : tie.Need-extend-requires
 extend-requires c κs = 
     let p = c .before .before .before .pre in
     let n = accepted-wellFormed _ (p .0) .most in
     (p .0, (omega (arith, n), (front-canonical _ _ (p .1 .0), p .1 .1)))
 
--- src/sheets.rt:112:1
 returns : tie.Need-returns
 returns c = 
     let p = c .before .before .before .before .pre in
