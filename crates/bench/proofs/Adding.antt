@@ -1,9 +1,9 @@
--- Add and Clear as a whole: a call is accepted, with what its tests leave, or it is refused; an accepted Add gives the least congruence; and
--- what either leaves as it was.
+-- Add and Clear as a whole: a call is accepted, with what its tests leave, or it is refused; an accepted Add gives the least congruence, and
+-- the closure's promise gives Add's definition.
 use Prim.Native.Nat.{ℕ, _+_, _≤_, _<_}
 use mathlib.Core.List.{List, [], _∷_, _++_}
 use mathlib.Core.Logic.{_⊎_, inl, inr}
-use mathlib.Core.Path.{_≡_, refl, sym, _∙_}
+use mathlib.Core.Path.{_≡_, ap, sym, _∙_}
 use native.Mathlib.Omega.{arith}
 use lib.Dec.{T}
 use lib.ListN.{length, take}
@@ -26,9 +26,9 @@ use Rattle.congruence.proofs.Bridges.{front-byte, front-written, closed-extende
 use Rattle.congruence.proofs.Extension.{LeastAbove, extended-law}
 use Rattle.bench.specs.Calls.{tallyTest, benched, addTests, clearTests, mapByAdd, lostByAdd, addCall, clearCall}
 use Rattle.bench.specs.Growth.{MapGrown, SheetGrown}
-use Rattle.bench.specs.Promises.{OnlySheet, LeastExtension}
+use Rattle.bench.specs.Promises.{LeastExtension}
 use Rattle.bench.specs.State.{mapOn, sheetOf, withSheet, withMap, raisedBy, blocksLost}
-use Rattle.bench.proofs.Drawing.{withMap-other, withMap-sheets, withMap-past}
+use Rattle.bench.proofs.Drawing.{mapOn-redrawn, withMap-same}
 use Rattle.bench.proofs.Testing.{done, refused, benched-cases, benched-append, passed-append, Clearable, clear-passed, Addable, add-passed}
 use Rattle.bench.specs.declared.Bench.{Bench}
 use Rattle.bench.specs.declared.Sheet.{Sheet}
@@ -53,6 +53,13 @@ module _ (b : Bench) (a : Algebra) (k x y : ℕ) where
 
     pub added-length : length (mapByAdd b a k x y) ≡ a .size
     added-length = above .cong .map .long
+
+    -- sheet k of the bench after it
+    pub afterAdd-map : length (b .sheets) ≡ 8 → mapOn (b .n) (sheetOf afterAdd k) ≡ mapByAdd b a k x y
+    unfolding raisedBy sheetOf
+    afterAdd-map eight =
+        ap (mapOn (b .n)) (withMap-same b k (mapByAdd b a k x y) (omega (arith, eight, p .placed .sheet)))
+        ∙ mapOn-redrawn (b .n) (mapByAdd b a k x y) (sheetOf b k) (added-length ∙ sym (p .placed .drawn .size))
 
     -- demand 2 for Add
     pub added-least : LeastExtension a (mapOn (a .size) (sheetOf b k)) x y (mapByAdd b a k x y)
@@ -109,39 +116,16 @@ pub grown-call : (b : Bench) (a : Algebra) (k x y : ℕ) → lowest (addTests b 
 unfolding addCall lostByAdd withMap mapByAdd
 grown-call b a k x y e old new lost o g = rw (g .sheet, g .blocks, o) (sym (benched-append (addTests b a k x y) _ _ _ e))
 
+-- sheet k of the bench after an accepted Clear
+pub cleared-map : (b : Bench) (k : ℕ) → Clearable b k → length (b .sheets) ≡ 8 → mapOn (b .n) (sheetOf (withMap b k (identity (b .n))) k) ≡ identity (b .n)
+cleared-map b k p eight =
+    ap (mapOn (b .n)) (withMap-same b k (identity (b .n)) (omega (arith, eight, p .sheet)))
+    ∙ mapOn-redrawn (b .n) (identity (b .n)) (sheetOf b k) (identity-map (b .n) .long)
+
 pub clear-cases : (b : Bench) (k : ℕ) → (Clearable b k × (clearCall b k ≡ done (withMap b k (identity (b .n))))) ⊎ ((r : Refusal) × (clearCall b k ≡ refused r b))
 unfolding clearCall
 clear-cases b k =
     elim (benched-cases (clearTests b k) (withMap b k (identity (b .n))) b) [
       | inl p ↦ inl (clear-passed b k (p .0), p .1)
       | inr p ↦ inr p
-    ]
-
--- ---- what a call leaves as it was
-
-untouched : (k : ℕ) (b : Bench) → OnlySheet k b b
-untouched k b = record { size = refl; count = refl; others = λ j h. refl; past = λ j. refl }
-
-redrawn-only : (b : Bench) (k : ℕ) (m : Map) → length m ≡ b .n → OnlySheet k b (withMap b k m)
-unfolding withMap withSheet
-redrawn-only b k m e =
-    record { size = refl; count = withMap-sheets b k m; others = λ j h. withMap-other b k m j h; past = λ j. withMap-past b k m (b .n) e j }
-
-raised-only : (k lost : ℕ) (b after : Bench) → OnlySheet k b after → OnlySheet k b (raisedBy lost after)
-unfolding raisedBy sheetOf
-raised-only k lost b after h = record { size = h .size; count = h .count; others = h .others; past = h .past }
-
-pub add-only : (b : Bench) (a : Algebra) (k x y : ℕ) → OnlySheet k b (addCall b a k x y .bench)
-add-only b a k x y =
-    elim (add-cases b a k x y) [
-      | inl p ↦ rw (p .1) (raised-only k (lostByAdd b a k x y) b _ (redrawn-only b k (mapByAdd b a k x y) (added-length b a k x y (p .0) ∙ sym (p .0 .placed .drawn .size))))
-      | inr p ↦ rw (p .1) (untouched k b)
-    ]
-
-pub clear-only : (b : Bench) (k : ℕ) → OnlySheet k b (clearCall b k .bench) × (clearCall b k .bench .tally ≡ b .tally)
-unfolding withMap withSheet
-clear-only b k =
-    elim (clear-cases b k) [
-      | inl p ↦ rw (p .1) (redrawn-only b k (identity (b .n)) (identity-map (b .n) .long), refl)
-      | inr p ↦ rw (p .1) (untouched k b, refl)
     ]

@@ -19,8 +19,8 @@ use Rattle.congruence.specs.Extremal.{extended}
 use Rattle.bench.specs.Calls.{mapByAdd, lostByAdd, startCall}
 use Rattle.bench.specs.Lessons.{Call, Start, Add, Clear, called, Made, Lesson, isDone, next, played, StartsAccepted, sizeAfter, additions, drawn, mapAfter, lostAfter, IsLeast, EachLeast, AsTold, LessonTheorem}
 use Rattle.bench.specs.State.{mapOn, redrawn, zeroSheet, noSheet, freshBench, sheetOf, withSheet, withMap, raisedBy, blocksLost}
-use Rattle.bench.proofs.Adding.{afterAdd, add-cases, added-length, added-least, clear-cases}
-use Rattle.bench.proofs.Drawing.{mapOn-redrawn, withMap-same, withMap-other, withMap-sheets}
+use Rattle.bench.proofs.Adding.{afterAdd, add-cases, afterAdd-map, added-least, cleared-map, clear-cases}
+use Rattle.bench.proofs.Drawing.{mapOn-redrawn, withMap-other, withMap-sheets}
 use Rattle.bench.proofs.Testing.{done, refused, benched-passed, Addable, Clearable}
 use Rattle.bench.specs.declared.Bench.{Bench}
 use Rattle.bench.specs.declared.Benched.{Benched}
@@ -122,9 +122,7 @@ module _ (l : Lesson) (h : Kept l) where
     add-map j o =
         elim (ℕ-discrete j k) [
           | yes e ↦ rw e
-              (ap (mapOn (l .bench .n)) (withMap-same (l .bench) k (mapByAdd (l .bench) a k x y) (omega (arith, h .eight, p .placed .sheet)))
-              ∙ mapOn-redrawn (l .bench .n) (mapByAdd (l .bench) a k x y) (sheetOf (l .bench) k) (added-length (l .bench) a k x y p ∙ sym (p .placed .drawn .size))
-              ∙ new-told)
+              (afterAdd-map (l .bench) a k x y p (h .eight) ∙ new-told)
           | no e ↦ ap (mapOn (l .bench .n)) (withMap-other (l .bench) k (mapByAdd (l .bench) a k x y) j e) ∙ h .told .maps j o
               ∙ sym (map-add-apart (l .made) j a k x y true (other-sheet j k e true))
         ]
@@ -155,9 +153,7 @@ module _ (l : Lesson) (h : Kept l) where
     clear-map j o =
         elim (ℕ-discrete j k) [
           | yes e ↦ rw e
-              (ap (mapOn (l .bench .n)) (withMap-same (l .bench) k (identity (l .bench .n)) (omega (arith, h .eight, p .sheet)))
-              ∙ mapOn-redrawn (l .bench .n) (identity (l .bench .n)) (sheetOf (l .bench) k) (identity-map (l .bench .n) .long)
-              ∙ ap identity (h .told .size) ∙ sym (map-clear (l .made) k))
+              (cleared-map (l .bench) k p (h .eight) ∙ ap identity (h .told .size) ∙ sym (map-clear (l .made) k))
           | no e ↦ ap (mapOn (l .bench .n)) (withMap-other (l .bench) k (identity (l .bench .n)) j e) ∙ h .told .maps j o
               ∙ sym (map-clear-apart (l .made) j k true (other-sheet j k e true))
         ]
