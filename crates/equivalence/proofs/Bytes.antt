@@ -12,14 +12,11 @@ use Rattle.equivalence.specs.Equivalence.{Map, byte, isMap, inside, root
 use Rattle.equivalence.specs.Kernel.{Canonical, bit, names}
 use Rattle.equivalence.specs.Lists.{upTo, keep}
 use Rattle.equivalence.proofs.Lists.{below-of, of-below, keep-append}
-use Rattle.equivalence.proofs.Maps.{IsMap, of-isMap, inside-of, of-inside, isIdentity-of, of-isIdentity}
+use Rattle.equivalence.proofs.Maps.{IsMap, inside-of, of-inside, isIdentity-of, of-isIdentity}
 use Rattle.equivalence.proofs.Tests.{both, right, eq→eqb, pick}
 
 pub canonical-of : (n : ℕ) (m : Map) → IsMap n m → Canonical n (byte m)
 canonical-of n m p = record { below = p .low; root = p .named }
-
-pub canonical-isMap : (n : ℕ) (m : Map) → T (isMap n m) → Canonical n (byte m)
-canonical-isMap n m t = canonical-of n m (of-isMap n m t)
 
 -- the test of one byte
 abbrev pub isNamed : Map → ℕ → Bool

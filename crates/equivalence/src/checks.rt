@@ -3,7 +3,7 @@ ghost use mathlib.Core.Path.{_≡_};
 ghost use mathlib.Core.Bool.{not};
 ghost use mathlib.Core.List.{List, [], _∷_};
 ghost use Prim.Native.Nat.{ℕ};
-ghost use Rattle.equivalence.specs.Refusal.{lowest, sizeTest, mapTest, spaceTest};
+ghost use Rattle.equivalence.specs.Refusal.{lowest, numberOf, sizeTest, mapTest, spaceTest};
 ghost use Rattle.equivalence.specs.Calls.{preferCheck};
 use crate::Check;
 use crate::Refusal;
@@ -53,4 +53,25 @@ pub fn maps_space_check(n: usize, a: &[u8], b: &[u8], room: usize) -> Check
         return Check::Failed(Refusal::Space);
     }
     Check::Passed
+}
+
+// The reason's number in document 01's table.
+pub fn number(reason: Refusal) -> u8
+    ensures { λ r. ⌜ r ≡ numberOf reason ⌝ }
+{
+    match reason {
+        Refusal::Size => 1,
+        Refusal::Operations => 2,
+        Refusal::Arity => 3,
+        Refusal::Cells => 4,
+        Refusal::Length => 5,
+        Refusal::Cell => 6,
+        Refusal::Range => 7,
+        Refusal::NotMap => 8,
+        Refusal::Space => 9,
+        Refusal::Equal => 10,
+        Refusal::NotCongruence => 12,
+        Refusal::Tally => 13,
+        Refusal::Text => 14,
+    }
 }

@@ -1,14 +1,15 @@
--- The number of names, which is the number of blocks of a canonical function: at most n, n for the identity alone, more where more elements
--- are names.
+-- The number of names, which is the number of blocks of a canonical function: at most n, n for the identity alone, one where
+-- every name is 0, more where more elements are names.
 use Prim.Native.Nat.{ℕ, zero, suc, _+_, _≤_, _<_}
 use mathlib.Core.Bool.{Bool, true, false}
-use mathlib.Core.Path.{_≡_, ap}
+use mathlib.Core.Path.{_≡_, refl, sym, ap}
 use native.Mathlib.Decide.{ℕ-discrete}
 use native.Mathlib.Numerals.{add-one}
 use native.Mathlib.Omega.{arith}
 use lib.Dec.{eqb}
 use borrow.Author.Tests.{eq-eqb, ne-eqb}
 use Rattle.equivalence.specs.Kernel.{Canonical, Within, bit, names}
+use Rattle.equivalence.proofs.Kernels.{names-positive}
 
 bit-most : (b : Bool) → bit b ≤ 1
 bit-most true = omega arith
@@ -68,3 +69,18 @@ names-within n f f′ c c′ w =
     let k : f x < n = omega (arith, c .below x l) in
     let s : f′ (f x) ≡ f′ x = w (f x) x k l (c .root x l) in
     omega (arith, c .below x l, c′ .below (f x) k))
+
+-- a single name is 0
+pub names-one : (n : ℕ) (f : ℕ → ℕ) → Canonical n f → names n f ≡ 1 → (x : ℕ) → x < n → f x ≡ 0
+names-one n f c e x l =
+    elim (ℕ-discrete (f x) 0) [
+      | yes p ↦ p
+      | no p ↦
+          let k : f x < n = omega (arith, c .below x l) in
+          let zero-named : (y : ℕ) → y < n → 0 ≡ y → f y ≡ y = λ y ly q. omega (arith, c .below y ly) in
+          absurd (omega (
+            arith,
+            names-another n (λ y. 0) f zero-named (f x) k (c .root x l) (λ q. p (sym q)),
+            names-positive n (λ y. 0) (omega arith) (record { below = λ y ly. omega arith; root = λ y ly. refl }),
+          ))
+    ]

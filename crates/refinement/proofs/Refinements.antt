@@ -16,12 +16,22 @@ use Rattle.algebra.proofs.Accepted.{WellFormed}
 use Rattle.algebra.proofs.Congruences.{congruence-is, congruence-of, cells-below}
 use Rattle.algebra.proofs.Translations.{congruence-compatible, compatible-congruence}
 use Rattle.refinement.specs.Splitting.{Split}
-use Rattle.refinement.proofs.Names.{names-full, names-within}
+use Rattle.refinement.proofs.Names.{names-full, names-one, names-within}
 
 -- the identity is compatible with every operation
 pub identity-compatible : (a : Algebra) (g : ℕ → ℕ) → names (a .size) g ≡ a .size → Compatible a g
 identity-compatible a g e x y lx ly p j l pre post s b d =
     ap (λ (z : ℕ). g (result a j (pre ++ (z ∷ post)))) (sym (names-full (a .size) g e x lx) ∙ p ∙ names-full (a .size) g e y ly)
+
+result-below : (a : Algebra) → WellFormed a → (j : ℕ) (xs : List ℕ) → result a j xs < a .size
+unfolding result
+result-below a w j xs = cells-below a w (tableStart a j + place (a .size) xs)
+
+-- so is a single block
+pub whole-compatible : (a : Algebra) → WellFormed a → (g : ℕ → ℕ) → Canonical (a .size) g → names (a .size) g ≡ 1 → Compatible a g
+whole-compatible a w g c e x y lx ly p j l pre post s b d =
+    names-one (a .size) g c e (result a j (pre ++ (x ∷ post))) (result-below a w j (pre ++ (x ∷ post)))
+    ∙ sym (names-one (a .size) g c e (result a j (pre ++ (y ∷ post))) (result-below a w j (pre ++ (y ∷ post))))
 
 -- a split into what is compatible is the refinement
 pub split-refined : (a : Algebra) {Done : (ℕ → ℕ) → Type 0} {b r : ℕ} {m m′ : Map} → Split (a .size) (Compatible a) Done b m m′ r → Compatible a (byte m′) → Refined a (byte m) (byte m′)
@@ -44,10 +54,6 @@ canonical-same n f g e c = record {
   below = λ x l. omega (arith, e x l, c .below x l);
   root = λ x l. ap g (e x l) ∙ e (f x) (omega (arith, c .below x l)) ∙ c .root x l ∙ sym (e x l);
 }
-
-result-below : (a : Algebra) → WellFormed a → (j : ℕ) (xs : List ℕ) → result a j xs < a .size
-unfolding result
-result-below a w j xs = cells-below a w (tableStart a j + place (a .size) xs)
 
 pub compatible-same : (a : Algebra) → WellFormed a → (f g : ℕ → ℕ) → ((x : ℕ) → x < a .size → g x ≡ f x) → Compatible a f → Compatible a g
 compatible-same a w f g e c x y lx ly p j l pre post s b d =

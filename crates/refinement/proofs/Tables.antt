@@ -3,7 +3,6 @@ use Prim.Native.Nat.{ℕ, _*_, _^_, _≤_}
 use mathlib.Core.List.{List}
 use mathlib.Core.Path.{_≡_, ap, _∙_}
 use native.Mathlib.Nat.{pow-zero, pow-suc, one-mul, mul-le-mul}
-use native.Mathlib.Omega.{arith}
 use Rattle.equivalence.specs.Equivalence.{Map}
 use Rattle.refinement.specs.Splitting.{Block, Rows, Planes, Table, Any, First, Split}
 use Rattle.refinement.proofs.Splits.{split-more, split-said}

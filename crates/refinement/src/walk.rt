@@ -1,7 +1,7 @@
 // The walk over the lines of the tables. An argument before the varied one runs over first members only: where a map is kept along
 // earlier arguments, its other members give nothing new. Each function splits m, which has `count` blocks, and gives their number.
 ghost use mathlib.Core.Path.{_≡_};
-ghost use Prim.Native.Nat.{ℕ, _+_, _*_, _^_, _<_, _≤_};
+ghost use Prim.Native.Nat.{_+_, _*_, _^_, _<_, _≤_};
 ghost use lib.ListN.{length};
 ghost use Rattle.equivalence.specs.Equivalence.{byte};
 ghost use Rattle.equivalence.specs.Kernel.{Canonical, names};
@@ -136,7 +136,7 @@ fn table_size(n: usize, s: usize) -> usize
     n * n * n
 }
 
-// The lines of every table of an accepted algebra.
+// The lines of every table of an accepted algebra. None of them splits a single block.
 pub fn split_all(m: &mut [u8], n: usize, count: usize, arities: &[u8], cells: &[u8]) -> usize
     requires { ⌜ Accepted (algebraOf n (now arities) (now cells)) ⌝ }
     requires { ⌜ n ≤ length (now m) ⌝ }
@@ -144,6 +144,9 @@ pub fn split_all(m: &mut [u8], n: usize, count: usize, arities: &[u8], cells: &[
     requires { ⌜ count ≡ names n (byte (now m)) ⌝ }
     ensures { λ r. ⌜ Split n (Compatible (algebraOf n (now (arities .entry)) (now (cells .entry)))) (Compatible (algebraOf n (now (arities .entry)) (now (cells .entry)))) count (now (m .entry)) (now (m .exit)) r ⌝ }
 {
+    if count == 1 {
+        return count;
+    }
     let mut found = count;
     let mut base = 0;
     let mut j = 0;

@@ -1,2 +1,2 @@
-pub mod Search
+pub mod Settling
 pub mod TwoBlocks

@@ -1,9 +1,12 @@
 -- The search for the earliest congruence that holds v and w apart: pairs are settled in their order, each taken where v and w stay apart.
-use Prim.Native.Nat.{ℕ, _<_}
+use Prim.Native.Nat.{ℕ, _≤_, _<_}
 use mathlib.Core.Path.{_≡_}
 use mathlib.Core.Logic.{_⊎_}
+use mathlib.Core.List.{List}
+use lib.ListN.{length}
 use Rattle.equivalence.specs.Kernel.{Canonical, Within}
-use Rattle.algebra.specs.Algebra.{Algebra}
+use Rattle.algebra.specs.Algebra.{Algebra, algebraOf}
+use Rattle.algebra.specs.Accepted.{Accepted}
 use Rattle.algebra.specs.Translations.{Compatible}
 
 -- (p, q) comes before (x, y): by the first element, then by the second
@@ -40,3 +43,11 @@ pub record Earliest (a : Algebra) (v w : ℕ) (f : ℕ → ℕ) : Type 0 where
   pub apart : ¬ (f v ≡ f w)
   pub first : (g : ℕ → ℕ) → Compatible a g → ¬ (g v ≡ g w) → (x y : ℕ) → x < y → y < a .size
       → Keeps (a .size) f g x y → Keeps (a .size) g f x y → g x ≡ g y → f x ≡ f y
+
+-- what every function of the search asks: an accepted algebra, two elements, and room for n bytes in the map and in the spare one
+pub record Rooms (n : ℕ) (arities cells m spare : List ℕ) (v w : ℕ) : Type 0 where
+  pub accepted : Accepted (algebraOf n arities cells)
+  pub map-room : n ≤ length m
+  pub spare-room : n ≤ length spare
+  pub left : v < n
+  pub right : w < n

@@ -1,2 +1,54 @@
-// Separate: the earliest congruence that holds two elements apart.
+// Separate: the earliest congruence of an accepted algebra that holds two elements apart.
+ghost use mathlib.Core.Path.{_≡_};
+ghost use Prim.Native.Nat.{ℕ, _<_, _≤_};
+ghost use lib.ListN.{length};
+ghost use Rattle.equivalence.specs.Equivalence.{byte};
+ghost use Rattle.algebra.specs.Algebra.{algebraOf};
+ghost use Rattle.algebra.specs.Accepted.{Accepted};
+ghost use Rattle.separation.specs.Search.{Rooms, Earliest};
+
 pub mod blocks;
+pub mod search;
+
+// `separate` for v's row first, with room for two maps: once every pair with v is settled, the greatest congruence inside "v's block and the
+// rest" is the answer (004, Lemma 10).
+fn separate_in(
+    m: &mut [u8],
+    spare: &mut [u8],
+    n: usize,
+    arities: &[u8],
+    cells: &[u8],
+    v: usize,
+    w: usize,
+    out: &mut [u8],
+)
+    requires { ⌜ Rooms n (now arities) (now cells) (now m) (now spare) v w ⌝ }
+    requires { ⌜ n ≤ length (now out) ⌝ }
+    requires { ⌜ (v ≡ w → ⊥) ⌝ }
+    ensures { λ _. ⌜ Earliest (algebraOf n (now (arities .entry)) (now (cells .entry))) v w (byte (now (out .exit))) ⌝ }
+    ensures { λ _. ⌜ ((x : ℕ) → n ≤ x → byte (now (out .exit)) x ≡ byte (now (out .entry)) x) ⌝ }
+{
+    equivalence::blocks::identity(m, n);
+    search::settle_rows(m, spare, n, arities, cells, v, w);
+    blocks::two_blocks(m, n, v, out);
+    refinement::refine(out, n, arities, cells);
+}
+
+// The earliest congruence that holds v and w apart goes to the first n bytes of out; those past n keep their value.
+pub fn separate(n: usize, arities: &[u8], cells: &[u8], v: usize, w: usize, out: &mut [u8])
+    requires { ⌜ Accepted (algebraOf n (now arities) (now cells)) ⌝ }
+    requires { ⌜ v < n ⌝ }
+    requires { ⌜ w < n ⌝ }
+    requires { ⌜ (v ≡ w → ⊥) ⌝ }
+    requires { ⌜ n ≤ length (now out) ⌝ }
+    ensures { λ _. ⌜ Earliest (algebraOf n (now (arities .entry)) (now (cells .entry))) v w (byte (now (out .exit))) ⌝ }
+    ensures { λ _. ⌜ ((x : ℕ) → n ≤ x → byte (now (out .exit)) x ≡ byte (now (out .entry)) x) ⌝ }
+{
+    let mut m = [0u8; 64];
+    let mut spare = [0u8; 64];
+    if v < w {
+        separate_in(&mut m, &mut spare, n, arities, cells, v, w, out);
+    } else {
+        separate_in(&mut m, &mut spare, n, arities, cells, w, v, out);
+    }
+}

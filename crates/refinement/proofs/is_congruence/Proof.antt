@@ -1,7 +1,5 @@
-use Prim.Native.Nat.{_≤_}
-use mathlib.Core.Path.{_≡_}
+-- `is_congruence` meets its contract: a copy of the map keeps its number of blocks just where the map is a congruence.
 use native.Mathlib.Omega.{arith}
-use lib.ListN.{length}
 use borrow.Author.Needs.{needs}
 use Rattle.equivalence.specs.Equivalence.{byte}
 use Rattle.equivalence.proofs.Maps.{IsMap, of-isMap}

@@ -1,3 +1,4 @@
+-- `blocks` meets its contract. The loop has counted the names below i.
 use Prim.Native.Nat.{_+_, _-_, _≤_}
 use mathlib.Core.Path.{_≡_}
 use native.Mathlib.Omega.{arith}

@@ -1,8 +1,8 @@
+-- `broken` meets its contract. The loop has found every element below x kept together with its first member.
 use Prim.Native.Nat.{ℕ, _+_, _*_, _-_, _≤_, _<_}
-use mathlib.Core.Path.{_≡_, sym}
-use native.Mathlib.Decide.{ℕ-discrete}
+use mathlib.Core.Path.{_≡_}
 use native.Mathlib.Omega.{arith}
-use lib.ListN.{length, getD}
+use lib.ListN.{length}
 use borrow.Author.Count.{below-more}
 use borrow.Author.Needs.{needs}
 use Rattle.equivalence.specs.Equivalence.{byte}
@@ -60,7 +60,7 @@ add-image : tie.Need-add-image Inv-loop μ-loop
 add-image c = omega (arith, turn (c .before))
 
 shared-slice-read-image : tie.Need-shared-slice-read-image Inv-loop μ-loop
-shared-slice-read-image c = turn (c .before .before) .here
+shared-slice-read-image c = omega (arith, turn (c .before .before))
 
 cast-image : tie.Need-cast-image Inv-loop μ-loop
 cast-image c = omega (arith, turn (c .before .before))
@@ -72,7 +72,7 @@ add-expected : tie.Need-add-expected Inv-loop μ-loop
 add-expected c = omega (arith, turn (c .before .before))
 
 shared-slice-read-expected : tie.Need-shared-slice-read-expected Inv-loop μ-loop
-shared-slice-read-expected c = turn (c .before .before .before) .there
+shared-slice-read-expected c = omega (arith, turn (c .before .before .before))
 
 cast-expected : tie.Need-cast-expected Inv-loop μ-loop
 cast-expected c = omega (arith, turn (c .before .before .before))

@@ -1,3 +1,4 @@
+-- `first_alike` meets its contract. The loop has found no element below y alike to x; those below x's name are in other blocks.
 use Prim.Native.Nat.{ℕ, _+_, _*_, _-_, _≤_, _<_}
 use mathlib.Core.Path.{_≡_, refl, sym, subst, _∙_}
 use native.Mathlib.Omega.{arith}

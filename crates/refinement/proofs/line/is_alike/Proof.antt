@@ -1,3 +1,4 @@
+-- `is_alike` meets its contract: both tests are made.
 use Prim.Native.Nat.{_+_, _*_, _<_}
 use mathlib.Core.Path.{sym, subst}
 use native.Mathlib.Omega.{arith}

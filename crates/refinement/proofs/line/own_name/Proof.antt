@@ -1,3 +1,4 @@
+-- `own_name` meets its contract: the bit of the test that is made.
 use mathlib.Core.Path.{sym, ap}
 use native.Mathlib.Omega.{arith}
 use borrow.Author.Needs.{needs}

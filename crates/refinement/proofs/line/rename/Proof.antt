@@ -1,3 +1,4 @@
+-- `rename` meets its contract. The loop has named every element below x.
 use Prim.Native.Nat.{ℕ, _-_, _≤_, _<_}
 use mathlib.Core.Path.{_≡_, refl}
 use native.Mathlib.Omega.{arith}

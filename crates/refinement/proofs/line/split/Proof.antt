@@ -1,4 +1,4 @@
-use mathlib.Core.Path.{refl}
+-- `split` meets its contract: the new names are copied over the old ones.
 use borrow.Author.Needs.{needs}
 use Rattle.refinement.proofs.Splits.{alike-copied}
 use Rattle.refinement.proofs.line.split.Statement.{statement}

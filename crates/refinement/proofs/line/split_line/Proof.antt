@@ -1,3 +1,4 @@
+-- `split_line` meets its contract: the identity is kept by every line, a line that breaks nothing keeps the map, any other splits it.
 use Prim.Native.Nat.{_<_}
 use native.Mathlib.Omega.{arith}
 use borrow.Author.Needs.{needs}

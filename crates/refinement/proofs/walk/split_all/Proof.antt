@@ -1,14 +1,16 @@
-use Prim.Native.Nat.{ℕ, _+_, _-_, _^_, _≤_, _<_}
-use mathlib.Core.Path.{_≡_, refl, sym}
+-- `split_all` meets its contract. The loop has split along the tables below j, and the next begins at `base`.
+use Prim.Native.Nat.{ℕ, _+_, _-_, _^_, _≤_}
+use mathlib.Core.Path.{_≡_, refl, sym, _∙_}
 use native.Mathlib.Omega.{arith}
 use lib.ListN.{length, getD}
 use Rattle.algebra.specs.Algebra.{Algebra, algebraOf}
 use Rattle.algebra.specs.Translations.{tableStart}
 use Rattle.algebra.proofs.Accepted.{WellFormed, accepted-wellFormed}
-use Rattle.refinement.specs.Splitting.{Table, Any, First, Lent, Split}
+use Rattle.refinement.specs.Splitting.{Table, Any, First, Split}
 use Rattle.refinement.proofs.Splits.{split-none, split-next, split-said}
 use Rattle.refinement.proofs.Tables.{table-from}
 use Rattle.refinement.proofs.Compatibility.{Tables, tables-compatible, compatible-tables, start-zero, start-next, table-room, accepted-lent}
+use Rattle.refinement.proofs.Refinements.{whole-compatible}
 use Rattle.refinement.proofs.walk.split_all.Statement.{statement}
 use Rattle.refinement.proofs.walk.split_all.Tie as tie
 
@@ -32,9 +34,9 @@ record Turn (n arity base size : ℕ) : Type 0 where
   most : arity ≤ 3
   room : base + n ^ arity ≤ size
 
-turn : (c : tie.In-loop Inv-loop μ-loop) → let a = c .before .before .before .before .before .args in Turn (a .n) (getD (a .arities .now) (c .before .loop .j) 0) (c .before .loop .base) (length (a .cells .now))
+turn : (c : tie.In-loop Inv-loop μ-loop) → let a = c .before .before .before .before .before .before .args in Turn (a .n) (getD (a .arities .now) (c .before .loop .j) 0) (c .before .loop .base) (length (a .cells .now))
 turn c =
-    let s = c .before .before .before .before .before in
+    let s = c .before .before .before .before .before .before in
     let l = c .before .loop in
     let w = well-formed s in
     record {
@@ -43,8 +45,14 @@ turn c =
       room = omega (arith, table-room (algebra s) w (l .j) (c .loop-test .taken));
     }
 
+returns : tie.Need-returns Inv-loop μ-loop
+returns c =
+    let s = c .before .before .before .before in
+    let p = s .pre .1 .1 in
+    split-none (p .0) (p .1) (whole-compatible (algebra s) (well-formed s) _ (p .0) (sym (p .1) ∙ c .if1 .taken))
+
 loop-holds : tie.Need-loop-holds Inv-loop μ-loop
-loop-holds c = let p = c .before .before .before .pre in (omega arith, sym (start-zero (algebra (c .before .before .before))), refl, split-none (p .1 .1 .0) (p .1 .1 .1) (λ k l. absurd (omega arith)))
+loop-holds c = let p = c .before .before .before .before .pre in (omega arith, sym (start-zero (algebra (c .before .before .before .before))), refl, split-none (p .1 .1 .0) (p .1 .1 .1) (λ k l. absurd (omega arith)))
 
 shared-slice-read-s : tie.Need-shared-slice-read-s Inv-loop μ-loop
 shared-slice-read-s c = omega arith
@@ -54,7 +62,7 @@ cast-s c = omega (arith, turn (c .before))
 
 split-table-requires : tie.Need-split-table-requires Inv-loop μ-loop
 split-table-requires c κs =
-    let s = c .before .before .before .before .before .before .before in
+    let s = c .before .before .before .before .before .before .before .before in
     let l = c .before .before .before .loop in
     let t = turn (c .before .before) in
     (accepted-lent (algebra s) (well-formed s) (l .m) (omega arith) (l .inv .3 .canonical), (l .inv .3 .counted, (t .most, t .room)))
@@ -73,7 +81,7 @@ loop-less c = omega arith
 
 loop-again : tie.Need-loop-again Inv-loop μ-loop
 loop-again c =
-    let s = c .before .before .before .before .before .before .before .before .before .before .before in
+    let s = c .before .before .before .before .before .before .before .before .before .before .before .before in
     let l = c .before .before .before .before .before .before .before .loop in
     let a = algebra s in (
       omega arith,
@@ -87,10 +95,10 @@ loop-again c =
 same-length : tie.Need-same-length Inv-loop μ-loop
 same-length c = omega arith
 
-returns : tie.Need-returns Inv-loop μ-loop
-returns c =
-    let a = algebra (c .before .before .before .before .before) in
-    let w = well-formed (c .before .before .before .before .before) in
+returns-2 : tie.Need-returns-2 Inv-loop μ-loop
+returns-2 c =
+    let a = algebra (c .before .before .before .before .before .before) in
+    let w = well-formed (c .before .before .before .before .before .before) in
     split-said (compatible-tables a w) (λ g k h. tables-compatible a w g k (λ j l. h j (omega arith))) (c .before .loop .inv .3)
 
 pub split-all-spec : {M : Type 1} → statement M
@@ -99,6 +107,7 @@ split-all-spec =
     (tie.spec
     Inv-loop
     μ-loop
+    returns
     loop-holds
     shared-slice-read-s
     cast-s
@@ -109,4 +118,4 @@ split-all-spec =
     loop-less
     loop-again
     same-length
-    returns)
+    returns-2)

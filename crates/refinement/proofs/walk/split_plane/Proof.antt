@@ -1,3 +1,4 @@
+-- `split_plane` meets its contract: a plane that is no first member's is not asked for.
 use Prim.Native.Nat.{_+_, _*_, _≤_}
 use native.Mathlib.Omega.{arith}
 use lib.ListN.{length}

@@ -1,3 +1,4 @@
+-- `split_planes` meets its contract. The loop has split along the planes below p.
 use Prim.Native.Nat.{ℕ, _+_, _*_, _-_, _≤_, _<_}
 use mathlib.Core.Path.{_≡_, refl}
 use native.Mathlib.Omega.{arith}

@@ -1,3 +1,4 @@
+-- `split_row` meets its contract: a row that is no first member's is not asked for.
 use Prim.Native.Nat.{_+_, _*_, _≤_}
 use native.Mathlib.Omega.{arith}
 use lib.ListN.{length}

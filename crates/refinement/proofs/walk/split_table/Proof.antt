@@ -1,3 +1,4 @@
+-- `split_table` meets its contract: one, two or three walks, by the arity.
 use Prim.Native.Nat.{ℕ, _+_, _*_, _^_, _≤_}
 use mathlib.Core.Path.{_≡_}
 use native.Mathlib.Omega.{arith}

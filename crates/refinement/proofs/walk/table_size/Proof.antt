@@ -1,3 +1,4 @@
+-- `table_size` meets its contract: a power by the arity.
 use Prim.Native.Nat.{ℕ, _^_}
 use mathlib.Core.Path.{_≡_, sym, ap, _∙_}
 use native.Mathlib.Nat.{pow-zero}

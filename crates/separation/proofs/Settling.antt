@@ -1,16 +1,20 @@
 -- The search's steps: it starts at the identity, settles a pair (held, taken, passed, or skipped since one of its elements is no first member), and ends,
 -- once every row up to v is settled, with the greatest congruence inside "v's block and the rest" (004, Lemma 10).
 use Prim.Native.Nat.{ℕ, _+_, _≤_, _<_}
+use mathlib.Core.List.{List, _∷_, _++_}
 use mathlib.Core.Logic.{_⊎_, inl, inr}
 use mathlib.Core.Path.{_≡_, refl, sym, ap, _∙_}
 use native.Mathlib.Decide.{decLt, ℕ-discrete}
 use native.Mathlib.Omega.{arith}
-use Rattle.equivalence.specs.Kernel.{Within}
+use lib.ListN.{length}
+use lib.Seq.{ext-getD}
+use Rattle.equivalence.specs.Equivalence.{byte}
+use Rattle.equivalence.specs.Kernel.{Within, Filled}
 use Rattle.equivalence.specs.Lists.{first}
 use Rattle.equivalence.proofs.Kernels.{identity-canonical, identity-within}
 use Rattle.algebra.specs.Algebra.{Algebra}
-use Rattle.algebra.specs.Translations.{Compatible, Closed, Refined}
-use Rattle.separation.specs.Search.{Before, Keeps, Refused, Settled, TwoBlocks, Earliest}
+use Rattle.algebra.specs.Translations.{result, Compatible, Closed, Refined}
+use Rattle.separation.specs.Search.{Keeps, Before, Refused, Settled, TwoBlocks, Earliest}
 
 module _ (a : Algebra) (v w : ℕ) where
   pub settled-start : (f : ℕ → ℕ) → v < a .size → w < a .size → ¬ (v ≡ w) → ((x : ℕ) → x < a .size → f x ≡ x) → Compatible a f → Settled a v w 0 1 f
@@ -177,3 +181,16 @@ module _ (a : Algebra) (v w : ℕ) (lv : v < a .size) (lw : w < a .size) (f : �
 pub earliest-swap : (a : Algebra) (v w : ℕ) (f : ℕ → ℕ) → Earliest a v w f → Earliest a w v f
 earliest-swap a v w f e =
     record { canonical = e .canonical; compatible = e .compatible; apart = λ q. e .apart (sym q); first = λ g c n. e .first g c (λ q. n (sym q)) }
+
+-- ---- the slices of the search
+
+-- the identity holds no pair, and so is compatible with everything
+pub identity-compatible : (a : Algebra) (f : ℕ → ℕ) → ((x : ℕ) → x < a .size → f x ≡ x) → Compatible a f
+identity-compatible a f e x y lx ly q j l pre post s b c = ap (λ (z : ℕ). f (result a j (pre ++ (z ∷ post)))) (sym (e x lx) ∙ q ∙ e y ly)
+
+-- copied away, changed below n, and copied back: the slice is as it was
+pub copied-back : (n : ℕ) (m₀ m₁ m₂ s₀ s₁ : List ℕ) → length m₂ ≡ length m₀ → Filled n (byte m₀) (byte s₀) (byte s₁) → ((z : ℕ) → n ≤ z → byte m₁ z ≡ byte m₀ z)
+    → Filled n (byte s₁) (byte m₁) (byte m₂) → m₂ ≡ m₀
+copied-back n m₀ m₁ m₂ s₀ s₁ long away rest back =
+    ext-getD 0 m₂ m₀ long
+    (λ x l. elim (decLt x n) [ yes k ↦ back .first x k ∙ away .first x k | no k ↦ back .rest x (omega arith) ∙ rest x (omega arith) ])

@@ -1,0 +1,67 @@
+use Prim.Native.Nat.{ℕ, _+_, _-_, _≤_, _<_}
+use mathlib.Core.Path.{_≡_, refl, subst}
+use native.Mathlib.Omega.{arith}
+use lib.ListN.{length}
+use Rattle.equivalence.specs.Equivalence.{byte}
+use Rattle.algebra.specs.Algebra.{algebraOf}
+use Rattle.separation.specs.Search.{Settled}
+use borrow.Author.Needs.{needs}
+use Rattle.separation.proofs.search.settle_rows.Statement.{statement}
+use Rattle.separation.proofs.search.settle_rows.Tie as tie
+
+abbrev Inv-loop : tie.InvT-loop
+Inv-loop m₀ spare₀ n arities cells v w x₀ m spare x = (x ≤ v + 1) × (length m ≡ length m₀) × (length spare ≡ length spare₀) × Settled (algebraOf n arities cells) v w x (x + 1) (byte m)
+
+abbrev μ-loop : tie.MeasureT-loop
+μ-loop m₀ spare₀ n arities cells v w x₀ m spare x = v + 1 - x
+
+loop-holds : tie.Need-loop-holds Inv-loop μ-loop
+loop-holds c = (omega arith, refl, refl, c .before .before .before .before .pre .1)
+
+settle-row-requires : tie.Need-settle-row-requires Inv-loop μ-loop
+settle-row-requires c κs =
+    let s = c .before .before .before .before .before .before .before .before in
+    let r = s .pre .0 in
+    let i = c .before .before .before .loop .inv in
+    (record { accepted = r .accepted; map-room = omega (arith, i .1, r .map-room); spare-room = omega (arith, i .2, r .spare-room); left = r .left; right = r .right }, (omega (arith, r .left), i .3))
+
+add-x : tie.Need-add-x Inv-loop μ-loop
+add-x c = search needs
+
+loop-less : tie.Need-loop-less Inv-loop μ-loop
+loop-less c = search needs
+
+loop-again : tie.Need-loop-again Inv-loop μ-loop
+loop-again c =
+    let l = c .before .before .before .before .before .before .before .before .loop in
+    let e : l .x + 2 ≡ l .x + 1 + 1 = omega arith in
+    (omega arith, omega arith, omega arith, rw e at (c .before .before .before .before .settle-row .ensures))
+
+same-length : tie.Need-same-length Inv-loop μ-loop
+same-length c = search needs
+
+same-length-2 : tie.Need-same-length-2 Inv-loop μ-loop
+same-length-2 c = search needs
+
+returns : tie.Need-returns Inv-loop μ-loop
+returns c =
+    let i = c .before .loop .inv in
+    let v = c .before .before .before .before .before .before .args .v in
+    let e : c .before .loop .x ≡ v + 1 = omega arith in
+    let f : v + 1 + 1 ≡ v + 2 = omega arith in
+    rw (e, f) at (i .3)
+
+pub settle-rows-spec : {M : Type 1} → statement M
+settle-rows-spec =
+    tie.close
+    (tie.spec
+    Inv-loop
+    μ-loop
+    loop-holds
+    settle-row-requires
+    add-x
+    loop-less
+    loop-again
+    same-length
+    same-length-2
+    returns)
