@@ -12,7 +12,7 @@ use Rattle.equivalence.specs.Equivalence.{isMap}
 use Rattle.equivalence.specs.Lists.{every}
 use Rattle.equivalence.specs.Refusal.{Test, lowest, sizeTest, answered}
 use Rattle.equivalence.proofs.Refusals.{of-passed, lowest-append, lowest-failed}
-use Rattle.equivalence.proofs.Tests.{or-left, or-right, eq→eqb}
+use Rattle.equivalence.proofs.Tests.{not-T-of, or-left, or-right, eq→eqb}
 use Rattle.equivalence.specs.declared.Check.the-variants.{Passed, Failed}
 use Rattle.equivalence.specs.declared.Check.{Check}
 use Rattle.equivalence.specs.declared.Refusal.{Refusal}
@@ -79,6 +79,11 @@ size-passed n rest e =
     let h = of-passed _ _ e .0 in
     (elim (ℕ-discrete n 0) [ yes z ↦ absurd (no-or-left (eqb n 0) (ltb 64 n) h (eq→eqb n 0 z)) | no z ↦ omega arith ],
     elim (decLt 64 n) [ yes z ↦ absurd (no-or-right (eqb n 0) (ltb 64 n) h (lt→ltb 64 n z)) | no z ↦ omega arith ])
+
+-- 1 does not apply: n is small
+pub size-small : (n : ℕ) → sizeTest n .applies ≡ false → n ≤ 64
+unfolding sizeTest
+size-small n e = elim (decLt 64 n) [ yes z ↦ absurd (not-T-of e (or-right (eqb n 0) (ltb 64 n) (lt→ltb 64 n z))) | no z ↦ omega arith ]
 
 sheet-passed : (k : ℕ) → ¬ T (sheetTest k .applies) → k < 8
 unfolding sheetTest

@@ -9,6 +9,8 @@ ghost use Rattle.algebra.specs.Algebra.{algebraOf};
 ghost use Rattle.bench.specs.State.{withSheet, raisedBy};
 ghost use Rattle.bench.specs.Calls.{tallyTest, benched, startCall, addTests, addCall, clearCall};
 
+use equivalence::Check;
+use equivalence::Refusal;
 
 pub mod checks;
 pub mod sheets;
@@ -29,7 +31,7 @@ pub struct Bench {
 
 pub enum Answer {
     Done,
-    Refused(equivalence::Refusal),
+    Refused(Refusal),
 }
 
 // What a call gives back: its answer, and the bench after it.
@@ -44,8 +46,8 @@ pub fn start(n: usize) -> Benched
 {
     let check = checks::size_check(n);
     match check {
-        equivalence::Check::Failed(reason) => Benched { answer: Answer::Refused(reason), bench: sheets::zeros() },
-        equivalence::Check::Passed => Benched { answer: Answer::Done, bench: sheets::fresh(n) },
+        Check::Failed(reason) => Benched { answer: Answer::Refused(reason), bench: sheets::zeros() },
+        Check::Passed => Benched { answer: Answer::Done, bench: sheets::fresh(n) },
     }
 }
 
@@ -57,7 +59,7 @@ fn raised(bench: Bench, k: usize, sheet: Sheet, lost: usize) -> Benched
 {
     let total = bench.tally as u64 + lost as u64;
     if total > MAX_TALLY {
-        return Benched { answer: Answer::Refused(equivalence::Refusal::Tally), bench };
+        return Benched { answer: Answer::Refused(Refusal::Tally), bench };
     }
     let mut next = bench;
     next.sheets[k] = sheet;
@@ -83,8 +85,8 @@ pub fn add(bench: Bench, n: usize, arities: &[u8], cells: &[u8], sheet: usize, x
 {
     let check = checks::add_check(bench, n, arities, cells, sheet, x, y);
     match check {
-        equivalence::Check::Failed(reason) => Benched { answer: Answer::Refused(reason), bench },
-        equivalence::Check::Passed => extend(bench, n, arities, cells, sheet, x, y),
+        Check::Failed(reason) => Benched { answer: Answer::Refused(reason), bench },
+        Check::Passed => extend(bench, n, arities, cells, sheet, x, y),
     }
 }
 
@@ -94,7 +96,7 @@ pub fn clear(bench: Bench, sheet: usize) -> Benched
 {
     let check = checks::clear_check(bench, sheet);
     match check {
-        equivalence::Check::Failed(reason) => Benched { answer: Answer::Refused(reason), bench },
-        equivalence::Check::Passed => Benched { answer: Answer::Done, bench: sheets::cleared(bench, sheet) },
+        Check::Failed(reason) => Benched { answer: Answer::Refused(reason), bench },
+        Check::Passed => Benched { answer: Answer::Done, bench: sheets::cleared(bench, sheet) },
     }
 }

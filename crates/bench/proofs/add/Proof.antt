@@ -1,3 +1,4 @@
+-- `bench::add` meets its contract.
 use mathlib.Core.Path.{sym, _∙_}
 use borrow.Author.Needs.{needs}
 use Rattle.equivalence.proofs.Refusals.{lowest-failed}

@@ -1,3 +1,4 @@
+-- `bench::clear` meets its contract.
 use mathlib.Core.Path.{sym, _∙_}
 use borrow.Author.Needs.{needs}
 use Rattle.bench.specs.Calls.{clearCall}

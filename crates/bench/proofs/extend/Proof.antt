@@ -1,3 +1,4 @@
+-- `bench::extend` meets its contract.
 use mathlib.Core.Path.{_∙_}
 use Rattle.bench.specs.State.{sheetOf}
 use Rattle.bench.proofs.Adding.{grown-call}

@@ -1,3 +1,4 @@
+-- `bench::raised` meets its contract.
 use borrow.Author.Needs.{needs}
 use borrow.Author.Tests.{lt-ltb, le-ltb}
 use Rattle.equivalence.specs.Refusal.{lowest, answered}

@@ -1,3 +1,4 @@
+-- `bench::start` meets its contract.
 use mathlib.Core.List.{[], _∷_}
 use mathlib.Core.Path.{sym, _∙_}
 use borrow.Author.Needs.{needs}

@@ -1,3 +1,4 @@
+-- `bench::checks::add_check` meets its contract.
 use mathlib.Core.Path.{sym, _∙_}
 use borrow.Author.Needs.{needs}
 use Rattle.equivalence.proofs.Refusals.{lowest-append, lowest-failed}

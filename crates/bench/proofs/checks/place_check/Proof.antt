@@ -1,3 +1,4 @@
+-- `bench::checks::place_check` meets its contract.
 use Prim.Native.Nat.{_≤_}
 use native.Mathlib.Omega.{arith}
 use borrow.Author.Needs.{needs}

@@ -1,3 +1,4 @@
+-- `bench::sheets::cleared` meets its contract.
 use borrow.Author.Needs.{needs}
 use Rattle.bench.specs.State.{withSheet, withMap, sheetOf}
 use Rattle.bench.proofs.sheets.cleared.Statement.{statement}

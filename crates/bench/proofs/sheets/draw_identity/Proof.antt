@@ -1,3 +1,4 @@
+-- `bench::sheets::draw_identity` meets its contract.
 use native.Mathlib.Omega.{arith}
 use borrow.Author.Needs.{needs}
 use Rattle.equivalence.proofs.Maps.{identity-map}

@@ -1,3 +1,4 @@
+-- `bench::sheets::extended` meets its contract.
 use Rattle.bench.specs.State.{mapOn, redrawn}
 use Rattle.bench.proofs.sheets.extended.Statement.{statement}
 use Rattle.bench.proofs.sheets.extended.Tie as tie

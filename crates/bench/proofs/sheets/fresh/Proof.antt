@@ -1,3 +1,4 @@
+-- `bench::sheets::fresh` meets its contract.
 use borrow.Author.Needs.{needs}
 use Rattle.bench.specs.State.{freshBench}
 use Rattle.bench.proofs.sheets.fresh.Statement.{statement}

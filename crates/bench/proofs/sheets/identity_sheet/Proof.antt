@@ -1,3 +1,4 @@
+-- `bench::sheets::identity_sheet` meets its contract.
 use borrow.Author.Needs.{needs}
 use Rattle.bench.specs.State.{redrawn}
 use Rattle.bench.proofs.sheets.identity_sheet.Statement.{statement}

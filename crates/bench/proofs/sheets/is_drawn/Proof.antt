@@ -1,3 +1,4 @@
+-- `bench::sheets::is_drawn` meets its contract.
 use native.Mathlib.Numerals.{unary-clauses}
 use borrow.Author.Needs.{needs}
 use Rattle.bench.proofs.sheets.is_drawn.Statement.{statement}

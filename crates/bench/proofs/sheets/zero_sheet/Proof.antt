@@ -1,3 +1,4 @@
+-- `bench::sheets::zero_sheet` meets its contract.
 use mathlib.Core.Path.{refl}
 use Rattle.bench.specs.State.{zeroSheet}
 use Rattle.bench.proofs.sheets.zero_sheet.Statement.{statement}

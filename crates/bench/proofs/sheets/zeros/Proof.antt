@@ -1,3 +1,4 @@
+-- `bench::sheets::zeros` meets its contract.
 use borrow.Author.Needs.{needs}
 use Rattle.bench.specs.State.{zeroBench}
 use Rattle.bench.proofs.sheets.zeros.Statement.{statement}
