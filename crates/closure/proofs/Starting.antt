@@ -122,11 +122,6 @@ grown-closed a h d e c good = record {
   least = λ g cg gg. e .sound g cg (d .sound g (h g gg .1) (h g gg .0));
 }
 
--- where v and w are joined in the end, they are joined by all that is compatible and large enough
-pub grown-joined : {v w : ℕ} (a : Algebra) {Start : (ℕ → ℕ) → Type 0} {s t u : State} → v < a .size → w < a .size → Grown (a .size) Start s t → Grown (a .size) (Compatible a) t u
-    → u .map v ≡ u .map w → (g : ℕ → ℕ) → Compatible a g → Within (a .size) (s .map) g → Start g → g v ≡ g w
-grown-joined {v} {w} a lv lw d e h g cg k sg = e .sound g cg (d .sound g sg k) v w lv lw h
-
 -- ---- a try
 
 pub grown-tried : (a : Algebra) {x y v w : ℕ} {s t u : State} → x < a .size → y < a .size → s .size ≡ 0 → Grown (a .size) (λ g. g x ≡ g y) s t → t .map x ≡ t .map y

@@ -1,27 +1,31 @@
--- From what the inner functions promise, in kernels, to what the definitions give, in maps: the first n bytes of a slice that is canonical are a map, and a
--- map with the defining property is the definition's.
-use Prim.Native.Nat.{ℕ, _≤_, _<_}
-use mathlib.Core.List.{List, _∷_, _++_}
-use mathlib.Core.Path.{_≡_, sym, subst, _∙_}
+-- From what the inner functions promise, in kernels, to what the definitions give, in maps: the first n bytes of a slice that is canonical are a map; a
+-- map with the defining property is the definition's; and so the slice afterwards is that map, written over what was lent.
+use Prim.Native.Nat.{ℕ, zero, suc, _+_, _-_, _*_, _≤_, _<_}
+use mathlib.Core.List.{List, [], _∷_}
+use mathlib.Core.Path.{_≡_, sym, ap, _∙_}
 use native.Mathlib.Omega.{arith}
-use lib.ListN.{length, getD, take}
-use lib.Pow.{low}
+use lib.Dec.{T}
+use lib.ListN.{length, take}
 use lib.Seq.{getD-take, length-take-le}
-use Rattle.equivalence.specs.Equivalence.{Map, byte, inside, same}
-use Rattle.equivalence.specs.Kernel.{Canonical, Within}
-use Rattle.equivalence.specs.Lists.{first}
+use Rattle.equivalence.specs.Equivalence.{Map, byte, holds, blocks}
+use Rattle.equivalence.specs.Kernel.{Canonical, Within, Filled, names}
 use Rattle.equivalence.specs.Refusal.{written}
-use Rattle.equivalence.proofs.Maps.{IsMap}
+use Rattle.equivalence.proofs.Bytes.{names-blocks}
+use Rattle.equivalence.proofs.Kernels.{names-same}
+use Rattle.equivalence.proofs.Maps.{holds-of, of-holds, IsMap}
+use Rattle.equivalence.proofs.Tests.{both, left, right}
 use Rattle.equivalence.proofs.Writing.{filled-written}
 use Rattle.algebra.specs.Algebra.{Algebra}
-use Rattle.algebra.specs.Translations.{result, Compatible, Closed, Refined}
+use Rattle.algebra.specs.Translations.{Compatible, Closed, Refined}
 use Rattle.algebra.proofs.Accepted.{WellFormed}
-use Rattle.algebra.proofs.Congruences.{IsCongruence, value-below}
-use Rattle.algebra.proofs.Tables.{operationAt, operationAt-member}
-use Rattle.algebra.proofs.Translations.{args-around, value-result, congruence-compatible, compatible-congruence}
-use Rattle.congruence.specs.Extremal.{extended, contained}
+use Rattle.algebra.proofs.Congruences.{IsCongruence}
+use Rattle.algebra.proofs.Translations.{congruence-compatible, compatible-congruence}
+use Rattle.congruence.specs.Extremal.{holdsAll, generated, extended, contained}
 use Rattle.congruence.proofs.Extension.{extended-is}
 use Rattle.congruence.proofs.GreatestCongruence.{contained-is}
+use Rattle.congruence.proofs.LeastCongruence.{Below, generated-is}
+use Rattle.closure.specs.Starts.{JoinsPairs, Extends}
+use Rattle.refinement.proofs.Refinements.{compatible-same}
 
 -- ---- the first n bytes of a slice
 
@@ -39,28 +43,41 @@ front-map n l fits c =
           rw (front-byte n l x h) (front-byte n l (byte l x) b ∙ c .root x h);
     }
 
+-- how many blocks they have
+pub front-blocks : (n : ℕ) (l : List ℕ) → names n (byte l) ≡ blocks n (take n l)
+front-blocks n l = names-same n (byte l) (byte (take n l)) (λ x h. sym (front-byte n l x h)) ∙ names-blocks n (take n l)
+
 -- a slice whose bytes past n are as they were is its first n bytes, written over what was lent
 pub front-written : (n : ℕ) (lent after : List ℕ) → n ≤ length lent → length after ≡ length lent → ((x : ℕ) → n ≤ x → byte after x ≡ byte lent x) → after ≡ written (take n after) lent
 front-written n lent after fits long rest =
     filled-written n (take n after) lent after (length-take-le n after (omega arith)) fits long
     (record { first = λ x h. sym (front-byte n after x h); rest = rest })
 
--- ---- functions that agree below n
+-- ---- the pairs of a flat list
 
-module _ (a : Algebra) (c : WellFormed a) (f g : ℕ → ℕ) (same : (x : ℕ) → x < a .size → f x ≡ g x) where
-  pub compatible-agree : Compatible a f → Compatible a g
-  compatible-agree h x y lx ly e j l pre post s b d =
-      let low : (z : ℕ) → z < a .size → result a j (pre ++ (z ∷ post)) < a .size =
-      λ z lz. subst (λ (r : ℕ). r < a .size) (value-result a j (pre ++ (z ∷ post)) (args-around (a .size) (getD (a .arities) j 0) z pre post s lz b d))
-      (value-below a c (operationAt a j) (operationAt-member a j l) (pre ++ (z ∷ post))) in
-      sym (same (result a j (pre ++ (x ∷ post))) (low x lx))
-      ∙ h x y lx ly (same x lx ∙ e ∙ sym (same y ly)) j l pre post s b d
-      ∙ same (result a j (pre ++ (y ∷ post))) (low y ly)
+joins-rest : (x y : ℕ) (ps : List ℕ) (g : ℕ → ℕ) → JoinsPairs (x ∷ y ∷ ps) g → JoinsPairs ps g
+joins-rest x y ps g h j l =
+    let e : 2 * (j + 1) ≡ suc (suc (2 * j)) = omega arith in
+    let f : 2 * (j + 1) + 1 ≡ suc (suc (2 * j + 1)) = omega arith in
+    ap (λ (i : ℕ). g (byte (x ∷ y ∷ ps) i)) (sym e) ∙ h (j + 1) (omega arith) ∙ ap (λ (i : ℕ). g (byte (x ∷ y ∷ ps) i)) f
 
-  within-agree : (k : ℕ → ℕ) → Within (a .size) f k → Within (a .size) g k
-  within-agree k h x y lx ly e = h x y lx ly (same x lx ∙ e ∙ sym (same y ly))
+pub joins-holdsAll : (ps : List ℕ) (m : Map) → JoinsPairs ps (byte m) → T (holdsAll ps m)
+unfolding holdsAll
+joins-holdsAll [] m h = tt
+joins-holdsAll (x ∷ []) m h = tt
+joins-holdsAll (x ∷ y ∷ ps) m h = both (holds m x y) (holdsAll ps m) (holds-of m x y (h 0 (omega arith))) (joins-holdsAll ps m (joins-rest x y ps (byte m) h))
 
--- ---- Generate, Add, Contained, Separate
+pub holdsAll-joins : (ps : List ℕ) (m : Map) → T (holdsAll ps m) → JoinsPairs ps (byte m)
+unfolding holdsAll
+holdsAll-joins [] m t j l = absurd (omega arith)
+holdsAll-joins (x ∷ []) m t j l = absurd (omega arith)
+holdsAll-joins (x ∷ y ∷ ps) m t zero l = of-holds m x y (left (holds m x y) (holdsAll ps m) t)
+holdsAll-joins (x ∷ y ∷ ps) m t (suc j) l =
+    let e : 2 * suc j ≡ suc (suc (2 * j)) = omega arith in
+    let f : 2 * suc j + 1 ≡ suc (suc (2 * j + 1)) = omega arith in
+    ap (λ (i : ℕ). byte m (byte (x ∷ y ∷ ps) i)) e ∙ holdsAll-joins ps m (right (holds m x y) (holdsAll ps m) t) j (omega arith) ∙ ap (λ (i : ℕ). byte m (byte (x ∷ y ∷ ps) i)) (sym f)
+
+-- ---- what was found is what the definition gives
 
 module _ (a : Algebra) (c : WellFormed a) (l : List ℕ) (fits : a .size ≤ length l) where
   front-same : (x : ℕ) → x < a .size → byte l x ≡ byte (take (a .size) l) x
@@ -68,26 +85,79 @@ module _ (a : Algebra) (c : WellFormed a) (l : List ℕ) (fits : a .size ≤ len
 
   front-congruence : Canonical (a .size) (byte l) → Compatible a (byte l) → IsCongruence a (take (a .size) l)
   front-congruence k h =
-      compatible-congruence a (take (a .size) l) (front-map (a .size) l fits k) (compatible-agree a c (byte l) (byte (take (a .size) l)) front-same h)
+      compatible-congruence a (take (a .size) l) (front-map (a .size) l fits k) (compatible-same a c (byte l) (byte (take (a .size) l)) (front-byte (a .size) l) h)
 
-  -- the least congruence above a map that holds one more pair
-  pub closed-extended : (m : Map) (x y : ℕ) → x < a .size → y < a .size → Closed a (λ g. Within (a .size) (byte m) g × (g x ≡ g y)) (byte l) → extended a m x y ≡ take (a .size) l
-  closed-extended m x y lx ly h =
-      extended-is a c m x y lx ly (take (a .size) l)
+  front-within : (k : ℕ → ℕ) → Within (a .size) (byte l) k → Within (a .size) (byte (take (a .size) l)) k
+  front-within k h x y lx ly e = h x y lx ly (front-same x lx ∙ e ∙ sym (front-same y ly))
+
+  -- the least congruence that holds the pairs of a list
+  pub closed-generated : (ps : List ℕ) → Below (a .size) ps → Closed a (JoinsPairs ps) (byte l) → generated a ps ≡ take (a .size) l
+  closed-generated ps b h =
+      generated-is a c ps b (take (a .size) l)
       (record {
         cong = front-congruence (h .canonical) (h .compatible);
-        larger = λ p q lp lq e. sym (front-same p lp) ∙ h .good .0 p q lp lq e ∙ front-same q lq;
-        new = sym (front-same x lx) ∙ h .good .1 ∙ front-same y ly;
-        least = λ d p i e. within-agree a c (byte l) (byte (take (a .size) l)) front-same (byte d) (h .least (byte d) (congruence-compatible a d p) (i, e));
+        all = joins-holdsAll ps (take (a .size) l) (λ j k.
+            sym (front-same (byte ps (2 * j)) (b (2 * j) (omega arith))) ∙ h .good j k ∙ front-same (byte ps (2 * j + 1)) (b (2 * j + 1) k));
+        least = λ d p t. front-within (byte d) (h .least (byte d) (congruence-compatible a d p) (holdsAll-joins ps d t));
       })
 
-  -- the greatest congruence inside a map
-  pub refined-contained : (e : Map) → IsMap (a .size) e → Refined a (byte e) (byte l) → contained a e ≡ take (a .size) l
-  refined-contained e p h =
+  -- the least congruence above the first n bytes of a slice that holds one more pair
+  pub closed-extended : (m : List ℕ) (x y : ℕ) → x < a .size → y < a .size → Closed a (Extends (a .size) (byte m) x y) (byte l) → extended a (take (a .size) m) x y ≡ take (a .size) l
+  closed-extended m x y lx ly h =
+      extended-is a c (take (a .size) m) x y lx ly (take (a .size) l)
+      (record {
+        cong = front-congruence (h .canonical) (h .compatible);
+        larger = λ p q lp lq e.
+            sym (front-same p lp) ∙ h .good .0 p q lp lq (sym (front-byte (a .size) m p lp) ∙ e ∙ front-byte (a .size) m q lq) ∙ front-same q lq;
+        new = sym (front-same x lx) ∙ h .good .1 ∙ front-same y ly;
+        least = λ d p i e. front-within (byte d) (h .least (byte d) (congruence-compatible a d p)
+            (λ q r lq lr z. i q r lq lr (front-byte (a .size) m q lq ∙ z ∙ sym (front-byte (a .size) m r lr)), e));
+      })
+
+  -- the greatest congruence inside a map, of which f is a copy
+  pub refined-contained : (e : Map) → IsMap (a .size) e → (f : ℕ → ℕ) → ((x : ℕ) → x < a .size → f x ≡ byte e x) → Refined a f (byte l) → contained a e ≡ take (a .size) l
+  refined-contained e p f copied h =
       contained-is a c e p (take (a .size) l)
       (record {
         cong = front-congruence (h .canonical) (h .compatible);
-        inside = within-agree a c (byte l) (byte (take (a .size) l)) front-same (byte e) (h .within);
+        inside = front-within (byte e) (λ x y lx ly t. sym (copied x lx) ∙ h .within x y lx ly t ∙ copied y ly);
         greatest = λ d q i x y lx ly t.
-            sym (front-same x lx) ∙ h .greatest (byte d) (congruence-compatible a d q) i x y lx ly t ∙ front-same y ly;
+            sym (front-same x lx)
+            ∙ h .greatest (byte d) (congruence-compatible a d q) (λ x y lx ly t. copied x lx ∙ i x y lx ly t ∙ sym (copied y ly)) x y lx ly t
+            ∙ front-same y ly;
       })
+
+-- ---- the slice afterwards
+
+module _ (a : Algebra) (c : WellFormed a) (lent after : List ℕ) (fits : a .size ≤ length lent) (long : length after ≡ length lent) where
+  -- a map that the first n bytes are
+  pub map-written : (m : Map) → m ≡ take (a .size) after → ((x : ℕ) → a .size ≤ x → byte after x ≡ byte lent x) → after ≡ written m lent
+  map-written m e rest = front-written (a .size) lent after fits long rest ∙ ap (λ (k : Map). written k lent) (sym e)
+
+  pub generated-written : (ps : List ℕ) → Below (a .size) ps → Closed a (JoinsPairs ps) (byte after) → ((x : ℕ) → a .size ≤ x → byte after x ≡ byte lent x)
+      → after ≡ written (generated a ps) lent
+  generated-written ps b h = map-written (generated a ps) (closed-generated a c after (omega arith) ps b h)
+
+  pub extended-written : (x y : ℕ) → x < a .size → y < a .size → Closed a (Extends (a .size) (byte lent) x y) (byte after) → ((z : ℕ) → a .size ≤ z → byte after z ≡ byte lent z)
+      → after ≡ written (extended a (take (a .size) lent) x y) lent
+  extended-written x y lx ly h = map-written (extended a (take (a .size) lent) x y) (closed-extended a c after (omega arith) lent x y lx ly h)
+
+  pub contained-written : (e : Map) → IsMap (a .size) e → (copied : List ℕ) → Filled (a .size) (byte e) (byte lent) (byte copied) → Refined a (byte copied) (byte after)
+      → ((x : ℕ) → a .size ≤ x → byte after x ≡ byte copied x) → after ≡ written (contained a e) lent
+  contained-written e p copied k h rest =
+      map-written (contained a e) (refined-contained a c after (omega arith) e p (byte copied) (k .first) h) (λ x l. rest x l ∙ k .rest x l)
+
+-- ---- the blocks lost
+
+-- merges and blocks left make n
+pub generated-merges : (a : Algebra) → WellFormed a → (after : List ℕ) → a .size ≤ length after → (ps : List ℕ) → Below (a .size) ps → Closed a (JoinsPairs ps) (byte after)
+    → (merges : ℕ) → merges + names (a .size) (byte after) ≡ a .size → merges ≡ a .size - blocks (a .size) (generated a ps)
+generated-merges a c after fits ps b h merges e =
+    rw (closed-generated a c after fits ps b h) (omega (arith, front-blocks (a .size) after))
+
+-- blocks lost and blocks left make the blocks there were
+pub extended-lost : (a : Algebra) → WellFormed a → (before after : List ℕ) → a .size ≤ length after → (x y : ℕ) → x < a .size → y < a .size
+    → Closed a (Extends (a .size) (byte before) x y) (byte after) → (lost : ℕ) → lost + names (a .size) (byte after) ≡ names (a .size) (byte before)
+    → lost + blocks (a .size) (extended a (take (a .size) before) x y) ≡ blocks (a .size) (take (a .size) before)
+extended-lost a c before after fits x y lx ly h lost e =
+    rw (closed-extended a c after fits before x y lx ly h) (omega (arith, front-blocks (a .size) before, front-blocks (a .size) after))

@@ -1,16 +1,31 @@
--- The answer of a service at each of its returns: declined by the algebra's tests, declined by a later test, or granted.
-use mathlib.Core.List.{List, _++_}
-use mathlib.Core.Path.{_≡_, sym}
-use Rattle.equivalence.specs.Refusal.{Test, lowest}
-use Rattle.equivalence.proofs.Refusals.{lowest-append, lowest-failed, passed-append}
+-- The tests of the services: the algebra's and then each other one, where it applies and where it is passed over; and the answer with the lent
+-- bytes, where a test declines and where all pass.
+use Prim.Native.Nat.{ℕ, _≤_, _<_, _%_}
+use mathlib.Core.Bool.{Bool, true, false, not}
+use mathlib.Core.List.{List, [], _∷_, _++_}
+use mathlib.Core.Logic.{inl, inr}
+use mathlib.Core.Path.{_≡_, sym, ap, _∙_}
+use native.Mathlib.Omega.{arith}
+use lib.Dec.{T, eqb, ltb, T-not, not-T, eqb→eq, ltb→lt, lt→ltb}
+use lib.ListN.{length, getD}
+use Rattle.equivalence.specs.Equivalence.{Map, isMap, blocks}
+use Rattle.equivalence.specs.Lists.{every}
+use Rattle.equivalence.specs.Refusal.{Test, lowest, mapTest, spaceTest, written, serve}
+use Rattle.equivalence.proofs.Maps.{isMap-of}
+use Rattle.equivalence.proofs.Refusals.{space-passed, lowest-next, lowest-here, of-passed, lowest-append, lowest-failed, passed-append, serve-passed, serve-failed, of-mapTest, space-refused, of-spaceTest}
+use Rattle.equivalence.proofs.Tests.{T?, or-left, or-right, or-cases, eq→eqb, T-of, not-T-of}
 use Rattle.algebra.specs.Accepted.{algebraTests, Accepted}
-use Rattle.algebra.specs.Algebra.{Algebra}
+use Rattle.algebra.specs.Algebra.{Algebra, cellCount}
+use Rattle.algebra.specs.Congruence.{isCongruence}
+use Rattle.algebra.proofs.Accepted.{every-at}
+use Rattle.congruence.specs.Calls.{pairsTest, elementsTest, equalTest, congruenceTest}
+use Rattle.congruence.proofs.LeastCongruence.{Below}
 use Rattle.equivalence.specs.declared.Refusal.{Refusal}
+use Rattle.equivalence.specs.declared.Refusal.the-variants.{Range, Space, Equal, NotCongruence}
 use Rattle.equivalence.specs.declared.Check.{Check}
 use Rattle.equivalence.specs.declared.Check.the-variants.{Passed, Failed}
-use Rattle.equivalence.specs.declared.Refusal.the-variants.{NotMap, Space, Range, Equal, NotCongruence}
 
--- ---- the tests, one after the other
+-- ---- the algebra's tests, and those behind them
 
 module _ (a : Algebra) (rest : List Test) where
   -- a reason of the algebra's is the call's
@@ -25,3 +40,139 @@ module _ (a : Algebra) (rest : List Test) where
   pub of-checked : Passed ≡ lowest (algebraTests a ++ rest) → Accepted a × (lowest rest ≡ Passed)
   unfolding Accepted
   of-checked e = passed-append (algebraTests a) rest (sym e)
+
+-- where the algebra's tests found nothing, it is accepted
+pub passed-accepted : (a : Algebra) {found : Check} → found ≡ Passed → found ≡ lowest (algebraTests a) → Accepted a
+unfolding Accepted
+passed-accepted a told e = sym e ∙ told
+
+-- ---- 7, of a list of pairs
+
+module _ (n : ℕ) (ps : List ℕ) (rest : List Test) where
+  pub pairs-odd : ¬ (length ps % 2 ≡ 0) → lowest (pairsTest n ps ∷ rest) ≡ Failed Range
+  unfolding pairsTest
+  pairs-odd h = lowest-here (pairsTest n ps) rest (or-left (not (eqb (length ps % 2) 0)) _ (not-T (eqb (length ps % 2) 0) (λ t. h (eqb→eq (length ps % 2) 0 t))))
+
+  pub pairs-refused : {r : Bool} → r ≡ every (λ x. ltb x n) ps → not r ≡ true → lowest (pairsTest n ps ∷ rest) ≡ Failed Range
+  unfolding pairsTest
+  pairs-refused e f = lowest-here (pairsTest n ps) rest (or-right (not (eqb (length ps % 2) 0)) _ (T-of (ap not (sym e) ∙ f)))
+
+  pub pairs-passed : {r : Bool} → length ps % 2 ≡ 0 → r ≡ every (λ x. ltb x n) ps → not r ≡ false → lowest (pairsTest n ps ∷ rest) ≡ lowest rest
+  unfolding pairsTest
+  pairs-passed even e f =
+      lowest-next (pairsTest n ps) rest (λ t. elim (or-cases (not (eqb (length ps % 2) 0)) _ t) [
+        | inl s ↦ absurd (T-not (eqb (length ps % 2) 0) s (eq→eqb (length ps % 2) 0 even))
+        | inr s ↦ absurd (not-T-of (ap not (sym e) ∙ f) s)
+      ])
+
+pub of-pairsTest : (n : ℕ) (ps : List ℕ) → ¬ T (pairsTest n ps .applies) → Below n ps
+unfolding pairsTest
+of-pairsTest n ps t =
+    let all : Bool = every (λ x. ltb x n) ps in
+    elim (T? all) [
+      | yes s ↦ λ i l. ltb→lt (getD ps i 0) n (every-at (λ x. ltb x n) ps s i l)
+      | no s ↦ absurd (t (or-right (not (eqb (length ps % 2) 0)) (not all) (not-T all s)))
+    ]
+
+-- ---- 7, of two elements
+
+module _ (n v w : ℕ) (rest : List Test) where
+  pub first-refused : n ≤ v → lowest (elementsTest n v w ∷ rest) ≡ Failed Range
+  unfolding elementsTest
+  first-refused h = lowest-here (elementsTest n v w) rest (or-left (not (ltb v n)) _ (not-T (ltb v n) (λ t. omega (arith, ltb→lt v n t))))
+
+  pub second-refused : n ≤ w → lowest (elementsTest n v w ∷ rest) ≡ Failed Range
+  unfolding elementsTest
+  second-refused h = lowest-here (elementsTest n v w) rest (or-right (not (ltb v n)) _ (not-T (ltb w n) (λ t. omega (arith, ltb→lt w n t))))
+
+  pub elements-passed : v < n → w < n → lowest (elementsTest n v w ∷ rest) ≡ lowest rest
+  unfolding elementsTest
+  elements-passed h k =
+      lowest-next (elementsTest n v w) rest (λ t. elim (or-cases (not (ltb v n)) _ t) [
+        | inl s ↦ absurd (T-not (ltb v n) s (lt→ltb v n h))
+        | inr s ↦ absurd (T-not (ltb w n) s (lt→ltb w n k))
+      ])
+
+pub of-elementsTest : (n v w : ℕ) → ¬ T (elementsTest n v w .applies) → (v < n) × (w < n)
+unfolding elementsTest
+of-elementsTest n v w t = (
+  elim (T? (ltb v n)) [ yes s ↦ ltb→lt v n s | no s ↦ absurd (t (or-left (not (ltb v n)) _ (not-T (ltb v n) s))) ],
+  elim (T? (ltb w n)) [ yes s ↦ ltb→lt w n s | no s ↦ absurd (t (or-right (not (ltb v n)) _ (not-T (ltb w n) s))) ],
+)
+
+-- ---- 10
+
+module _ (v w : ℕ) (rest : List Test) where
+  pub equal-refused : v ≡ w → lowest (equalTest v w ∷ rest) ≡ Failed Equal
+  unfolding equalTest
+  equal-refused e = lowest-here (equalTest v w) rest (eq→eqb v w e)
+
+  pub equal-passed : ¬ (v ≡ w) → lowest (equalTest v w ∷ rest) ≡ lowest rest
+  unfolding equalTest
+  equal-passed h = lowest-next (equalTest v w) rest (λ t. h (eqb→eq v w t))
+
+pub of-equalTest : (v w : ℕ) → ¬ T (equalTest v w .applies) → ¬ (v ≡ w)
+unfolding equalTest
+of-equalTest v w t e = t (eq→eqb v w e)
+
+-- ---- 12
+
+module _ (a : Algebra) (m : Map) (rest : List Test) where
+  pub congruence-refused : {r : Bool} → r ≡ isCongruence a m → not r ≡ true → lowest (congruenceTest a m ∷ rest) ≡ Failed NotCongruence
+  unfolding congruenceTest
+  congruence-refused e f = lowest-here (congruenceTest a m) rest (T-of (ap not (sym e) ∙ f))
+
+  pub congruence-passed : {r : Bool} → r ≡ isCongruence a m → not r ≡ false → lowest (congruenceTest a m ∷ rest) ≡ lowest rest
+  unfolding congruenceTest
+  congruence-passed e f = lowest-next (congruenceTest a m) rest (not-T-of (ap not (sym e) ∙ f))
+
+-- ---- 9, where a function measured what is wanted
+
+module _ (wanted lent : ℕ) (rest : List Test) {measured : ℕ} (e : measured ≡ wanted) where
+  pub measured-refused : lent < measured → lowest (spaceTest wanted lent ∷ rest) ≡ Failed Space
+  measured-refused h = space-refused wanted lent rest (omega arith)
+
+  pub measured-passed : measured ≤ lent → lowest (spaceTest wanted lent ∷ rest) ≡ lowest rest
+  measured-passed h = space-passed wanted lent rest (omega arith)
+
+-- ---- what a call may rely on once its tests have passed
+
+module _ (a : Algebra) (room : ℕ) where
+  pub of-generateTests : (ps : List ℕ) → Passed ≡ lowest (algebraTests a ++ (pairsTest (a .size) ps ∷ spaceTest (a .size) room ∷ [])) → Accepted a × Below (a .size) ps × (a .size ≤ room)
+  of-generateTests ps e =
+      let p = of-checked a (pairsTest (a .size) ps ∷ spaceTest (a .size) room ∷ []) e in
+      let q = of-passed (pairsTest (a .size) ps) (spaceTest (a .size) room ∷ []) (p .1) in
+      (p .0, of-pairsTest (a .size) ps (q .0), of-spaceTest (a .size) room (of-passed (spaceTest (a .size) room) [] (q .1) .0))
+
+  pub of-containedTests : (m : Map) → Passed ≡ lowest (algebraTests a ++ (mapTest (a .size) m ∷ spaceTest (a .size) room ∷ [])) → Accepted a × T (isMap (a .size) m) × (a .size ≤ room)
+  of-containedTests m e =
+      let p = of-checked a (mapTest (a .size) m ∷ spaceTest (a .size) room ∷ []) e in
+      let q = of-passed (mapTest (a .size) m) (spaceTest (a .size) room ∷ []) (p .1) in
+      (p .0, isMap-of (a .size) m (of-mapTest (a .size) m (q .0)), of-spaceTest (a .size) room (of-passed (spaceTest (a .size) room) [] (q .1) .0))
+
+  pub of-separateTests : (v w : ℕ) → Passed ≡ lowest (algebraTests a ++ (elementsTest (a .size) v w ∷ spaceTest (a .size) room ∷ equalTest v w ∷ []))
+      → Accepted a × ((v < a .size) × (w < a .size)) × (a .size ≤ room) × ¬ (v ≡ w)
+  of-separateTests v w e =
+      let p = of-checked a (elementsTest (a .size) v w ∷ spaceTest (a .size) room ∷ equalTest v w ∷ []) e in
+      let q = of-passed (elementsTest (a .size) v w) (spaceTest (a .size) room ∷ equalTest v w ∷ []) (p .1) in
+      let r = of-passed (spaceTest (a .size) room) (equalTest v w ∷ []) (q .1) in
+      (p .0, of-elementsTest (a .size) v w (q .0), of-spaceTest (a .size) room (r .0), of-equalTest v w (of-passed (equalTest v w) [] (r .1) .0))
+
+  pub of-quotientTests : (m : Map) → Passed ≡ lowest (algebraTests a ++ (mapTest (a .size) m ∷ spaceTest (cellCount (blocks (a .size) m) (a .arities)) room ∷ congruenceTest a m ∷ []))
+      → Accepted a × T (isMap (a .size) m) × (cellCount (blocks (a .size) m) (a .arities) ≤ room)
+  of-quotientTests m e =
+      let wanted : ℕ = cellCount (blocks (a .size) m) (a .arities) in
+      let p = of-checked a (mapTest (a .size) m ∷ spaceTest wanted room ∷ congruenceTest a m ∷ []) e in
+      let q = of-passed (mapTest (a .size) m) (spaceTest wanted room ∷ congruenceTest a m ∷ []) (p .1) in
+      (p .0, isMap-of (a .size) m (of-mapTest (a .size) m (q .0)), of-spaceTest wanted room (of-passed (spaceTest wanted room) (congruenceTest a m ∷ []) (q .1) .0))
+
+-- ---- the answer, and the lent bytes afterwards
+
+module _ {ℓ} {A : Type ℓ} (refused : Refusal → A) (tests : List Test) (answer : A) (new lent : List ℕ) where
+  -- a test declines: nothing is written
+  pub declined : (r : Refusal) → Failed r ≡ lowest tests → (refused r, lent) ≡ serve refused tests answer new lent
+  declined r e = sym (serve-failed refused tests answer new lent r (sym e))
+
+  -- all pass, and the new bytes are written
+  pub granted : {given : A} {after : List ℕ} → Passed ≡ lowest tests → given ≡ answer → after ≡ written new lent → (given, after) ≡ serve refused tests answer new lent
+  granted e f g = rw (f, g) (sym (serve-passed refused tests answer new lent (sym e)))

@@ -1,8 +1,9 @@
 // The tests of each service, by rising number: the first that applies is the answer.
 ghost use mathlib.Core.Path.{_≡_};
 ghost use mathlib.Core.List.{List, [], _∷_, _++_};
-ghost use Prim.Native.Nat.{ℕ, _-_, _*_};
+ghost use Prim.Native.Nat.{ℕ, _-_, _*_, _<_, _≤_};
 ghost use lib.Dec.{ltb};
+ghost use lib.ListN.{length, getD};
 ghost use Rattle.equivalence.specs.Lists.{every};
 ghost use Rattle.equivalence.specs.Equivalence.{blocks};
 ghost use Rattle.equivalence.specs.Refusal.{lowest, mapTest, spaceTest};
@@ -64,7 +65,14 @@ pub fn contained_check(n: usize, arities: &[u8], cells: &[u8], map: &[u8], room:
 }
 
 // Separate's tests.
-pub fn separate_check(n: usize, arities: &[u8], cells: &[u8], v: usize, w: usize, room: usize) -> Check
+pub fn separate_check(
+    n: usize,
+    arities: &[u8],
+    cells: &[u8],
+    v: usize,
+    w: usize,
+    room: usize,
+) -> Check
     ensures { λ r. ⌜ r ≡ lowest (algebraTests (algebraOf n (now (arities .entry)) (now (cells .entry))) ++ (elementsTest n v w ∷ spaceTest n room ∷ equalTest v w ∷ [])) ⌝ }
 {
     let check = algebra::check(n, arities, cells);
@@ -86,6 +94,17 @@ pub fn separate_check(n: usize, arities: &[u8], cells: &[u8], v: usize, w: usize
     Check::Passed
 }
 
+// How many cells the quotient's tables have together.
+fn quotient_cells(n: usize, arities: &[u8], map: &[u8]) -> usize
+    requires { ⌜ n ≤ 64 ⌝ }
+    requires { ⌜ length (now arities) ≤ 16 ⌝ }
+    requires { ⌜ ((i : ℕ) → i < length (now arities) → getD (now arities) i 0 ≤ 3) ⌝ }
+    requires { ⌜ n ≤ length (now map) ⌝ }
+    ensures { λ r. ⌜ r ≡ cellCount (blocks n (now (map .entry))) (now (arities .entry)) ⌝ }
+{
+    algebra::cell_count(equivalence::map::block_count(n, map), arities)
+}
+
 // Quotient's tests. Space is measured by the number of blocks of the given map, whether it is a congruence or not.
 pub fn quotient_check(n: usize, arities: &[u8], cells: &[u8], map: &[u8], room: usize) -> Check
     ensures { λ r. ⌜ r ≡ lowest (algebraTests (algebraOf n (now (arities .entry)) (now (cells .entry))) ++ (mapTest n (now (map .entry)) ∷ spaceTest (cellCount (blocks n (now (map .entry))) (now (arities .entry))) room ∷ congruenceTest (algebraOf n (now (arities .entry)) (now (cells .entry))) (now (map .entry)) ∷ [])) ⌝ }
@@ -97,8 +116,7 @@ pub fn quotient_check(n: usize, arities: &[u8], cells: &[u8], map: &[u8], room: 
     if !equivalence::map::is_map(n, map) {
         return Check::Failed(Refusal::NotMap);
     }
-    let wanted = algebra::cell_count(equivalence::map::block_count(n, map), arities);
-    if room < wanted {
+    if room < quotient_cells(n, arities, map) {
         return Check::Failed(Refusal::Space);
     }
     if !refinement::is_congruence(n, arities, cells, map) {

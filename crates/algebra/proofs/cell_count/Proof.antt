@@ -1,3 +1,4 @@
+-- `cell_count`: the sum is where table number j begins.
 use Prim.Native.Nat.{_-_, _≤_}
 use mathlib.Core.Path.{_≡_, sym, _∙_}
 use native.Mathlib.Omega.{arith}

@@ -1,3 +1,4 @@
+-- `check`: at each return the tests before it have passed, and this one applies; at the last none does.
 use mathlib.Core.Path.{sym, _∙_}
 use mathlib.Core.Logic.{inl, inr}
 use native.Mathlib.Omega.{arith}

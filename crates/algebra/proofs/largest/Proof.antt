@@ -1,3 +1,4 @@
+-- `largest`: the largest of the bytes passed, one byte more in each turn.
 use Prim.Native.Nat.{_-_, _≤_}
 use mathlib.Core.Path.{_≡_}
 use native.Mathlib.Omega.{arith}

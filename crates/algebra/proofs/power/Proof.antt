@@ -1,3 +1,4 @@
+-- `power`: r is n to the power i; it stays below 64 to the power 3.
 use Prim.Native.Nat.{_+_, _*_, _-_, _≤_, _^_}
 use mathlib.Core.Path.{_≡_, refl, sym, ap}
 use native.Mathlib.Omega.{arith}

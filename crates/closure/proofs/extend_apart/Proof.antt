@@ -1,3 +1,4 @@
+-- `extend_apart`: a try, and whether v and w are apart after it.
 use native.Mathlib.Omega.{arith}
 use borrow.Author.Needs.{needs}
 use Rattle.algebra.proofs.Accepted.{accepted-wellFormed}

@@ -1,3 +1,4 @@
+-- `extend_congruence`: a try that nothing stops.
 use mathlib.Core.Path.{refl}
 use native.Mathlib.Omega.{arith}
 use borrow.Author.Needs.{needs}

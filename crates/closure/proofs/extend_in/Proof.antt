@@ -1,3 +1,4 @@
+-- `extend_in`: above the identity, with the elements that are no names queued and the pair joined, to the end of the queue.
 use mathlib.Core.Path.{refl, _∙_}
 use mathlib.Core.Logic.{inl, inr}
 use native.Mathlib.Omega.{arith}

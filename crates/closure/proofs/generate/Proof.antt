@@ -1,3 +1,4 @@
+-- `generate`: 64 bytes are room enough.
 use native.Mathlib.Omega.{arith}
 use borrow.Author.Needs.{needs}
 use Rattle.algebra.proofs.Accepted.{accepted-wellFormed}

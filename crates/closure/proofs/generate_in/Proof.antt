@@ -1,3 +1,4 @@
+-- `generate_in`: above the identity, with the pairs joined, to the end of the queue.
 use Prim.Native.Nat.{_+_, _*_}
 use mathlib.Core.Path.{refl, _∙_}
 use native.Mathlib.Omega.{arith}

@@ -1,3 +1,4 @@
+-- `try_in`: above the congruence itself, with its names in use and only the pair joined, to the end of the queue or to the stop.
 use mathlib.Core.Path.{refl, _∙_}
 use native.Mathlib.Omega.{arith}
 use borrow.Author.Needs.{needs}

@@ -1,3 +1,4 @@
+-- `join`: nothing is done, or a merge with its push.
 use mathlib.Core.Path.{_≡_}
 use borrow.Author.Needs.{needs}
 use Rattle.closure.proofs.Queues.{grown-none, pushed-grown}

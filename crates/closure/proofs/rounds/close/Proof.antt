@@ -1,3 +1,4 @@
+-- `close`: the first k of the queue are dealt with (`Running`); at the end of the queue the map is compatible.
 use Prim.Native.Nat.{_-_, _≤_, _<_}
 use mathlib.Core.Path.{_≡_, refl, _∙_}
 use native.Mathlib.Omega.{arith}

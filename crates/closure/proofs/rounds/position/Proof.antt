@@ -1,3 +1,4 @@
+-- `position`: only its bound is kept; the byte was seen where it returns early.
 use Prim.Native.Nat.{_-_, _≤_}
 use native.Mathlib.Omega.{arith}
 use Rattle.closure.proofs.rounds.position.Statement.{statement}

@@ -1,3 +1,4 @@
+-- `retire`: nothing is taken out, or the last takes the place.
 use borrow.Author.Needs.{needs}
 use Rattle.algebra.specs.Translations.{result}
 use Rattle.closure.proofs.Closings.{retired-none, retired-swap}

@@ -1,3 +1,4 @@
+-- `names`: the names among the elements passed are collected.
 use Prim.Native.Nat.{_-_, _≤_}
 use mathlib.Core.Path.{_≡_, refl, _∙_}
 use native.Mathlib.Omega.{arith}

@@ -1,3 +1,4 @@
+-- `others`: the elements passed that are no names are collected.
 use Prim.Native.Nat.{_-_, _≤_}
 use mathlib.Core.Path.{_≡_, refl, _∙_}
 use mathlib.Core.Bool.{not}

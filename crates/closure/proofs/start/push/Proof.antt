@@ -1,3 +1,4 @@
+-- `push`: the element is put behind the list, or not.
 use borrow.Author.Needs.{needs}
 use borrow.Author.Tests.{not-true, not-false}
 use Rattle.closure.proofs.Collections.{pushed-not, pushed-yes}

@@ -1,3 +1,4 @@
+-- `seed`: the pairs passed are joined, and everything that joins all pairs has made the merges.
 use Prim.Native.Nat.{ℕ, _+_, _*_, _-_, _≤_, _<_, _/_}
 use mathlib.Core.Path.{_≡_, refl}
 use native.Mathlib.Omega.{arith}

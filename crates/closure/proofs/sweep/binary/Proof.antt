@@ -1,3 +1,4 @@
+-- `binary`: the two lines of a table, one after the other.
 use native.Mathlib.Omega.{arith}
 use Rattle.closure.proofs.Queues.{grown-more, grown-first, ready-grown}
 use Rattle.closure.proofs.Sweeps.{line-kept, binary-fits, binary-place}

@@ -1,3 +1,4 @@
+-- `halted`: each way to true is one of the two reasons to stop.
 use Prim.Native.Nat.{ℕ}
 use mathlib.Core.Path.{_≡_}
 use mathlib.Core.Logic.{inl, inr}

@@ -1,3 +1,4 @@
+-- `line`: the places passed are joined, and everything that joins all of them has made the merges.
 use Prim.Native.Nat.{_-_, _≤_}
 use native.Mathlib.Omega.{arith}
 use Rattle.closure.proofs.Queues.{Since, since-none, since-ready, since-more}

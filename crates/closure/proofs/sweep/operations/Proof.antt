@@ -1,3 +1,4 @@
+-- `operations`: the images under the operations passed are joined, unless v and w are.
 use Prim.Native.Nat.{_-_, _≤_}
 use mathlib.Core.Path.{_≡_, sym}
 use native.Mathlib.Omega.{arith}

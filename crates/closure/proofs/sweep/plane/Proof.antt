@@ -1,3 +1,4 @@
+-- `plane`: the lines passed are joined, unless v and w are; an early end is one with a single block, or with v and w joined.
 use Prim.Native.Nat.{ℕ, _+_, _*_, _-_, _≤_, _<_}
 use native.Mathlib.Omega.{arith}
 use Rattle.closure.proofs.Queues.{Since, since-none, since-ready, since-more}

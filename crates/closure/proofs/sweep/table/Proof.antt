@@ -1,3 +1,4 @@
+-- `table`: the arity decides which lines or planes there are.
 use Prim.Native.Nat.{ℕ}
 use mathlib.Core.Path.{_≡_, subst}
 use native.Mathlib.Omega.{arith}

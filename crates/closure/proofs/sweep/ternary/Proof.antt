@@ -1,3 +1,4 @@
+-- `ternary`: the three planes of a table, one after the other.
 use mathlib.Core.Path.{_∙_}
 use native.Mathlib.Omega.{arith}
 use native.Mathlib.Nat.{mul-le-mul-right}
