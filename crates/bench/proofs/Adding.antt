@@ -1,6 +1,6 @@
 -- Add and Clear as a whole: a call is accepted, with what its tests leave, or it is refused; an accepted Add gives the least congruence, and
--- the closure's promise gives Add's definition.
-use Prim.Native.Nat.{ℕ, _+_, _≤_, _<_}
+-- the steps by which Add is made give its definition.
+use Prim.Native.Nat.{ℕ, _+_, _<_}
 use mathlib.Core.List.{List, [], _∷_, _++_}
 use mathlib.Core.Logic.{_⊎_, inl, inr}
 use mathlib.Core.Path.{_≡_, ap, sym, _∙_}
@@ -8,21 +8,18 @@ use native.Mathlib.Omega.{arith}
 use lib.Dec.{T}
 use lib.ListN.{length, take}
 use Rattle.equivalence.specs.Equivalence.{Map, byte, isMap, identity, blocks}
-use Rattle.equivalence.specs.Kernel.{Canonical, names}
-use Rattle.equivalence.specs.Refusal.{lowest}
-use Rattle.equivalence.proofs.Bytes.{names-blocks, names-le}
-use Rattle.equivalence.proofs.Kernels.{names-same}
+use Rattle.equivalence.specs.Kernel.{Canonical}
+use Rattle.equivalence.specs.Refusal.{lowest, written}
+use Rattle.equivalence.proofs.BlockNumbers.{blocks-le}
 use Rattle.equivalence.proofs.Maps.{identity-map, of-isMap, holds-of, of-holds, inside-of, of-inside}
 use Rattle.equivalence.specs.declared.Check.the-variants.{Passed}
 use Rattle.equivalence.specs.declared.Refusal.{Refusal}
 use Rattle.algebra.specs.Accepted.{Accepted}
 use Rattle.algebra.specs.Algebra.{Algebra}
-use Rattle.algebra.specs.Translations.{Closed}
 use Rattle.algebra.proofs.Accepted.{accepted-wellFormed}
 use Rattle.algebra.proofs.Congruences.{congruence-is, congruence-of}
-use Rattle.closure.specs.Starts.{Extends}
 use Rattle.congruence.specs.Extremal.{extended}
-use Rattle.congruence.proofs.Bridges.{front-byte, front-written, closed-extended}
+use Rattle.congruence.proofs.Bridges.{front-byte}
 use Rattle.congruence.proofs.Extension.{LeastAbove, extended-law}
 use Rattle.bench.specs.Calls.{tallyTest, benched, addTests, clearTests, mapByAdd, lostByAdd, addCall, clearCall}
 use Rattle.bench.specs.Growth.{MapGrown, SheetGrown}
@@ -86,30 +83,12 @@ front-canonical n l t =
           sym (front-byte n l (byte l x) k) ∙ (rw (front-byte n l x h) at (p .named x h));
     }
 
--- the closure's promise, in kernels, is the definition's map; the blocks lost are the names lost
-pub closed-grown : (a : Algebra) → Accepted a → (x y : ℕ) → x < a .size → y < a .size → (old new : List ℕ) (lost : ℕ) → length old ≡ 64 → length new ≡ 64
-    → Closed a (Extends (a .size) (byte old) x y) (byte new) → lost + names (a .size) (byte new) ≡ names (a .size) (byte old)
-    → ((z : ℕ) → a .size ≤ z → byte new z ≡ byte old z) → MapGrown a x y old new lost
+-- a map extended in its bytes: the blocks that it cost are those lost, and they are few
+pub map-grown : (a : Algebra) → Accepted a → (x y : ℕ) (old new : List ℕ) (lost : ℕ) → new ≡ written (extended a (take (a .size) old) x y) old
+    → lost + blocks (a .size) (extended a (take (a .size) old) x y) ≡ blocks (a .size) (take (a .size) old) → MapGrown a x y old new lost
 unfolding blocksLost
-closed-grown a ok x y lx ly old new lost e f h c rest =
-    let n : ℕ = a .size in
-    let w = accepted-wellFormed a ok in
-    let fits : n ≤ 64 = w .most in
-    let m : extended a (take n old) x y ≡ take n new =
-    closed-extended a w new (omega arith) (take n old) x y lx ly
-    (record {
-      canonical = h .canonical;
-      compatible = h .compatible;
-      good = (λ p q lp lq s. h .good .0 p q lp lq (sym (front-byte n old p lp) ∙ s ∙ front-byte n old q lq), h .good .1);
-      least = λ g k i. h .least g k (λ p q lp lq s. i .0 p q lp lq (front-byte n old p lp ∙ s ∙ sym (front-byte n old q lq)), i .1);
-    }) in
-    let before : blocks n (take n old) ≡ names n (byte old) = sym (names-blocks n (take n old)) ∙ names-same n (byte (take n old)) (byte old) (front-byte n old) in
-    let after : blocks n (take n new) ≡ names n (byte new) = sym (names-blocks n (take n new)) ∙ names-same n (byte (take n new)) (byte new) (front-byte n new) in
-    record {
-      bytes = rw m (front-written n old new (omega arith) (omega arith) rest);
-      blocks = rw (m, before, after) (omega arith);
-      few = omega (arith, names-le n (byte old));
-    }
+map-grown a ok x y old new lost e c =
+    record { bytes = e; blocks = omega arith; few = omega (arith, blocks-le (a .size) (take (a .size) old), accepted-wellFormed a ok .most) }
 
 pub grown-call : (b : Bench) (a : Algebra) (k x y : ℕ) → lowest (addTests b a k x y) ≡ Passed → (old new : Sheet) (lost : ℕ) → old ≡ sheetOf b k → SheetGrown a x y old new lost
     → benched (tallyTest (b .tally + lost) ∷ []) (raisedBy lost (withSheet b k new)) b ≡ addCall b a k x y

@@ -76,28 +76,28 @@ module _ (b : Bench) (a : Algebra) (k x y : ℕ) (eight : length (b .sheets) ≡
       elim (add-cases b a k x y) [
         | inl p ↦ add-accepted (p .0) (p .1)
         | inr p ↦ record {
-            refused = λ reason f. ap (λ (r : Benched). r .bench) (p .1);
-            only = add-only b a k x y;
-            least = λ f. absurd (never-done _ b (p .0) (p .1) f);
-            tally = λ f. absurd (never-done _ b (p .0) (p .1) f);
-          }
+          refused = λ reason f. ap (λ (r : Benched). r .bench) (p .1);
+          only = add-only b a k x y;
+          least = λ f. absurd (never-done _ b (p .0) (p .1) f);
+          tally = λ f. absurd (never-done _ b (p .0) (p .1) f);
+        }
       ]
 
 pub clear-promise : (b : Bench) (k : ℕ) → length (b .sheets) ≡ 8 → ClearPromise b k
 clear-promise b k eight =
     elim (clear-cases b k) [
       | inl p ↦ record {
-          refused = λ reason f. absurd (never-refused _ _ (p .1) reason f);
-          only = clear-only b k .0;
-          map = λ f. rw (p .1) (cleared-map b k (p .0) eight);
-          tally = clear-only b k .1;
-        }
+        refused = λ reason f. absurd (never-refused _ _ (p .1) reason f);
+        only = clear-only b k .0;
+        map = λ f. rw (p .1) (cleared-map b k (p .0) eight);
+        tally = clear-only b k .1;
+      }
       | inr p ↦ record {
-          refused = λ reason f. ap (λ (r : Benched). r .bench) (p .1);
-          only = clear-only b k .0;
-          map = λ f. absurd (never-done _ b (p .0) (p .1) f);
-          tally = clear-only b k .1;
-        }
+        refused = λ reason f. ap (λ (r : Benched). r .bench) (p .1);
+        only = clear-only b k .0;
+        map = λ f. absurd (never-done _ b (p .0) (p .1) f);
+        tally = clear-only b k .1;
+      }
     ]
 
 -- every sheet of a fresh bench
@@ -121,13 +121,13 @@ unfolding startCall freshBench zeroBench
 start-promise n =
     elim (benched-cases (sizeTest n ∷ []) (freshBench n) zeroBench) [
       | inl p ↦ record {
-          maps = λ f k l. rw (p .1, fresh-sheet n k l) (mapOn-redrawn n (identity n) zeroSheet (identity-map n .long));
-          zeros = λ f k l x h. rw (p .1, fresh-sheet n k l) (fresh-zeros n x (size-passed n [] (p .0) .1) h);
-          tally = rw (p .1);
-        }
+        maps = λ f k l. rw (p .1, fresh-sheet n k l) (mapOn-redrawn n (identity n) zeroSheet (identity-map n .long));
+        zeros = λ f k l x h. rw (p .1, fresh-sheet n k l) (fresh-zeros n x (size-passed n [] (p .0) .1) h);
+        tally = rw (p .1);
+      }
       | inr p ↦ record {
-          maps = λ f. absurd (never-done _ zeroBench (p .0) (p .1) f);
-          zeros = λ f. absurd (never-done _ zeroBench (p .0) (p .1) f);
-          tally = rw (p .1);
-        }
+        maps = λ f. absurd (never-done _ zeroBench (p .0) (p .1) f);
+        zeros = λ f. absurd (never-done _ zeroBench (p .0) (p .1) f);
+        tally = rw (p .1);
+      }
     ]

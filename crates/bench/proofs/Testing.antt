@@ -76,9 +76,10 @@ no-not false h = absurd (h tt)
 pub size-passed : (n : ℕ) (rest : List Test) → lowest (sizeTest n ∷ rest) ≡ Passed → (1 ≤ n) × (n ≤ 64)
 unfolding sizeTest
 size-passed n rest e =
-    let h = of-passed _ _ e .0 in
-    (elim (ℕ-discrete n 0) [ yes z ↦ absurd (no-or-left (eqb n 0) (ltb 64 n) h (eq→eqb n 0 z)) | no z ↦ omega arith ],
-    elim (decLt 64 n) [ yes z ↦ absurd (no-or-right (eqb n 0) (ltb 64 n) h (lt→ltb 64 n z)) | no z ↦ omega arith ])
+    let h = of-passed _ _ e .0 in (
+      elim (ℕ-discrete n 0) [ yes z ↦ absurd (no-or-left (eqb n 0) (ltb 64 n) h (eq→eqb n 0 z)) | no z ↦ omega arith ],
+      elim (decLt 64 n) [ yes z ↦ absurd (no-or-right (eqb n 0) (ltb 64 n) h (lt→ltb 64 n z)) | no z ↦ omega arith ],
+    )
 
 -- 1 does not apply: n is small
 pub size-small : (n : ℕ) → sizeTest n .applies ≡ false → n ≤ 64
@@ -91,9 +92,10 @@ sheet-passed k h = elim (decLt 7 k) [ yes z ↦ absurd (h (lt→ltb 7 k z)) | no
 
 elements-passed : (n x y : ℕ) → ¬ T (elementsTest n x y .applies) → (x < n) × (y < n)
 unfolding elementsTest
-elements-passed n x y h =
-    (ltb→lt x n (no-not (ltb x n) (no-or-left (not (ltb x n)) (not (ltb y n)) h)),
-    ltb→lt y n (no-not (ltb y n) (no-or-right (not (ltb x n)) (not (ltb y n)) h)))
+elements-passed n x y h = (
+  ltb→lt x n (no-not (ltb x n) (no-or-left (not (ltb x n)) (not (ltb y n)) h)),
+  ltb→lt y n (no-not (ltb y n) (no-or-right (not (ltb x n)) (not (ltb y n)) h)),
+)
 
 -- the bench is over n and every sheet has a map
 pub record Drawn (b : Bench) (n : ℕ) : Type 0 where

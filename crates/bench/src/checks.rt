@@ -5,11 +5,10 @@ ghost use Prim.Native.Nat.{ℕ, _<_, _≤_};
 ghost use Rattle.equivalence.specs.Refusal.{lowest, sizeTest};
 ghost use Rattle.algebra.specs.Algebra.{algebraOf};
 ghost use Rattle.bench.specs.Calls.{benchTest, clearTests, placeTests, addTests};
-
-use equivalence::Check;
-use equivalence::Refusal;
 use super::Bench;
 use super::sheets;
+use equivalence::Check;
+use equivalence::Refusal;
 
 const SHEETS: usize = 8;
 
@@ -70,7 +69,15 @@ fn place_check(bench: Bench, n: usize, sheet: usize, x: usize, y: usize) -> Chec
 }
 
 // Add's but for 13, which needs the congruence.
-pub fn add_check(bench: Bench, n: usize, arities: &[u8], cells: &[u8], sheet: usize, x: usize, y: usize) -> Check
+pub fn add_check(
+    bench: Bench,
+    n: usize,
+    arities: &[u8],
+    cells: &[u8],
+    sheet: usize,
+    x: usize,
+    y: usize,
+) -> Check
     ensures { λ r. ⌜ r ≡ lowest (addTests bench (algebraOf n (now (arities .entry)) (now (cells .entry))) sheet x y) ⌝ }
 {
     let check = algebra::check(n, arities, cells);

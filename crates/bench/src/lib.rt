@@ -8,7 +8,6 @@ ghost use Rattle.equivalence.specs.declared.Check.the-variants.{Passed};
 ghost use Rattle.algebra.specs.Algebra.{algebraOf};
 ghost use Rattle.bench.specs.State.{withSheet, raisedBy};
 ghost use Rattle.bench.specs.Calls.{tallyTest, benched, startCall, addTests, addCall, clearCall};
-
 use equivalence::Check;
 use equivalence::Refusal;
 
@@ -46,8 +45,14 @@ pub fn start(n: usize) -> Benched
 {
     let check = checks::size_check(n);
     match check {
-        Check::Failed(reason) => Benched { answer: Answer::Refused(reason), bench: sheets::zeros() },
-        Check::Passed => Benched { answer: Answer::Done, bench: sheets::fresh(n) },
+        Check::Failed(reason) => Benched {
+            answer: Answer::Refused(reason),
+            bench: sheets::zeros(),
+        },
+        Check::Passed => Benched {
+            answer: Answer::Done,
+            bench: sheets::fresh(n),
+        },
     }
 }
 
@@ -59,16 +64,30 @@ fn raised(bench: Bench, k: usize, sheet: Sheet, lost: usize) -> Benched
 {
     let total = bench.tally as u64 + lost as u64;
     if total > MAX_TALLY {
-        return Benched { answer: Answer::Refused(Refusal::Tally), bench };
+        return Benched {
+            answer: Answer::Refused(Refusal::Tally),
+            bench,
+        };
     }
     let mut next = bench;
     next.sheets[k] = sheet;
     next.tally = total as u32;
-    Benched { answer: Answer::Done, bench: next }
+    Benched {
+        answer: Answer::Done,
+        bench: next,
+    }
 }
 
 // Add where none of reasons 1 to 8 applies.
-fn extend(bench: Bench, n: usize, arities: &[u8], cells: &[u8], k: usize, x: usize, y: usize) -> Benched
+fn extend(
+    bench: Bench,
+    n: usize,
+    arities: &[u8],
+    cells: &[u8],
+    k: usize,
+    x: usize,
+    y: usize,
+) -> Benched
     requires { ⌜ lowest (addTests bench (algebraOf n (now arities) (now cells)) k x y) ≡ Passed ⌝ }
     ensures { λ r. ⌜ r ≡ addCall bench (algebraOf n (now (arities .entry)) (now (cells .entry))) k x y ⌝ }
 {
@@ -80,12 +99,23 @@ fn extend(bench: Bench, n: usize, arities: &[u8], cells: &[u8], k: usize, x: usi
 }
 
 // The sheet becomes the least congruence of the algebra that holds its old map and the pair; the tally rises by the blocks lost.
-pub fn add(bench: Bench, n: usize, arities: &[u8], cells: &[u8], sheet: usize, x: usize, y: usize) -> Benched
+pub fn add(
+    bench: Bench,
+    n: usize,
+    arities: &[u8],
+    cells: &[u8],
+    sheet: usize,
+    x: usize,
+    y: usize,
+) -> Benched
     ensures { λ r. ⌜ r ≡ addCall bench (algebraOf n (now (arities .entry)) (now (cells .entry))) sheet x y ⌝ }
 {
     let check = checks::add_check(bench, n, arities, cells, sheet, x, y);
     match check {
-        Check::Failed(reason) => Benched { answer: Answer::Refused(reason), bench },
+        Check::Failed(reason) => Benched {
+            answer: Answer::Refused(reason),
+            bench,
+        },
         Check::Passed => extend(bench, n, arities, cells, sheet, x, y),
     }
 }
@@ -96,7 +126,13 @@ pub fn clear(bench: Bench, sheet: usize) -> Benched
 {
     let check = checks::clear_check(bench, sheet);
     match check {
-        Check::Failed(reason) => Benched { answer: Answer::Refused(reason), bench },
-        Check::Passed => Benched { answer: Answer::Done, bench: sheets::cleared(bench, sheet) },
+        Check::Failed(reason) => Benched {
+            answer: Answer::Refused(reason),
+            bench,
+        },
+        Check::Passed => Benched {
+            answer: Answer::Done,
+            bench: sheets::cleared(bench, sheet),
+        },
     }
 }

@@ -10,7 +10,6 @@ ghost use Rattle.algebra.specs.Algebra.{algebraOf};
 ghost use Rattle.algebra.specs.Accepted.{Accepted};
 ghost use Rattle.bench.specs.State.{mapOn, redrawn, noSheet, zeroSheet, zeroBench, freshBench, withMap};
 ghost use Rattle.bench.specs.Growth.{MapGrown, SheetGrown};
-
 use super::Bench;
 use super::Sheet;
 
@@ -25,7 +24,11 @@ pub fn zeros() -> Bench
     ensures { λ r. ⌜ r ≡ zeroBench ⌝ }
 {
     let sheet = zero_sheet();
-    Bench { n: 0, tally: 0, sheets: [sheet; 8] }
+    Bench {
+        n: 0,
+        tally: 0,
+        sheets: [sheet; 8],
+    }
 }
 
 fn draw_identity(map: &mut [u8; 64], n: usize)
@@ -52,7 +55,11 @@ pub fn fresh(n: usize) -> Bench
 {
     let zero = zero_sheet();
     let sheet = identity_sheet(zero, n);
-    Bench { n, tally: 0, sheets: [sheet; 8] }
+    Bench {
+        n,
+        tally: 0,
+        sheets: [sheet; 8],
+    }
 }
 
 // The bench with the identity on one sheet.
@@ -109,14 +116,21 @@ pub struct Grown {
 }
 
 // The first n bytes, a map, become the least congruence that holds the map and the pair. Gives how many blocks fewer that has.
-fn extend_map(map: &mut [u8; 64], n: usize, arities: &[u8], cells: &[u8], x: usize, y: usize) -> usize
+fn extend_map(
+    map: &mut [u8; 64],
+    n: usize,
+    arities: &[u8],
+    cells: &[u8],
+    x: usize,
+    y: usize,
+) -> usize
     requires { ⌜ Accepted (algebraOf n (now arities) (now cells)) ⌝ }
     requires { ⌜ T (isMap n (take n (now map))) ⌝ }
     requires { ⌜ x < n ⌝ }
     requires { ⌜ y < n ⌝ }
     ensures { λ r. ⌜ MapGrown (algebraOf n (now (arities .entry)) (now (cells .entry))) x y (now (map .entry)) (now (map .exit)) r ⌝ }
 {
-    closure::extend(map, n, arities, cells, x, y)
+    congruence::extremal::extended_into(map, n, arities, cells, x, y)
 }
 
 // The sheet with the least congruence of the algebra that holds its map and the pair.
@@ -129,5 +143,8 @@ pub fn extended(sheet: Sheet, n: usize, arities: &[u8], cells: &[u8], x: usize, 
 {
     let mut map = sheet.map;
     let lost = extend_map(&mut map, n, arities, cells, x, y);
-    Grown { sheet: Sheet { map }, lost }
+    Grown {
+        sheet: Sheet { map },
+        lost,
+    }
 }

@@ -118,7 +118,11 @@ fn forged(map: [u8; 64], tally: u32) -> Bench {
     let fresh = made.bench;
     let mut sheets = fresh.sheets;
     sheets[5] = Sheet { map };
-    Bench { n: 4, tally, sheets }
+    Bench {
+        n: 4,
+        tally,
+        sheets,
+    }
 }
 
 // 0 1 2 3, or 0 2 2 3, which is no map.

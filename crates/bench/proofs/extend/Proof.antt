@@ -11,7 +11,7 @@ nth-requires c κs = add-passed _ _ _ _ _ (c .before .before .before .pre) .plac
 
 extended-requires : tie.Need-extended-requires
 unfolding sheetOf
-extended-requires c κs = 
+extended-requires c κs =
     let p = add-passed _ _ _ _ _ (c .before .before .before .before .pre) in
     (p .accepted, (rw (c .nth .ensures .0) (p .placed .drawn .map _ (c .nth .ensures .1)), (p .placed .first, p .placed .second)))
 
