@@ -5,6 +5,7 @@ use mathlib.Core.Path.{_≡_, refl}
 use Rattle.equivalence.specs.Equivalence.{Map, isMap, holds, inside, roots, blocks, mapOf, identity, maps, best}
 use Rattle.equivalence.specs.Lists.{upTo, every, keep, first, concat}
 use Rattle.equivalence.specs.Refusal.{lowest, sizeTest, answered, written}
+use Rattle.equivalence.specs.declared.Refusal.the-variants.{Size, Range, NotMap, Tally}
 use Rattle.algebra.specs.Accepted.{algebraTests}
 use Rattle.algebra.specs.Algebra.{Algebra, algebraOf, cellCount, operationsOf, operations, arguments, place, value}
 use Rattle.algebra.specs.Congruence.{respects, isCongruence, congruences}
@@ -12,11 +13,8 @@ use Rattle.congruence.specs.Calls.{elementsTest}
 use Rattle.congruence.specs.Extremal.{extended}
 use Rattle.bench.specs.Calls.{sheetTest, benchTest, tallyTest, benched, startCall, mapByAdd, lostByAdd, placeTests, addTests, addCall, clearTests, clearCall}
 use Rattle.bench.specs.State.{mapOn, redrawn, zeroSheet, zeroBench, freshBench, sheetOf, withSheet, withMap, raisedBy, blocksLost}
-use Rattle.equivalence.specs.declared.Refusal.the-variants.{Size, Range, NotMap, Tally}
-use Rattle.bench.specs.declared.Answer.{Answer}
 use Rattle.bench.specs.declared.Answer.the-variants.{Done, Refused}
 use Rattle.bench.specs.declared.Bench.{Bench}
-use Rattle.bench.specs.declared.Benched.{Benched}
 
 -- n elements without operations, and one unary operation on three elements that takes 0 to 1, 1 to 2 and 2 to 2
 abbrev bare : ℕ → Algebra

@@ -1,3 +1,4 @@
+
 pub mod Drawing
 pub mod Testing
 pub mod Adding

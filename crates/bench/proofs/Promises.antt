@@ -5,7 +5,7 @@ use mathlib.Core.List.{[], _∷_}
 use mathlib.Core.Logic.{inl, inr}
 use mathlib.Core.Path.{_≡_, refl, sym, ap, _∙_}
 use native.Mathlib.Omega.{arith}
-use lib.ListN.{length, getD, replicate, getD-replicate}
+use lib.ListN.{length, replicate, getD-replicate}
 use Rattle.equivalence.specs.Equivalence.{Map, byte, identity}
 use Rattle.equivalence.specs.Refusal.{sizeTest}
 use Rattle.equivalence.proofs.Maps.{identity-map}
