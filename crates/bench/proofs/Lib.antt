@@ -1,4 +1,3 @@
-
 pub mod Drawing
 pub mod Testing
 pub mod Adding
