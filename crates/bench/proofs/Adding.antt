@@ -1,0 +1,110 @@
+-- Add and Clear as a whole: a call is accepted, with what its tests leave, or it is refused; an accepted Add gives the least congruence, and
+-- the steps by which Add is made give its definition.
+use Prim.Native.Nat.{ℕ, _+_, _<_}
+use mathlib.Core.List.{List, [], _∷_, _++_}
+use mathlib.Core.Logic.{_⊎_, inl, inr}
+use mathlib.Core.Path.{_≡_, ap, sym, _∙_}
+use native.Mathlib.Omega.{arith}
+use lib.Dec.{T}
+use lib.ListN.{length, take}
+use Rattle.equivalence.specs.Equivalence.{Map, byte, isMap, identity, blocks}
+use Rattle.equivalence.specs.Kernel.{Canonical}
+use Rattle.equivalence.specs.Refusal.{lowest, written}
+use Rattle.equivalence.proofs.BlockNumbers.{blocks-le}
+use Rattle.equivalence.proofs.Maps.{identity-map, of-isMap, holds-of, of-holds, inside-of, of-inside}
+use Rattle.equivalence.specs.declared.Check.the-variants.{Passed}
+use Rattle.equivalence.specs.declared.Refusal.{Refusal}
+use Rattle.algebra.specs.Accepted.{Accepted}
+use Rattle.algebra.specs.Algebra.{Algebra}
+use Rattle.algebra.proofs.Accepted.{accepted-wellFormed}
+use Rattle.algebra.proofs.Congruences.{congruence-is, congruence-of}
+use Rattle.congruence.specs.Extremal.{extended}
+use Rattle.congruence.proofs.Bridges.{front-byte}
+use Rattle.congruence.proofs.Extension.{LeastAbove, extended-law}
+use Rattle.bench.specs.Calls.{tallyTest, benched, addTests, clearTests, mapByAdd, lostByAdd, addCall, clearCall}
+use Rattle.bench.specs.Growth.{MapGrown, SheetGrown}
+use Rattle.bench.specs.Promises.{LeastExtension}
+use Rattle.bench.specs.State.{mapOn, sheetOf, withSheet, withMap, raisedBy, blocksLost}
+use Rattle.bench.proofs.Drawing.{mapOn-redrawn, withMap-same}
+use Rattle.bench.proofs.Testing.{done, refused, benched-cases, benched-append, passed-append, Clearable, clear-passed, Addable, add-passed}
+use Rattle.bench.specs.declared.Bench.{Bench}
+use Rattle.bench.specs.declared.Sheet.{Sheet}
+
+module _ (b : Bench) (a : Algebra) (k x y : ℕ) where
+  -- the bench after an accepted Add
+  abbrev pub afterAdd : Bench
+  afterAdd = raisedBy (lostByAdd b a k x y) (withMap b k (mapByAdd b a k x y))
+
+  pub add-cases : (Addable b a k x y × (addCall b a k x y ≡ done afterAdd)) ⊎ ((r : Refusal) × (addCall b a k x y ≡ refused r b))
+  unfolding addCall
+  add-cases =
+      elim (benched-cases (addTests b a k x y ++ (tallyTest (b .tally + lostByAdd b a k x y) ∷ [])) afterAdd b) [
+        | inl p ↦ inl (add-passed b a k x y (passed-append (addTests b a k x y) _ (p .0) .0), p .1)
+        | inr p ↦ inr p
+      ]
+
+  module _ (p : Addable b a k x y) where
+    above : LeastAbove a (mapOn (a .size) (sheetOf b k)) (x, y) (mapByAdd b a k x y)
+    unfolding mapByAdd
+    above = extended-law a (accepted-wellFormed a (p .accepted)) (mapOn (a .size) (sheetOf b k)) x y (p .placed .first) (p .placed .second)
+
+    pub added-length : length (mapByAdd b a k x y) ≡ a .size
+    added-length = above .cong .map .long
+
+    -- sheet k of the bench after it
+    pub afterAdd-map : length (b .sheets) ≡ 8 → mapOn (b .n) (sheetOf afterAdd k) ≡ mapByAdd b a k x y
+    unfolding raisedBy sheetOf
+    afterAdd-map eight =
+        ap (mapOn (b .n)) (withMap-same b k (mapByAdd b a k x y) (omega (arith, eight, p .placed .sheet)))
+        ∙ mapOn-redrawn (b .n) (mapByAdd b a k x y) (sheetOf b k) (added-length ∙ sym (p .placed .drawn .size))
+
+    -- demand 2 for Add
+    pub added-least : LeastExtension a (mapOn (a .size) (sheetOf b k)) x y (mapByAdd b a k x y)
+    added-least =
+        let old : Map = mapOn (a .size) (sheetOf b k) in
+        let new : Map = mapByAdd b a k x y in
+        record {
+          congruence = congruence-of a new (above .cong);
+          larger = inside-of (a .size) old new (above .larger);
+          pair = holds-of new x y (above .new);
+          least = λ c q h e. inside-of (a .size) new c (above .least c (congruence-is a c q) (of-inside (a .size) old c h) (of-holds c x y e));
+        }
+
+-- ---- Add by its steps
+
+-- bytes that begin with a map are canonical
+pub front-canonical : (n : ℕ) (l : List ℕ) → T (isMap n (take n l)) → Canonical n (byte l)
+front-canonical n l t =
+    let p = of-isMap n (take n l) t in
+    record {
+      below = λ x h. rw (front-byte n l x h) at (p .low x h);
+      root = λ x h.
+          let k : byte l x < n = omega (arith, rw (front-byte n l x h) at (p .low x h)) in
+          sym (front-byte n l (byte l x) k) ∙ (rw (front-byte n l x h) at (p .named x h));
+    }
+
+-- a map extended in its bytes: the blocks that it cost are those lost, and they are few
+pub map-grown : (a : Algebra) → Accepted a → (x y : ℕ) (old new : List ℕ) (lost : ℕ) → new ≡ written (extended a (take (a .size) old) x y) old
+    → lost + blocks (a .size) (extended a (take (a .size) old) x y) ≡ blocks (a .size) (take (a .size) old) → MapGrown a x y old new lost
+unfolding blocksLost
+map-grown a ok x y old new lost e c =
+    record { bytes = e; blocks = omega arith; few = omega (arith, blocks-le (a .size) (take (a .size) old), accepted-wellFormed a ok .most) }
+
+pub grown-call : (b : Bench) (a : Algebra) (k x y : ℕ) → lowest (addTests b a k x y) ≡ Passed → (old new : Sheet) (lost : ℕ) → old ≡ sheetOf b k → SheetGrown a x y old new lost
+    → benched (tallyTest (b .tally + lost) ∷ []) (raisedBy lost (withSheet b k new)) b ≡ addCall b a k x y
+unfolding addCall lostByAdd withMap mapByAdd
+grown-call b a k x y e old new lost o g = rw (g .sheet, g .blocks, o) (sym (benched-append (addTests b a k x y) _ _ _ e))
+
+-- sheet k of the bench after an accepted Clear
+pub cleared-map : (b : Bench) (k : ℕ) → Clearable b k → length (b .sheets) ≡ 8 → mapOn (b .n) (sheetOf (withMap b k (identity (b .n))) k) ≡ identity (b .n)
+cleared-map b k p eight =
+    ap (mapOn (b .n)) (withMap-same b k (identity (b .n)) (omega (arith, eight, p .sheet)))
+    ∙ mapOn-redrawn (b .n) (identity (b .n)) (sheetOf b k) (identity-map (b .n) .long)
+
+pub clear-cases : (b : Bench) (k : ℕ) → (Clearable b k × (clearCall b k ≡ done (withMap b k (identity (b .n))))) ⊎ ((r : Refusal) × (clearCall b k ≡ refused r b))
+unfolding clearCall
+clear-cases b k =
+    elim (benched-cases (clearTests b k) (withMap b k (identity (b .n))) b) [
+      | inl p ↦ inl (clear-passed b k (p .0), p .1)
+      | inr p ↦ inr p
+    ]

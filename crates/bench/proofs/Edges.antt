@@ -1,0 +1,64 @@
+-- Edges of the bench's calls, computed of the definitions.
+use Prim.Native.Nat.{ℕ}
+use mathlib.Core.List.{[], _∷_}
+use mathlib.Core.Path.{_≡_, refl}
+use Rattle.equivalence.specs.Equivalence.{Map, isMap, holds, inside, roots, blocks, mapOf, identity, maps, best}
+use Rattle.equivalence.specs.Lists.{upTo, every, keep, first, concat}
+use Rattle.equivalence.specs.Refusal.{lowest, sizeTest, answered, written}
+use Rattle.equivalence.specs.declared.Refusal.the-variants.{Size, Range, NotMap, Tally}
+use Rattle.algebra.specs.Accepted.{algebraTests}
+use Rattle.algebra.specs.Algebra.{Algebra, algebraOf, cellCount, operationsOf, operations, arguments, place, value}
+use Rattle.algebra.specs.Congruence.{respects, isCongruence, congruences}
+use Rattle.congruence.specs.Calls.{elementsTest}
+use Rattle.congruence.specs.Extremal.{extended}
+use Rattle.bench.specs.Calls.{sheetTest, benchTest, tallyTest, benched, startCall, mapByAdd, lostByAdd, placeTests, addTests, addCall, clearTests, clearCall}
+use Rattle.bench.specs.State.{mapOn, redrawn, zeroSheet, zeroBench, freshBench, sheetOf, withSheet, withMap, raisedBy, blocksLost}
+use Rattle.bench.specs.declared.Answer.the-variants.{Done, Refused}
+use Rattle.bench.specs.declared.Bench.{Bench}
+
+-- n elements without operations, and one unary operation on three elements that takes 0 to 1, 1 to 2 and 2 to 2
+abbrev bare : ℕ → Algebra
+bare n = algebraOf n [] []
+
+abbrev unary : Algebra
+unary = algebraOf 3 (1 ∷ []) (1 ∷ 2 ∷ 2 ∷ [])
+
+-- a fresh bench over n whose tally is t
+abbrev at : ℕ → ℕ → Bench
+at n t = record { n = n; tally = t; sheets = freshBench n .sheets }
+
+-- a bench over 3 whose sheet 5 has the map m
+abbrev five : Map → Bench
+five m = withMap (freshBench 3) 5 m
+
+pub record Edges : Type 0 where
+  -- sheet 7 is the last
+  pub seven : addCall (at 2 0) (bare 2) 7 0 1 .answer ≡ Done
+  pub eight : (addCall (at 2 0) (bare 2) 8 0 1 .answer ≡ Refused Range) × (clearCall (at 2 0) 8 .answer ≡ Refused Range)
+  -- the tally one below its top, and at it: an Add that loses nothing is accepted there
+  pub below : (addCall (at 2 4294967294) (bare 2) 0 0 1 .answer ≡ Done) × (addCall (at 2 4294967294) (bare 2) 0 0 1 .bench .tally ≡ 4294967295)
+  pub top : (addCall (at 2 4294967295) (bare 2) 0 0 1 .answer ≡ Refused Tally) × (addCall (at 2 4294967295) (bare 2) 0 1 1 .answer ≡ Done)
+  pub two : addCall (at 3 4294967294) unary 0 0 1 .answer ≡ Refused Tally
+  -- a bench of another n, and a bench of zeros
+  pub other : addCall (at 3 0) (bare 2) 0 0 1 .answer ≡ Refused NotMap
+  pub zeros : (addCall zeroBench (bare 2) 0 0 1 .answer ≡ Refused NotMap) × (clearCall zeroBench 0 .answer ≡ Refused Size) × (startCall 65 .bench ≡ zeroBench)
+  -- a sheet that is no map, though the call names another
+  pub unnamed : (addCall (five (0 ∷ 2 ∷ 2 ∷ [])) (bare 3) 0 0 1 .answer ≡ Refused NotMap) × (clearCall (five (0 ∷ 2 ∷ 2 ∷ [])) 0 .answer ≡ Refused NotMap)
+  -- an equal pair: the old map, 0 0 2, is no congruence of the algebra, and a block is lost
+  pub equal : (mapOn 3 (sheetOf (addCall (five (0 ∷ 0 ∷ 2 ∷ [])) unary 5 1 1 .bench) 5) ≡ 0 ∷ 0 ∷ 0 ∷ [])
+      × (addCall (five (0 ∷ 0 ∷ 2 ∷ [])) unary 5 1 1 .bench .tally ≡ 1)
+
+pub edges : Edges
+unfolding upTo every first holds concat mapOf keep maps roots blocks best inside isMap identity isCongruence operations operationsOf cellCount arguments place value respects congruences extended lowest algebraTests sizeTest elementsTest answered written sheetTest benchTest tallyTest benched startCall mapByAdd lostByAdd placeTests addTests addCall clearTests clearCall mapOn redrawn zeroSheet zeroBench freshBench sheetOf withSheet withMap raisedBy blocksLost
+edges =
+    record {
+      seven = refl;
+      eight = (refl, refl);
+      below = (refl, refl);
+      top = (refl, refl);
+      two = refl;
+      other = refl;
+      zeros = (refl, refl, refl);
+      unnamed = (refl, refl);
+      equal = (refl, refl);
+    }

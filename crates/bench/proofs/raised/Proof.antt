@@ -1,0 +1,36 @@
+-- `bench::raised` meets its contract.
+use borrow.Author.Needs.{needs}
+use borrow.Author.Tests.{lt-ltb, le-ltb}
+use Rattle.equivalence.specs.Refusal.{lowest, answered}
+use Rattle.bench.specs.Calls.{benched, tallyTest}
+use Rattle.bench.specs.State.{raisedBy, withSheet}
+use Rattle.bench.proofs.raised.Statement.{statement}
+use Rattle.bench.proofs.raised.Tie as tie
+
+cast-total : tie.Need-cast-total
+cast-total c = search needs
+
+add-total : tie.Need-add-total
+add-total c = search needs
+
+returns : tie.Need-returns
+unfolding benched answered lowest tallyTest
+returns c = simp (lt-ltb _ _ (c .if1 .taken))
+
+mul-sheet : tie.Need-mul-sheet
+mul-sheet c = search needs
+
+element-set-from-sheet : tie.Need-element-set-from-sheet
+element-set-from-sheet c = search needs
+
+cast-next : tie.Need-cast-next
+cast-next c = search needs
+
+returns-2 : tie.Need-returns-2
+unfolding benched answered lowest tallyTest raisedBy withSheet
+returns-2 c = simp (le-ltb _ _ (c .if1 .left))
+
+pub raised-spec : {M : Type 1} → statement M
+raised-spec =
+    tie.close
+    (tie.spec cast-total add-total returns mul-sheet element-set-from-sheet cast-next returns-2)

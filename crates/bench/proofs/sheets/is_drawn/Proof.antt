@@ -1,0 +1,24 @@
+-- `bench::sheets::is_drawn` meets its contract.
+use native.Mathlib.Numerals.{unary-clauses}
+use borrow.Author.Needs.{needs}
+use Rattle.bench.proofs.sheets.is_drawn.Statement.{statement}
+use Rattle.bench.proofs.sheets.is_drawn.Tie as tie
+
+sub-is-map : tie.Need-sub-is-map
+sub-is-map c = search needs
+
+part-is-map-start : tie.Need-part-is-map-start
+part-is-map-start c = search needs
+
+part-is-map-end : tie.Need-part-is-map-end
+part-is-map-end c = search needs
+
+is-map-requires : tie.Need-is-map-requires
+is-map-requires c κs = search needs
+
+returns : tie.Need-returns
+returns c = simp unary-clauses at (c .is-map .ensures)
+
+pub is-drawn-spec : {M : Type 1} → statement M
+is-drawn-spec =
+    tie.close (tie.spec sub-is-map part-is-map-start part-is-map-end is-map-requires returns)

@@ -1,0 +1,15 @@
+-- `bench::sheets::zeros` meets its contract.
+use borrow.Author.Needs.{needs}
+use Rattle.bench.specs.State.{zeroBench}
+use Rattle.bench.proofs.sheets.zeros.Statement.{statement}
+use Rattle.bench.proofs.sheets.zeros.Tie as tie
+
+zero-sheet-requires : tie.Need-zero-sheet-requires
+zero-sheet-requires c κs = search needs
+
+returns : tie.Need-returns
+unfolding zeroBench
+returns c = rw (c .zero-sheet .ensures)
+
+pub zeros-spec : {M : Type 1} → statement M
+zeros-spec = tie.close (tie.spec zero-sheet-requires returns)

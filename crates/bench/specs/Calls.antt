@@ -1,0 +1,67 @@
+-- What each call of the bench answers, and the whole bench after it.
+use Prim.Native.Nat.{ℕ, _+_}
+use mathlib.Core.Bool.{not, _||_}
+use mathlib.Core.List.{List, [], _∷_, _++_}
+use lib.Dec.{eqb, ltb}
+use Rattle.equivalence.specs.Equivalence.{Map, isMap, identity}
+use Rattle.equivalence.specs.Lists.{every}
+use Rattle.equivalence.specs.Refusal.{Test, lowest, sizeTest, answered}
+use Rattle.equivalence.specs.declared.Refusal.the-variants.{Range, NotMap, Tally}
+use Rattle.algebra.specs.Accepted.{algebraTests}
+use Rattle.algebra.specs.Algebra.{Algebra}
+use Rattle.congruence.specs.Calls.{elementsTest}
+use Rattle.congruence.specs.Extremal.{extended}
+use Rattle.bench.specs.State.{mapOn, zeroBench, freshBench, sheetOf, withMap, raisedBy, blocksLost}
+use Rattle.bench.specs.declared.Answer.the-variants.{Done, Refused}
+use Rattle.bench.specs.declared.Bench.{Bench}
+use Rattle.bench.specs.declared.Benched.{Benched}
+
+-- 7: a sheet above 7
+unfoldable pub sheetTest : ℕ → Test
+sheetTest k = record { applies = ltb 7 k; reason = Range }
+
+-- 8: a bench of another n, or any of its sheets is no map over n
+unfoldable pub benchTest : ℕ → Bench → Test
+benchTest n b = record { applies = not (eqb (b .n) n) || not (every (λ s. isMap n (mapOn n s)) (b .sheets)); reason = NotMap }
+
+-- 13: the tally would pass the top of 32 bits
+unfoldable pub tallyTest : ℕ → Test
+tallyTest tally = record { applies = ltb 4294967295 tally; reason = Tally }
+
+-- a call by its tests, listed by rising number: done, with the new bench; or refused, with the other
+unfoldable pub benched : List Test → Bench → Bench → Benched
+benched tests new other =
+    answered (λ r. record { answer = Refused r; bench = other }) (lowest tests) (record { answer = Done; bench = new })
+
+-- Start (1): identities and tally 0; refused, a bench of zeros
+unfoldable pub startCall : ℕ → Benched
+startCall n = benched (sizeTest n ∷ []) (freshBench n) zeroBench
+
+-- the map that Add gives sheet k: the least congruence of the algebra that holds the sheet's old map and the pair
+unfoldable pub mapByAdd : Bench → Algebra → ℕ → ℕ → ℕ → Map
+mapByAdd b a k x y = extended a (mapOn (a .size) (sheetOf b k)) x y
+
+-- the blocks that sheet k loses by it
+unfoldable pub lostByAdd : Bench → Algebra → ℕ → ℕ → ℕ → ℕ
+lostByAdd b a k x y = blocksLost (a .size) (mapOn (a .size) (sheetOf b k)) (mapByAdd b a k x y)
+
+-- 7 and 8 of an Add over n
+unfoldable pub placeTests : Bench → ℕ → ℕ → ℕ → ℕ → List Test
+placeTests b n k x y = sheetTest k ∷ elementsTest n x y ∷ benchTest n b ∷ []
+
+-- the tests that Add makes before it looks for the congruence: 1 to 6 of the algebra, then 7 and 8
+unfoldable pub addTests : Bench → Algebra → ℕ → ℕ → ℕ → List Test
+addTests b a k x y = algebraTests a ++ placeTests b (a .size) k x y
+
+-- Add (1 to 8, 13): the sheet gets the map, and the tally rises by the blocks lost
+unfoldable pub addCall : Bench → Algebra → ℕ → ℕ → ℕ → Benched
+addCall b a k x y =
+    benched (addTests b a k x y ++ (tallyTest (b .tally + lostByAdd b a k x y) ∷ [])) (raisedBy (lostByAdd b a k x y) (withMap b k (mapByAdd b a k x y))) b
+
+-- Clear's tests: 1 of the bench's own n, 7 and 8
+unfoldable pub clearTests : Bench → ℕ → List Test
+clearTests b k = sizeTest (b .n) ∷ sheetTest k ∷ benchTest (b .n) b ∷ []
+
+-- Clear (1, 7, 8): the sheet gets the identity, and the tally stays
+unfoldable pub clearCall : Bench → ℕ → Benched
+clearCall b k = benched (clearTests b k) (withMap b k (identity (b .n))) b

@@ -1,0 +1,5 @@
+pub mod State
+pub mod Calls
+pub mod Promises
+pub mod Lessons
+pub mod Growth

@@ -1,0 +1,88 @@
+// The tests of the bench's calls, by rising number.
+ghost use mathlib.Core.Path.{_≡_};
+ghost use mathlib.Core.List.{[], _∷_};
+ghost use Prim.Native.Nat.{ℕ, _<_, _≤_};
+ghost use Rattle.equivalence.specs.Refusal.{lowest, sizeTest};
+ghost use Rattle.algebra.specs.Algebra.{algebraOf};
+ghost use Rattle.bench.specs.Calls.{benchTest, clearTests, placeTests, addTests};
+use super::Bench;
+use super::sheets;
+use equivalence::Check;
+use equivalence::Refusal;
+
+const SHEETS: usize = 8;
+
+// 1.
+pub fn size_check(n: usize) -> Check
+    ensures { λ r. ⌜ r ≡ lowest (sizeTest n ∷ []) ⌝ }
+{
+    if !equivalence::checks::is_size(n) {
+        return Check::Failed(Refusal::Size);
+    }
+    Check::Passed
+}
+
+// 8: all eight sheets are looked at, whichever the call names.
+fn bench_check(bench: Bench, n: usize) -> Check
+    requires { ⌜ n ≤ 64 ⌝ }
+    ensures { λ r. ⌜ r ≡ lowest (benchTest n bench ∷ []) ⌝ }
+{
+    if bench.n != n {
+        return Check::Failed(Refusal::NotMap);
+    }
+    let on_bench = bench.sheets;
+    if !sheets::all_drawn(on_bench, n) {
+        return Check::Failed(Refusal::NotMap);
+    }
+    Check::Passed
+}
+
+// Clear's: 1, 7 and 8.
+pub fn clear_check(bench: Bench, sheet: usize) -> Check
+    ensures { λ r. ⌜ r ≡ lowest (clearTests bench sheet) ⌝ }
+{
+    let n = bench.n;
+    if !equivalence::checks::is_size(n) {
+        return Check::Failed(Refusal::Size);
+    }
+    if sheet >= SHEETS {
+        return Check::Failed(Refusal::Range);
+    }
+    bench_check(bench, n)
+}
+
+// Add's 7 and 8, for an n that 1 does not decline.
+fn place_check(bench: Bench, n: usize, sheet: usize, x: usize, y: usize) -> Check
+    requires { ⌜ n ≤ 64 ⌝ }
+    ensures { λ r. ⌜ r ≡ lowest (placeTests bench n sheet x y) ⌝ }
+{
+    if sheet >= SHEETS {
+        return Check::Failed(Refusal::Range);
+    }
+    if x >= n {
+        return Check::Failed(Refusal::Range);
+    }
+    if y >= n {
+        return Check::Failed(Refusal::Range);
+    }
+    bench_check(bench, n)
+}
+
+// Add's but for 13, which needs the congruence.
+pub fn add_check(
+    bench: Bench,
+    n: usize,
+    arities: &[u8],
+    cells: &[u8],
+    sheet: usize,
+    x: usize,
+    y: usize,
+) -> Check
+    ensures { λ r. ⌜ r ≡ lowest (addTests bench (algebraOf n (now (arities .entry)) (now (cells .entry))) sheet x y) ⌝ }
+{
+    let check = algebra::check(n, arities, cells);
+    match check {
+        Check::Failed(reason) => Check::Failed(reason),
+        Check::Passed => place_check(bench, n, sheet, x, y),
+    }
+}

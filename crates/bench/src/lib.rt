@@ -1,0 +1,138 @@
+// The bench: eight sheets for class work, each with a map, over one n, and one tally of the blocks that the sheets lost.
+// A bench is a value: it goes into a call and comes back beside the answer. Any bench is legal, also one that no call here gave.
+ghost use mathlib.Core.Path.{_≡_};
+ghost use mathlib.Core.List.{[], _∷_};
+ghost use Prim.Native.Nat.{ℕ, _+_, _<_, _≤_};
+ghost use Rattle.equivalence.specs.Refusal.{lowest};
+ghost use Rattle.equivalence.specs.declared.Check.the-variants.{Passed};
+ghost use Rattle.algebra.specs.Algebra.{algebraOf};
+ghost use Rattle.bench.specs.State.{withSheet, raisedBy};
+ghost use Rattle.bench.specs.Calls.{tallyTest, benched, startCall, addTests, addCall, clearCall};
+use equivalence::Check;
+use equivalence::Refusal;
+
+pub mod checks;
+pub mod sheets;
+
+// The top of the tally.
+const MAX_TALLY: u64 = 4294967295;
+
+// A map in its first n bytes. Bytes past n are never read, and no call changes them.
+pub struct Sheet {
+    pub map: [u8; 64],
+}
+
+pub struct Bench {
+    pub n: usize,
+    pub tally: u32,
+    pub sheets: [Sheet; 8],
+}
+
+pub enum Answer {
+    Done,
+    Refused(Refusal),
+}
+
+// What a call gives back: its answer, and the bench after it.
+pub struct Benched {
+    pub answer: Answer,
+    pub bench: Bench,
+}
+
+// A bench over n: every sheet has the identity, and the tally is 0. Refused, a bench of zeros.
+pub fn start(n: usize) -> Benched
+    ensures { λ r. ⌜ r ≡ startCall n ⌝ }
+{
+    let check = checks::size_check(n);
+    match check {
+        Check::Failed(reason) => Benched {
+            answer: Answer::Refused(reason),
+            bench: sheets::zeros(),
+        },
+        Check::Passed => Benched {
+            answer: Answer::Done,
+            bench: sheets::fresh(n),
+        },
+    }
+}
+
+// The bench with a new sheet and the tally raised, or 13.
+fn raised(bench: Bench, k: usize, sheet: Sheet, lost: usize) -> Benched
+    requires { ⌜ k < 8 ⌝ }
+    requires { ⌜ lost ≤ 64 ⌝ }
+    ensures { λ r. ⌜ r ≡ benched (tallyTest (bench .tally + lost) ∷ []) (raisedBy lost (withSheet bench k sheet)) bench ⌝ }
+{
+    let total = bench.tally as u64 + lost as u64;
+    if total > MAX_TALLY {
+        return Benched {
+            answer: Answer::Refused(Refusal::Tally),
+            bench,
+        };
+    }
+    let mut next = bench;
+    next.sheets[k] = sheet;
+    next.tally = total as u32;
+    Benched {
+        answer: Answer::Done,
+        bench: next,
+    }
+}
+
+// Add where none of reasons 1 to 8 applies.
+fn extend(
+    bench: Bench,
+    n: usize,
+    arities: &[u8],
+    cells: &[u8],
+    k: usize,
+    x: usize,
+    y: usize,
+) -> Benched
+    requires { ⌜ lowest (addTests bench (algebraOf n (now arities) (now cells)) k x y) ≡ Passed ⌝ }
+    ensures { λ r. ⌜ r ≡ addCall bench (algebraOf n (now (arities .entry)) (now (cells .entry))) k x y ⌝ }
+{
+    let on_bench = bench.sheets;
+    let old = sheets::nth(on_bench, k);
+    let grown = sheets::extended(old, n, arities, cells, x, y);
+    let new = grown.sheet;
+    raised(bench, k, new, grown.lost)
+}
+
+// The sheet becomes the least congruence of the algebra that holds its old map and the pair; the tally rises by the blocks lost.
+pub fn add(
+    bench: Bench,
+    n: usize,
+    arities: &[u8],
+    cells: &[u8],
+    sheet: usize,
+    x: usize,
+    y: usize,
+) -> Benched
+    ensures { λ r. ⌜ r ≡ addCall bench (algebraOf n (now (arities .entry)) (now (cells .entry))) sheet x y ⌝ }
+{
+    let check = checks::add_check(bench, n, arities, cells, sheet, x, y);
+    match check {
+        Check::Failed(reason) => Benched {
+            answer: Answer::Refused(reason),
+            bench,
+        },
+        Check::Passed => extend(bench, n, arities, cells, sheet, x, y),
+    }
+}
+
+// The sheet gets the identity; the tally stays.
+pub fn clear(bench: Bench, sheet: usize) -> Benched
+    ensures { λ r. ⌜ r ≡ clearCall bench sheet ⌝ }
+{
+    let check = checks::clear_check(bench, sheet);
+    match check {
+        Check::Failed(reason) => Benched {
+            answer: Answer::Refused(reason),
+            bench,
+        },
+        Check::Passed => Benched {
+            answer: Answer::Done,
+            bench: sheets::cleared(bench, sheet),
+        },
+    }
+}
