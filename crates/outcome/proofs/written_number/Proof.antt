@@ -1,11 +1,11 @@
 use mathlib.Core.Path.{_≡_, refl, sym, ap, _∙_}
 use native.Mathlib.Omega.{arith}
 use Rattle.congruence.specs.Outcome.{packed, generatedOutcome, writtenOutcome, decomposedOutcome}
-use Rattle.worksheet.proofs.Numbers.{done-outcome, write-refused}
+use Rattle.outcome.proofs.Numbers.{done-outcome, write-refused}
 use Rattle.equivalence.specs.declared.Written.{Written}
 use borrow.Author.Needs.{needs}
-use Rattle.worksheet.proofs.written_number.Statement.{statement}
-use Rattle.worksheet.proofs.written_number.Tie as tie
+use Rattle.outcome.proofs.written_number.Statement.{statement}
+use Rattle.outcome.proofs.written_number.Tie as tie
 
 enum-told : tie.Need-enum-told
 enum-told c = search needs

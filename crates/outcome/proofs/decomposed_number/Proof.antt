@@ -1,11 +1,11 @@
 use mathlib.Core.Path.{_≡_, refl, sym, ap, _∙_}
 use native.Mathlib.Omega.{arith}
 use Rattle.congruence.specs.Outcome.{packed, generatedOutcome, writtenOutcome, decomposedOutcome}
-use Rattle.worksheet.proofs.Numbers.{factors-outcome, decompose-refused, packed-irreducible}
+use Rattle.outcome.proofs.Numbers.{factors-outcome, decompose-refused, packed-irreducible}
 use Rattle.congruence.specs.declared.Decomposed.{Decomposed}
 use borrow.Author.Needs.{needs}
-use Rattle.worksheet.proofs.decomposed_number.Statement.{statement}
-use Rattle.worksheet.proofs.decomposed_number.Tie as tie
+use Rattle.outcome.proofs.decomposed_number.Statement.{statement}
+use Rattle.outcome.proofs.decomposed_number.Tie as tie
 
 enum-known-answer : tie.Need-enum-known-answer
 enum-known-answer c = search needs

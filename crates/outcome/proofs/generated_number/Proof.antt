@@ -1,11 +1,11 @@
 use mathlib.Core.Path.{_≡_, refl, sym, ap, _∙_}
 use native.Mathlib.Omega.{arith}
 use Rattle.congruence.specs.Outcome.{packed, generatedOutcome, writtenOutcome, decomposedOutcome}
-use Rattle.worksheet.proofs.Numbers.{merges-outcome, generate-refused}
+use Rattle.outcome.proofs.Numbers.{merges-outcome, generate-refused}
 use Rattle.congruence.specs.declared.Generated.{Generated}
 use borrow.Author.Needs.{needs}
-use Rattle.worksheet.proofs.generated_number.Statement.{statement}
-use Rattle.worksheet.proofs.generated_number.Tie as tie
+use Rattle.outcome.proofs.generated_number.Statement.{statement}
+use Rattle.outcome.proofs.generated_number.Tie as tie
 
 enum-known-answer : tie.Need-enum-known-answer
 enum-known-answer c = search needs

@@ -1,9 +1,9 @@
 use mathlib.Core.Path.{_≡_, refl, sym, ap, _∙_}
 use native.Mathlib.Omega.{arith}
-use Rattle.worksheet.proofs.Numbers.{packed-refusal}
+use Rattle.outcome.proofs.Numbers.{packed-refusal}
 use borrow.Author.Needs.{needs}
-use Rattle.worksheet.proofs.refused.Statement.{statement}
-use Rattle.worksheet.proofs.refused.Tie as tie
+use Rattle.outcome.proofs.refused.Statement.{statement}
+use Rattle.outcome.proofs.refused.Tie as tie
 
 number-requires : tie.Need-number-requires
 number-requires c κs = search needs

@@ -1,9 +1,9 @@
 use mathlib.Core.Path.{_≡_, refl, sym, ap, _∙_}
 use native.Mathlib.Omega.{arith}
-use Rattle.worksheet.proofs.Numbers.{packed-success}
+use Rattle.outcome.proofs.Numbers.{packed-success}
 use borrow.Author.Needs.{needs}
-use Rattle.worksheet.proofs.succeeded.Statement.{statement}
-use Rattle.worksheet.proofs.succeeded.Tie as tie
+use Rattle.outcome.proofs.succeeded.Statement.{statement}
+use Rattle.outcome.proofs.succeeded.Tie as tie
 
 wide-requires : tie.Need-wide-requires
 wide-requires c κs = search needs

@@ -3,13 +3,17 @@ use Prim.Native.Nat.{ℕ, _+_, _*_}
 use mathlib.Core.Path.{_≡_, refl}
 use native.Mathlib.Omega.{arith}
 use Rattle.equivalence.specs.Refusal.{numberOf}
-use Rattle.congruence.specs.Outcome.{success, refusal, writtenOutcome, generatedOutcome, decomposedOutcome, packed}
+use Rattle.congruence.specs.Outcome.{success, refusal, writtenOutcome, generatedOutcome, dividedOutcome, decomposedOutcome, certifiedOutcome, packed}
 use Rattle.equivalence.specs.declared.Refusal.{Refusal}
 use Rattle.equivalence.specs.declared.Element.{Element}
 use Rattle.equivalence.specs.declared.Written.{Written}
 use Rattle.equivalence.specs.declared.Written.the-variants.{Done, Refused as WriteRefused}
 use Rattle.congruence.specs.declared.Generated.{Generated}
 use Rattle.congruence.specs.declared.Generated.the-variants.{Merges, Refused as GenerateRefused}
+use Rattle.congruence.specs.declared.Divided.{Divided}
+use Rattle.congruence.specs.declared.Divided.the-variants.{Blocks, Refused as DivideRefused}
+use Rattle.congruence.specs.declared.Certified.{Certified}
+use Rattle.congruence.specs.declared.Certified.the-variants.{Yes, No, Refused as CertifyRefused}
 use Rattle.congruence.specs.declared.Decomposed.{Decomposed}
 use Rattle.congruence.specs.declared.Decomposed.the-variants.{Factors, Irreducible, Refused as DecomposeRefused}
 
@@ -52,3 +56,23 @@ factors-outcome k = refl
 pub decompose-refused : (r : Refusal) → decomposedOutcome (DecomposeRefused r) ≡ refusal r
 unfolding decomposedOutcome
 decompose-refused r = refl
+
+pub blocks-outcome : (k : ℕ) → dividedOutcome (Blocks k) ≡ success k
+unfolding dividedOutcome
+blocks-outcome k = refl
+
+pub divide-refused : (r : Refusal) → dividedOutcome (DivideRefused r) ≡ refusal r
+unfolding dividedOutcome
+divide-refused r = refl
+
+pub yes-outcome : certifiedOutcome Yes ≡ success 1
+unfolding certifiedOutcome
+yes-outcome = refl
+
+pub no-outcome : certifiedOutcome No ≡ success 0
+unfolding certifiedOutcome
+no-outcome = refl
+
+pub certify-refused : (r : Refusal) → certifiedOutcome (CertifyRefused r) ≡ refusal r
+unfolding certifiedOutcome
+certify-refused r = refl

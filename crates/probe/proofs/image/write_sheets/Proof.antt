@@ -1,0 +1,60 @@
+use Prim.Native.Nat.{ℕ, _≤_, _<_, _-_}
+use mathlib.Core.Path.{_≡_, refl}
+use native.Mathlib.Omega.{arith}
+use lib.ListN.{length, length-set}
+use borrow.Author.Needs.{needs}
+use Rattle.probe.proofs.image.write_sheets.Statement.{statement}
+use Rattle.probe.proofs.image.write_sheets.Tie as tie
+
+abbrev Inv-loop : tie.InvT-loop
+Inv-loop bytes₀ sheets s₀ bytes s = (s ≤ 8) × (length bytes ≡ length bytes₀)
+
+abbrev μ-loop : tie.MeasureT-loop
+μ-loop bytes₀ sheets s₀ bytes s = 8 - s
+
+loop-holds : tie.Need-loop-holds Inv-loop μ-loop
+loop-holds c = search needs
+
+mul-sheet : tie.Need-mul-sheet Inv-loop μ-loop
+mul-sheet c = search needs
+
+array-copy-out-sheet : tie.Need-array-copy-out-sheet Inv-loop μ-loop
+array-copy-out-sheet c = search needs
+
+mul-write-map : tie.Need-mul-write-map Inv-loop μ-loop
+mul-write-map c = search needs
+
+write-map-requires : tie.Need-write-map-requires Inv-loop μ-loop
+write-map-requires c κs = search needs
+
+add-s : tie.Need-add-s Inv-loop μ-loop
+add-s c = search needs
+
+loop-less : tie.Need-loop-less Inv-loop μ-loop
+loop-less c = omega arith
+
+loop-again : tie.Need-loop-again Inv-loop μ-loop
+loop-again c = (omega arith, omega arith)
+
+same-length : tie.Need-same-length Inv-loop μ-loop
+same-length c = search needs
+
+returns : tie.Need-returns Inv-loop μ-loop
+returns c = search needs
+
+pub write-sheets-spec : {M : Type 1} → statement M
+write-sheets-spec =
+    tie.close
+    (tie.spec
+    Inv-loop
+    μ-loop
+    loop-holds
+    mul-sheet
+    array-copy-out-sheet
+    mul-write-map
+    write-map-requires
+    add-s
+    loop-less
+    loop-again
+    same-length
+    returns)

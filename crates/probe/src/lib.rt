@@ -1,0 +1,109 @@
+// Services that have no C function, made callable for the comparisons in tests/ (tests/PROBE.md). Only the tests link this library.
+ghost use mathlib.Core.Path.{_≡_};
+ghost use Rattle.equivalence.specs.Calls.{meetCall, joinCall};
+ghost use Rattle.algebra.specs.Algebra.{algebraOf};
+ghost use Rattle.congruence.specs.Calls.{quotientCall, certifyCall};
+ghost use Rattle.congruence.specs.Outcome.{packed, writtenOutcome, dividedOutcome, certifiedOutcome};
+use equivalence::Place;
+
+mod image;
+
+// Meet: the reason.
+#[no_mangle]
+pub extern "C" fn probe_meet(n: usize, a: &[u8], b: &[u8], out: &mut [u8]) -> u32
+    ensures { λ r. ⌜ r ≡ packed (writtenOutcome (meetCall n (now (a .entry)) (now (b .entry)) (now (out .entry)) .0)) ⌝ }
+    ensures { λ _. ⌜ now (out .exit) ≡ meetCall n (now (a .entry)) (now (b .entry)) (now (out .entry)) .1 ⌝ }
+{
+    outcome::written_number(equivalence::meet(n, a, b, out))
+}
+
+// Join: the reason.
+#[no_mangle]
+pub extern "C" fn probe_join(n: usize, a: &[u8], b: &[u8], out: &mut [u8]) -> u32
+    ensures { λ r. ⌜ r ≡ packed (writtenOutcome (joinCall n (now (a .entry)) (now (b .entry)) (now (out .entry)) .0)) ⌝ }
+    ensures { λ _. ⌜ now (out .exit) ≡ joinCall n (now (a .entry)) (now (b .entry)) (now (out .entry)) .1 ⌝ }
+{
+    outcome::written_number(equivalence::join(n, a, b, out))
+}
+
+// Prefer: the length of the part handed back, which is copied into out as far as it fits.
+#[no_mangle]
+pub extern "C" fn probe_prefer<'a>(n: usize, a: &'a [u8], b: &'a [u8], out: &mut [u8]) -> usize {
+    let part = equivalence::prefer(n, a, b);
+    image::fill(out, part);
+    part.len()
+}
+
+// The place of a pair, or 65,535.
+#[no_mangle]
+pub extern "C" fn probe_place(x: u8, y: u8) -> u32 {
+    let place = equivalence::pair_place(x, y);
+    match place {
+        Place::At(at) => image::number(at),
+        Place::Nowhere => 65535,
+    }
+}
+
+// Quotient: the reason, and 256 × blocks.
+#[no_mangle]
+pub extern "C" fn probe_quotient(
+    n: usize,
+    arities: &[u8],
+    cells: &[u8],
+    map: &[u8],
+    out: &mut [u8],
+) -> u32
+    ensures { λ r. ⌜ r ≡ packed (dividedOutcome (quotientCall (algebraOf n (now (arities .entry)) (now (cells .entry))) (now (map .entry)) (now (out .entry)) .0)) ⌝ }
+    ensures { λ _. ⌜ now (out .exit) ≡ quotientCall (algebraOf n (now (arities .entry)) (now (cells .entry))) (now (map .entry)) (now (out .entry)) .1 ⌝ }
+{
+    outcome::divided_number(congruence::quotient(n, arities, cells, map, out))
+}
+
+// Start, over a bench's image: the reason, or 255 for an image of another length.
+#[no_mangle]
+pub extern "C" fn probe_bench_start(n: usize, bytes: &mut [u8]) -> u32 {
+    if bytes.len() != image::LENGTH {
+        return 255;
+    }
+    let done = bench::start(n);
+    let after = done.bench;
+    image::write(bytes, after);
+    let answer = done.answer;
+    image::reason(answer)
+}
+
+// Add, over a bench's image.
+#[no_mangle]
+pub extern "C" fn probe_bench_add(
+    bytes: &mut [u8],
+    n: usize,
+    arities: &[u8],
+    cells: &[u8],
+    sheet: usize,
+    x: usize,
+    y: usize,
+) -> u32 {
+    if bytes.len() != image::LENGTH {
+        return 255;
+    }
+    let before = image::read(bytes);
+    let done = bench::add(before, n, arities, cells, sheet, x, y);
+    let after = done.bench;
+    image::write(bytes, after);
+    let answer = done.answer;
+    image::reason(answer)
+}
+
+// Clear, over a bench's image.
+#[no_mangle]
+pub extern "C" fn probe_bench_clear(bytes: &mut [u8], sheet: usize) -> u32 {
+    if bytes.len() != image::LENGTH {
+        return 255;
+    }
+    let before = image::read(bytes);
+    let done = bench::clear(before, sheet);
+    let after = done.bench;
+    image::write(bytes, after);
+    let answer = done.answer;
+    image::reason(answer)
+}
