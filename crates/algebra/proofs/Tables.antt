@@ -1,17 +1,15 @@
 -- Where an operation's cells stand in the algebra's cells, and which argument list stands at a place.
 use Prim.Native.Nat.{ℕ, zero, suc, _+_, _*_, _^_, _≤_, _<_}
-use mathlib.Core.List.{List, [], _∷_, _++_, map, List·Memᴰ as Member, List·Memᴰ·head as here, List·Memᴰ·tail as there, List·Memᴰ·not-nil as not-nil, List·Memᴰ·cases-cons as cases-cons}
+use mathlib.Core.List.{List, [], _∷_, _++_, List·Memᴰ as Member, List·Memᴰ·head as here, List·Memᴰ·tail as there, List·Memᴰ·not-nil as not-nil, List·Memᴰ·cases-cons as cases-cons}
 use mathlib.Core.Logic.{inl, inr}
 use mathlib.Core.Path.{_≡_, refl, sym, ap, subst, _∙_}
 use native.Mathlib.Nat.{pow-le-pow-left, pow-le-pow-right}
 use native.Mathlib.Numerals.{add-one}
 use native.Mathlib.Omega.{arith}
-use lib.ListN.{length, getD, take, drop, length-map, take-append-drop}
+use lib.ListN.{length, getD, take, drop, take-append-drop}
 use lib.Seq.{getD-take, getD-drop, take-suc, take-all, drop-drop}
-use Rattle.equivalence.proofs.Lists.{member-at, map-at}
-use Rattle.equivalence.proofs.Stretches.{stretch-at}
-use Rattle.algebra.specs.Algebra.{Algebra, Operation, cellCount, operationsOf, operations, arguments, place, value}
-use Rattle.algebra.proofs.Arguments.{Args, of-arguments, arguments-long, place-law}
+use Rattle.algebra.specs.Algebra.{Algebra, Operation, cellCount, operationsOf, operations, place, value}
+use Rattle.algebra.proofs.Arguments.{Args, place-law}
 
 -- operation j: its cells begin behind those of the operations before it
 unfoldable pub operationAt : Algebra → ℕ → Operation
@@ -53,20 +51,6 @@ unfolding value operationAt
 value-at a j xs h =
     getD-take (a .size ^ getD (a .arities) j 0) (drop (cellCount (a .size) (take j (a .arities))) (a .cells)) (place (a .size) xs) 0 (place-law (a .size) (getD (a .arities) j 0) xs h .0)
     ∙ getD-drop (cellCount (a .size) (take j (a .arities))) (a .cells) (place (a .size) xs) 0
-
--- the argument list at place k: it has that place, and each argument list has one
-pub args-at : (n s k : ℕ) → k < n ^ s → Args n s (getD (arguments n s) k [])
-args-at n s k l = of-arguments n s (getD (arguments n s) k []) (member-at (arguments n s) k [] (omega (arith, arguments-long n s)))
-
-pub arguments-cons : (n s x k : ℕ) → x < n → k < n ^ s → getD (arguments n (suc s)) (x * n ^ s + k) [] ≡ x ∷ getD (arguments n s) k []
-unfolding arguments
-arguments-cons n s x k l h =
-    stretch-at (λ x. map (λ t. x ∷ t) (arguments n s)) (n ^ s) (λ x. length-map (arguments n s) (λ t. x ∷ t) ∙ arguments-long n s) n x k [] l h
-    ∙ map-at (λ t. x ∷ t) (arguments n s) k [] [] (omega (arith, arguments-long n s))
-
--- a fact of every argument list is a fact of each place
-pub every-place : (n s : ℕ) (P : List ℕ → Type 0) → ((k : ℕ) → k < n ^ s → P (getD (arguments n s) k [])) → (xs : List ℕ) → Args n s xs → P xs
-every-place n s P h xs a = let r = place-law n s xs a in subst P (r .1) (h (place n xs) (r .0))
 
 -- ---- where the tables begin
 

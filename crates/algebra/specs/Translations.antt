@@ -1,6 +1,6 @@
 -- Translations: the results of an operation while one argument varies and the others stay. Inner functions promise each other congruences
 -- in these terms, over functions and their kernels; `isCongruence` says the same of a map (`compatible-congruence` in proofs/).
-use Prim.Native.Nat.{ℕ, _+_, _-_, _*_, _^_, _<_}
+use Prim.Native.Nat.{ℕ, _+_, _<_}
 use mathlib.Core.Path.{_≡_}
 use mathlib.Core.List.{List, [], _∷_, _++_}
 use lib.ListN.{length, getD, take}
@@ -29,14 +29,6 @@ Images a j x y g =
 -- the kernel of g is a congruence: replacing one argument by an equivalent element gives an equivalent result
 abbrev pub Compatible : Algebra → (ℕ → ℕ) → Type 0
 Compatible a g = (x y : ℕ) → x < a .size → y < a .size → g x ≡ g y → (j : ℕ) → j < length (a .arities) → Images a j x y g
-
--- g joins the cells of operation j for x and for y on every line of every stride: the argument with e arguments behind it has stride n^e,
--- those before it make `hi` and those behind it `lo`
-abbrev pub Lines : Algebra → ℕ → ℕ → ℕ → (ℕ → ℕ) → Type 0
-Lines a j x y g =
-    (e hi lo : ℕ) → e < getD (a .arities) j 0 → hi < a .size ^ (getD (a .arities) j 0 - 1 - e) → lo < a .size ^ e
-    → g (getD (a .cells) (tableStart a j + (hi * (a .size ^ e * a .size) + lo + x * a .size ^ e)) 0)
-    ≡ g (getD (a .cells) (tableStart a j + (hi * (a .size ^ e * a .size) + lo + y * a .size ^ e)) 0)
 
 -- f is the least congruence among those that are Good
 pub record Closed (a : Algebra) (Good : (ℕ → ℕ) → Type 0) (f : ℕ → ℕ) : Type 0 where

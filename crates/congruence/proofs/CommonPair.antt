@@ -85,28 +85,6 @@ module _ (a : Algebra) (c : WellFormed a) where
             (meetAll-holds (a .size) ms u v (omega arith) j (λ d k. let s = of-proper d k in h d (s .0) (λ e. s .1 (subst (λ (z : Map). Discrete (a .size) z) (sym e) (identity-discrete (a .size))))));
       }
 
-  -- if every congruence but the identity joins v and w, then what (v, w) generates is the least of them, and its first pair is the one
-  pub commonPair-is : (v w : ℕ) → v < a .size → w < a .size → v ≢ w → Common a v w → commonPair a ≡ firstHeld (a .size) (generated a (v ∷ w ∷ []))
-  unfolding commonPair proper holdsAll
-  commonPair-is v w l k n h =
-      let ms : List Map = keep proper (congruences a) in
-      let b : (i : ℕ) → i < 2 → getD (v ∷ w ∷ []) i 0 < a .size = low in
-      let g = generated-law a c (v ∷ w ∷ []) b in
-      let e : Holds (generated a (v ∷ w ∷ [])) v w = of-holds (generated a (v ∷ w ∷ [])) v w (left (holds (generated a (v ∷ w ∷ [])) v w) true (g .all)) in
-      ap (firstHeld (a .size))
-      (map-ext (a .size) (meetAll (a .size) ms) (generated a (v ∷ w ∷ [])) (meetAll-map (a .size) ms) (g .cong .map)
-      (λ x y i j s. of-meetAll (a .size) ms x y i j s (generated a (v ∷ w ∷ []))
-      (member-proper (generated a (v ∷ w ∷ [])) (g .cong) (λ z. n (identity-discrete (a .size) v w l k (subst (λ (t : Map). Holds t v w) z e)))))
-      (λ x y i j s. meetAll-holds (a .size) ms x y i j
-      (λ d q. let r = of-proper d q in
-      let hd : Holds d v w = h d (r .0) (λ z. r .1 (subst (λ (t : Map). Discrete (a .size) t) (sym z) (identity-discrete (a .size)))) in
-      g .least d (r .0) (both (holds d v w) true (holds-of d v w hd) tt) x y i j s)))
-    where
-      low : (i : ℕ) → i < 2 → getD (v ∷ w ∷ []) i 0 < a .size
-      low zero t = l
-      low (suc zero) t = k
-      low (suc (suc i)) t = absurd (omega arith)
-
   -- n = 1
   pub commonPair-one : a .size ≡ 1 → commonPair a ≡ (0, 0)
   unfolding commonPair firstHeld first

@@ -166,12 +166,6 @@ module _ {ℓ} {A : Type ℓ} where
         | inr k ↦ let r = member-index l a d k in (suc (r .0), omega (arith, r .1), r .2)
       ]
 
-  pub of-take : (l : List A) (i : ℕ) (a : A) → Member a (take i l) → Member a l
-  of-take [] zero a m = absurd (not-nil m)
-  of-take [] (suc i) a m = absurd (not-nil m)
-  of-take (b ∷ l) zero a m = absurd (not-nil m)
-  of-take (b ∷ l) (suc i) a m = elim (cases-cons m) [ inl e ↦ here e | inr k ↦ there (of-take l i a k) ]
-
 pub upTo-length : (n : ℕ) → length (upTo n) ≡ n
 unfolding upTo
 upTo-length zero = refl
