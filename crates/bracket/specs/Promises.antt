@@ -1,0 +1,29 @@
+-- What inner functions promise each other: what a reader came to, and where it stands.
+use Prim.Native.Nat.{ℕ, _+_, _≤_}
+use mathlib.Core.Bool.{Bool, true, false}
+use mathlib.Core.List.{List}
+use mathlib.Core.Path.{_≡_}
+use lib.ListN.{length}
+use Rattle.bracket.specs.Reading.{Read, found, fault}
+use Rattle.bracket.specs.Numbers.{number}
+use Rattle.bracket.specs.declared.reading.Number.{Number}
+
+-- a value and the place after it, or a fault, as a flag tells
+abbrev pub readOf : {A : Type 0} → Bool → A → ℕ → Read A
+readOf true a next = found a next
+readOf false a next = fault
+
+-- 1 where a flag is set, else 0
+abbrev pub bit : Bool → ℕ
+bit true = 1
+bit false = 0
+
+-- where a reader that began at `at` came to: within the text, and past its start if it found something
+pub record Reached (text : List ℕ) (at : ℕ) (ok : Bool) (next : ℕ) : Type 0 where
+  pub within : next ≤ length text
+  pub past : at + bit ok ≤ next
+
+-- a number was read as `number` says
+pub record NumberRead (text : List ℕ) (at : ℕ) (r : Number) : Type 0 where
+  pub reached : Reached text at (r .ok) (r .next)
+  pub value : number text at ≡ readOf (r .ok) (r .value) (r .next)

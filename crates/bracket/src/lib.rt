@@ -1,0 +1,3 @@
+// Bracket text: reader, writer, and the answer to each line of a run.
+
+pub mod reading;

@@ -1,0 +1,80 @@
+// Reading bracket text by places. Past the end of a text every byte counts as 0, which no form has.
+ghost use mathlib.Core.Path.{_≡_};
+ghost use Prim.Native.Nat.{ℕ, _+_, _≤_, _<_};
+ghost use lib.ListN.{length};
+ghost use Rattle.bracket.specs.Reading.{byteAt, begins};
+ghost use Rattle.bracket.specs.Numbers.{digitAt};
+ghost use Rattle.bracket.specs.Promises.{NumberRead};
+
+// A number that was read, and the place after it; where `ok` is false, nothing.
+pub struct Number {
+    pub ok: bool,
+    pub value: u8,
+    pub next: usize,
+}
+
+// The byte at a place, or 0 past the end.
+pub fn byte_at(text: &[u8], at: usize) -> u8
+    ensures { λ r. ⌜ r ≡ byteAt (now (text .entry)) at ⌝ }
+{
+    if at < text.len() { text[at] } else { 0 }
+}
+
+// The value of the digit at a place, or 10 where another byte stands.
+fn digit_at(text: &[u8], at: usize) -> u8
+    ensures { λ r. ⌜ r ≡ digitAt (now (text .entry)) at ⌝ }
+{
+    let b = byte_at(text, at);
+    if b < 48 {
+        return 10;
+    }
+    if 57 < b {
+        return 10;
+    }
+    b - 48
+}
+
+// Whether the bytes of a word stand from a place on.
+pub fn begins_with(text: &[u8], at: usize, word: &[u8]) -> bool
+    requires { ⌜ at ≤ length (now text) ⌝ }
+    ensures { λ r. ⌜ r ≡ begins (now (text .entry)) at (now (word .entry)) ⌝ }
+{
+    let mut i = 0;
+    while i < word.len() {
+        if byte_at(text, at + i) != word[i] {
+            return false;
+        }
+        i += 1;
+    }
+    true
+}
+
+// A number from 0 to 255 without leading zeros.
+pub fn read_number(text: &[u8], at: usize) -> Number
+    requires { ⌜ at ≤ length (now text) ⌝ }
+    ensures { λ r. ⌜ NumberRead (now (text .entry)) at r ⌝ }
+{
+    let none = Number { ok: false, value: 0, next: at };
+    let a = digit_at(text, at);
+    if 9 < a {
+        return none;
+    }
+    let one = Number { ok: true, value: a, next: at + 1 };
+    if a == 0 {
+        return one;
+    }
+    let b = digit_at(text, at + 1);
+    if 9 < b {
+        return one;
+    }
+    let c = digit_at(text, at + 2);
+    let two = 10 * a + b;
+    if 9 < c {
+        return Number { ok: true, value: two, next: at + 2 };
+    }
+    let three = 10 * (two as u16) + c as u16;
+    if 255 < three {
+        return none;
+    }
+    Number { ok: true, value: three as u8, next: at + 3 }
+}
