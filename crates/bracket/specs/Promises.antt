@@ -1,9 +1,9 @@
--- What inner functions promise each other: what a reader came to, and where it stands.
+-- What inner functions promise each other: what a reader came to and where it stands, and what a writer laid in the lent bytes.
 use Prim.Native.Nat.{ℕ, _+_, _≤_}
 use mathlib.Core.Bool.{Bool, true, false}
-use mathlib.Core.List.{List}
+use mathlib.Core.List.{List, _++_}
 use mathlib.Core.Path.{_≡_}
-use lib.ListN.{length}
+use lib.ListN.{length, take, drop}
 use Rattle.bracket.specs.Reading.{Read, found, fault}
 use Rattle.bracket.specs.Numbers.{number}
 use Rattle.bracket.specs.declared.reading.Number.{Number}
@@ -27,3 +27,14 @@ pub record Reached (text : List ℕ) (at : ℕ) (ok : Bool) (next : ℕ) : Type 
 pub record NumberRead (text : List ℕ) (at : ℕ) (r : Number) : Type 0 where
   pub reached : Reached text at (r .ok) (r .next)
   pub value : number text at ≡ readOf (r .ok) (r .value) (r .next)
+
+-- the lent bytes with new ones from a place on
+unfoldable pub laid : List ℕ → ℕ → List ℕ → List ℕ
+laid lent put new = take put lent ++ (new ++ drop (put + length new) lent)
+
+-- a writer laid the new bytes from a place on and gave the place after them
+pub record Laid (lent : List ℕ) (put : ℕ) (new after : List ℕ) (end : ℕ) : Type 0 where
+  pub place : end ≡ put + length new
+  pub within : end ≤ length lent
+  pub long : length after ≡ length lent
+  pub bytes : after ≡ laid lent put new

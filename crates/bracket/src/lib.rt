@@ -1,3 +1,4 @@
 // Bracket text: reader, writer, and the answer to each line of a run.
 
 pub mod reading;
+mod writing;

@@ -59,13 +59,12 @@ pub fn read_number(text: &[u8], at: usize) -> Number
     if 9 < a {
         return none;
     }
-    let one = Number { ok: true, value: a, next: at + 1 };
     if a == 0 {
-        return one;
+        return Number { ok: true, value: 0, next: at + 1 };
     }
     let b = digit_at(text, at + 1);
     if 9 < b {
-        return one;
+        return Number { ok: true, value: a, next: at + 1 };
     }
     let c = digit_at(text, at + 2);
     let two = 10 * a + b;

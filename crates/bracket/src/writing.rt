@@ -1,0 +1,123 @@
+// Writing bracket text into a lent buffer: each writer begins at a place and gives the place after what it wrote.
+ghost use mathlib.Core.Path.{_≡_};
+ghost use mathlib.Core.List.{[], _∷_, map};
+ghost use Prim.Native.Nat.{ℕ, _+_, _*_, _≤_, _<_};
+ghost use lib.ListN.{length};
+ghost use Rattle.bracket.specs.Numbers.{decimal};
+ghost use Rattle.equivalence.specs.Lists.{upTo, stretch};
+ghost use Rattle.bracket.specs.Reading.{ascii};
+ghost use Rattle.bracket.specs.Answers.{spaced, bracketed, spacedBrackets};
+ghost use Rattle.bracket.specs.Promises.{Laid};
+
+// One byte.
+fn write_byte(out: &mut [u8], put: usize, b: u8) -> usize
+    requires { ⌜ put < length (now out) ⌝ }
+    ensures { λ r. ⌜ Laid (now (out .entry)) put (b ∷ []) (now (out .exit)) r ⌝ }
+{
+    out[put] = b;
+    put + 1
+}
+
+// The bytes of a word.
+fn write_word(out: &mut [u8], put: usize, word: &[u8]) -> usize
+    requires { ⌜ put + length (now word) ≤ length (now out) ⌝ }
+    ensures { λ r. ⌜ Laid (now (out .entry)) put (now (word .entry)) (now (out .exit)) r ⌝ }
+{
+    let mut i = 0;
+    while i < word.len() {
+        out[put + i] = word[i];
+        i += 1;
+    }
+    put + i
+}
+
+// A number in base ten.
+pub fn write_number(out: &mut [u8], put: usize, v: u8) -> usize
+    requires { ⌜ put + 3 ≤ length (now out) ⌝ }
+    ensures { λ r. ⌜ Laid (now (out .entry)) put (decimal v) (now (out .exit)) r ⌝ }
+    ensures short { λ r. ⌜ r ≤ put + 3 ⌝ }
+{
+    if v < 10 {
+        return write_byte(out, put, 48 + v);
+    }
+    if v < 100 {
+        let tens = write_byte(out, put, 48 + v / 10);
+        return write_byte(out, tens, 48 + v % 10);
+    }
+    let hundreds = write_byte(out, put, 48 + v / 100);
+    let tens = write_byte(out, hundreds, 48 + v / 10 % 10);
+    write_byte(out, tens, 48 + v % 10)
+}
+
+// A number after a space.
+fn write_spaced_number(out: &mut [u8], put: usize, v: u8) -> usize
+    requires { ⌜ put + 4 ≤ length (now out) ⌝ }
+    ensures { λ r. ⌜ Laid (now (out .entry)) put (spaced (v ∷ [])) (now (out .exit)) r ⌝ }
+    ensures short { λ r. ⌜ r ≤ put + 4 ⌝ }
+{
+    let after = write_byte(out, put, b' ');
+    write_number(out, after, v)
+}
+
+// Numbers, each after a space.
+fn write_spaced(out: &mut [u8], put: usize, m: &[u8]) -> usize
+    requires { ⌜ put + 4 * length (now m) ≤ length (now out) ⌝ }
+    ensures { λ r. ⌜ Laid (now (out .entry)) put (spaced (now (m .entry))) (now (out .exit)) r ⌝ }
+    ensures short { λ r. ⌜ r ≤ put + 4 * length (now (m .entry)) ⌝ }
+{
+    let mut at = put;
+    let mut i = 0;
+    while i < m.len() {
+        at = write_spaced_number(out, at, m[i]);
+        i += 1;
+    }
+    at
+}
+
+// Numbers in a bracket, parted by one space.
+fn write_bracketed(out: &mut [u8], put: usize, m: &[u8]) -> usize
+    requires { ⌜ (0 < length (now m)) × (put + 4 * length (now m) + 1 ≤ length (now out)) ⌝ }
+    ensures { λ r. ⌜ Laid (now (out .entry)) put (bracketed (now (m .entry))) (now (out .exit)) r ⌝ }
+    ensures short { λ r. ⌜ r ≤ put + 4 * length (now (m .entry)) + 1 ⌝ }
+{
+    let first = write_byte(out, put, b'[');
+    let rest = write_number(out, first, m[0]);
+    let end = write_spaced(out, rest, &m[1..]);
+    write_byte(out, end, b']')
+}
+
+// Numbers in a bracket after a space.
+fn write_spaced_bracket(out: &mut [u8], put: usize, m: &[u8]) -> usize
+    requires { ⌜ (0 < length (now m)) × (put + 4 * length (now m) + 2 ≤ length (now out)) ⌝ }
+    ensures { λ r. ⌜ Laid (now (out .entry)) put (spacedBrackets (now (m .entry) ∷ [])) (now (out .exit)) r ⌝ }
+    ensures short { λ r. ⌜ r ≤ put + 4 * length (now (m .entry)) + 2 ⌝ }
+{
+    let after = write_byte(out, put, b' ');
+    write_bracketed(out, after, m)
+}
+
+// Lists of n numbers that follow each other, each in a bracket after a space.
+fn write_maps(out: &mut [u8], put: usize, n: usize, count: usize, maps: &[u8]) -> usize
+    requires { ⌜ ((0 < n) × (put + count * (4 * n + 2) ≤ length (now out))) × (count * n ≤ length (now maps)) ⌝ }
+    ensures { λ r. ⌜ Laid (now (out .entry)) put (spacedBrackets (map (stretch n (now (maps .entry))) (upTo count))) (now (out .exit)) r ⌝ }
+    ensures short { λ r. ⌜ r ≤ put + count * (4 * n + 2) ⌝ }
+{
+    let mut at = put;
+    let mut from = 0;
+    let mut i = 0;
+    while i < count {
+        let to = from + n;
+        at = write_spaced_bracket(out, at, &maps[from..to]);
+        from = to;
+        i += 1;
+    }
+    at
+}
+
+// The end of a line.
+fn write_close(out: &mut [u8], put: usize) -> usize
+    requires { ⌜ put + 2 ≤ length (now out) ⌝ }
+    ensures { λ r. ⌜ Laid (now (out .entry)) put (ascii "]\n") (now (out .exit)) r ⌝ }
+{
+    write_word(out, put, b"]\n")
+}
