@@ -1,17 +1,20 @@
 -- What numbers look like: how long they are, numbers after spaces, in brackets, and one after the other.
 use Prim.Native.Nat.{ℕ, zero, suc, _+_, _-_, _*_, _/_, _%_, _≤_, _<_}
-use mathlib.Core.List.{List, [], _∷_, _++_, append-assoc, append-nil}
+use mathlib.Core.List.{List, [], _∷_, _++_, map, append-assoc, append-nil, map-append}
 use mathlib.Core.Path.{_≡_, refl, ap, sym, _∙_}
 use native.Mathlib.Decide.{decLt}
-use native.Mathlib.Nat.{add-zero, add-assoc}
+use native.Mathlib.Nat.{zero-mul, suc-mul, mul-le-mul-right}
 use native.Mathlib.Numerals.{add-one}
 use native.Mathlib.Omega.{arith}
 use borrow.Author.Tests.{lt-ltb, le-ltb}
-use lib.ListN.{length, getD, take, drop, length-append, length-drop}
+use lib.ListN.{length, getD, take, drop, length-append, length-drop, length-take}
 use lib.Seq.{take-suc, take-all, length-take-le}
+use Rattle.equivalence.specs.Lists.{upTo, stretch}
+use Rattle.equivalence.specs.Refusal.{numberOf}
+use Rattle.equivalence.specs.declared.Refusal.{Refusal}
 use Rattle.bracket.specs.Reading.{ascii}
 use Rattle.bracket.specs.Numbers.{decimal}
-use Rattle.bracket.specs.Answers.{spaced, bracketed}
+use Rattle.bracket.specs.Answers.{spaced, bracketed, spacedBrackets, line, refusedLine}
 use Rattle.bracket.specs.Promises.{Laid}
 use Rattle.bracket.proofs.Laying.{laid-none, laid-more}
 
@@ -111,3 +114,92 @@ module _ (lent : List ℕ) (put : ℕ) (mid : List ℕ) (at : ℕ) (after : List
       (laid-more lent put (91 ∷ []) mid at (decimal (getD m 0 0) ++ (spaced (drop 1 m) ++ (93 ∷ []))) after end p
       (laid-more mid at (decimal (getD m 0 0)) mid′ at′ (spaced (drop 1 m) ++ (93 ∷ [])) after end q
       (laid-more mid′ at′ (spaced (drop 1 m)) mid″ at″ (93 ∷ []) after end (rw e at r) s)))
+
+  pub bracket-after-space : (m : List ℕ) → Laid lent put (32 ∷ []) mid at → Laid mid at (bracketed m) after end
+      → Laid lent put (spacedBrackets (m ∷ [])) after end
+  unfolding spacedBrackets ascii
+  bracket-after-space m p q = rw append-nil (laid-more lent put (32 ∷ []) mid at (bracketed m) after end p q)
+
+  pub three-numbers : (a b c : ℕ) (mid′ : List ℕ) (at′ : ℕ) → Laid lent put (spaced (a ∷ [])) mid at → Laid mid at (spaced (b ∷ [])) mid′ at′
+      → Laid mid′ at′ (spaced (c ∷ [])) after end → Laid lent put (spaced (a ∷ b ∷ c ∷ [])) after end
+  three-numbers a b c mid′ at′ p q r =
+      rw (spaced-append (a ∷ []) (b ∷ c ∷ []), spaced-append (b ∷ []) (c ∷ []))
+      (laid-more lent put (spaced (a ∷ [])) mid at (spaced (b ∷ []) ++ spaced (c ∷ [])) after end p
+      (laid-more mid at (spaced (b ∷ [])) mid′ at′ (spaced (c ∷ [])) after end q r))
+
+  -- a line: its word, what follows, and its end
+  pub line-written : (word body mid′ : List ℕ) (at′ : ℕ) → Laid lent put word mid at → Laid mid at body mid′ at′ → Laid mid′ at′ (ascii "]\n") after end
+      → Laid lent put (line word body) after end
+  unfolding line
+  line-written word body mid′ at′ p q r =
+      laid-more lent put (word ++ body) mid′ at′ (ascii "]\n") after end (laid-more lent put word mid at body mid′ at′ p q) r
+
+  pub refused-written : (r : Refusal) (v : ℕ) (mid′ : List ℕ) (at′ : ℕ) → v ≡ numberOf r → Laid lent put (ascii "[refused") mid at
+      → Laid mid at (spaced (v ∷ [])) mid′ at′ → Laid mid′ at′ (ascii "]\n") after end → Laid lent put (refusedLine r) after end
+  unfolding refusedLine
+  refused-written r v mid′ at′ e p q s = line-written (ascii "[refused") (spaced (numberOf r ∷ [])) mid′ at′ p (rw e at q) s
+
+  pub generated-written : (word a b mid′ : List ℕ) (at′ : ℕ) (mid″ : List ℕ) (at″ : ℕ) → Laid lent put word mid at → Laid mid at a mid′ at′
+      → Laid mid′ at′ b mid″ at″ → Laid mid″ at″ (ascii "]\n") after end → Laid lent put (line word (a ++ b)) after end
+  generated-written word a b mid′ at′ mid″ at″ p q r s =
+      line-written word (a ++ b) mid″ at″ p (laid-more mid at a mid′ at′ b mid″ at″ q r) s
+
+pub brackets-append : (ms ns : List (List ℕ)) → spacedBrackets (ms ++ ns) ≡ spacedBrackets ms ++ spacedBrackets ns
+unfolding spacedBrackets ascii
+brackets-append [] ns = refl
+brackets-append (m ∷ ms) ns =
+    rw (brackets-append ms ns) (ap (λ (l : List ℕ). 32 ∷ l) (sym (append-assoc (bracketed m) (spacedBrackets ms) (spacedBrackets ns))))
+
+-- the maps from 0 to i - 1 of those that follow each other, each in a bracket after a space
+unfoldable pub bracketsUpTo : ℕ → List ℕ → ℕ → List ℕ
+bracketsUpTo n maps i = spacedBrackets (map (stretch n maps) (upTo i))
+
+pub brackets-next : (n : ℕ) (maps : List ℕ) (i : ℕ) → bracketsUpTo n maps (i + 1) ≡ bracketsUpTo n maps i ++ spacedBrackets (take n (drop (i * n) maps) ∷ [])
+unfolding bracketsUpTo upTo stretch
+brackets-next n maps i =
+    rw (add-one i, map-append (stretch n maps) (upTo i) (i ∷ []))
+    (brackets-append (map (stretch n maps) (upTo i)) (take n (drop (i * n) maps) ∷ []))
+
+-- one more of equal parts
+pub part-more : (i count w : ℕ) → i < count → i * w + w ≤ count * w
+part-more i count w h = rw (← suc-mul i w) (mul-le-mul-right w h)
+
+-- the first i maps are written
+pub record Factored (lent : List ℕ) (put n : ℕ) (maps out : List ℕ) (at from i : ℕ) : Type 0 where
+  pub place : from ≡ i * n
+  pub short : at ≤ put + i * (4 * n + 2)
+  pub laid : Laid lent put (bracketsUpTo n maps i) out at
+
+-- there is a map more to read, and room to write it
+pub record OneMore (n : ℕ) (maps out : List ℕ) (at from : ℕ) : Type 0 where
+  pub source : from + n ≤ length maps
+  pub room : at + 4 * n + 2 ≤ length out
+
+module _ (lent : List ℕ) (put n : ℕ) (maps : List ℕ) where
+  pub factored-none : put ≤ length lent → Factored lent put n maps lent put 0 0
+  unfolding bracketsUpTo upTo spacedBrackets
+  factored-none h = record { place = omega (arith, zero-mul n); short = omega arith; laid = laid-none lent put h }
+
+  module _ (out : List ℕ) (at from i : ℕ) (p : Factored lent put n maps out at from i) where
+    pub factored-room : (count : ℕ) → i < count → put + count * (4 * n + 2) ≤ length lent → count * n ≤ length maps → OneMore n maps out at from
+    factored-room count h r s =
+        omega (arith, p .place, p .short, p .laid .long, part-more i count n h, part-more i count (4 * n + 2) h)
+
+    pub factored-more : (out′ : List ℕ) (at′ : ℕ) → Laid out at (spacedBrackets (take (from + n - from) (drop from maps) ∷ [])) out′ at′
+        → at′ ≤ at + 4 * length (take (from + n - from) (drop from maps)) + 2 → Factored lent put n maps out′ at′ (from + n) (i + 1)
+    factored-more out′ at′ q s =
+        let e : from + n - from ≡ n = omega arith in
+        record {
+          place = rw (add-one i, suc-mul i n) (omega (arith, p .place));
+          short = rw (add-one i, suc-mul i (4 * n + 2)) (omega (arith, p .short, simp (e, length-take) at s));
+          laid =
+            rw (brackets-next n maps i, ← p .place)
+            (laid-more lent put (bracketsUpTo n maps i) out at (spacedBrackets (take n (drop from maps) ∷ [])) out′ at′ (p .laid) (rw e at q))
+        }
+
+    pub factored-all : (count : ℕ) → i ≤ count → count ≤ i → Laid lent put (spacedBrackets (map (stretch n maps) (upTo count))) out at
+    unfolding bracketsUpTo
+    factored-all count l g = let e : i ≡ count = omega arith in rw e at (p .laid)
+
+    pub factored-short : (count : ℕ) → i ≤ count → count ≤ i → at ≤ put + count * (4 * n + 2)
+    factored-short count l g = let e : i ≡ count = omega arith in rw e at (p .short)

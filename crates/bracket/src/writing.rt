@@ -1,12 +1,13 @@
 // Writing bracket text into a lent buffer: each writer begins at a place and gives the place after what it wrote.
 ghost use mathlib.Core.Path.{_≡_};
-ghost use mathlib.Core.List.{[], _∷_, map};
+ghost use mathlib.Core.List.{[], _∷_, _++_, map};
 ghost use Prim.Native.Nat.{ℕ, _+_, _*_, _≤_, _<_};
 ghost use lib.ListN.{length};
 ghost use Rattle.bracket.specs.Numbers.{decimal};
 ghost use Rattle.equivalence.specs.Lists.{upTo, stretch};
+ghost use Rattle.equivalence.specs.Refusal.{numberOf};
 ghost use Rattle.bracket.specs.Reading.{ascii};
-ghost use Rattle.bracket.specs.Answers.{spaced, bracketed, spacedBrackets};
+ghost use Rattle.bracket.specs.Answers.{spaced, bracketed, spacedBrackets, line, refusedLine};
 ghost use Rattle.bracket.specs.Promises.{Laid};
 
 // One byte.
@@ -120,4 +121,88 @@ fn write_close(out: &mut [u8], put: usize) -> usize
     ensures { λ r. ⌜ Laid (now (out .entry)) put (ascii "]\n") (now (out .exit)) r ⌝ }
 {
     write_word(out, put, b"]\n")
+}
+
+// The number of a refusal in document 01's table.
+fn reason(r: equivalence::Refusal) -> u8
+    ensures { λ n. ⌜ n ≡ numberOf r ⌝ }
+{
+    match r {
+        equivalence::Refusal::Size => 1,
+        equivalence::Refusal::Operations => 2,
+        equivalence::Refusal::Arity => 3,
+        equivalence::Refusal::Cells => 4,
+        equivalence::Refusal::Length => 5,
+        equivalence::Refusal::Cell => 6,
+        equivalence::Refusal::Range => 7,
+        equivalence::Refusal::NotMap => 8,
+        equivalence::Refusal::Space => 9,
+        equivalence::Refusal::Equal => 10,
+        equivalence::Refusal::NotCongruence => 12,
+        equivalence::Refusal::Tally => 13,
+        equivalence::Refusal::Text => 14,
+    }
+}
+
+// `[refused 8]`
+pub fn write_refused(out: &mut [u8], r: equivalence::Refusal) -> usize
+    requires { ⌜ 14 ≤ length (now out) ⌝ }
+    ensures { λ e. ⌜ Laid (now (out .entry)) 0 (refusedLine r) (now (out .exit)) e ⌝ }
+{
+    let number = reason(r);
+    let word = write_word(out, 0, b"[refused");
+    let end = write_spaced_number(out, word, number);
+    write_close(out, end)
+}
+
+// Three numbers, each after a space.
+fn write_three(out: &mut [u8], put: usize, a: u8, b: u8, c: u8) -> usize
+    requires { ⌜ put + 12 ≤ length (now out) ⌝ }
+    ensures { λ r. ⌜ Laid (now (out .entry)) put (spaced (a ∷ b ∷ c ∷ [])) (now (out .exit)) r ⌝ }
+    ensures short { λ r. ⌜ r ≤ put + 12 ⌝ }
+{
+    let first = write_spaced_number(out, put, a);
+    let second = write_spaced_number(out, first, b);
+    write_spaced_number(out, second, c)
+}
+
+// `[refused 11 0 2]`
+pub fn write_irreducible(out: &mut [u8], x: u8, y: u8) -> usize
+    requires { ⌜ 22 ≤ length (now out) ⌝ }
+    ensures { λ e. ⌜ Laid (now (out .entry)) 0 (line (ascii "[refused") (spaced (11 ∷ x ∷ y ∷ []))) (now (out .exit)) e ⌝ }
+{
+    let word = write_word(out, 0, b"[refused");
+    let end = write_three(out, word, 11, x, y);
+    write_close(out, end)
+}
+
+// `[map 0 0 2 3]`
+pub fn write_map(out: &mut [u8], m: &[u8]) -> usize
+    requires { ⌜ 4 * length (now m) + 6 ≤ length (now out) ⌝ }
+    ensures { λ e. ⌜ Laid (now (out .entry)) 0 (line (ascii "[map") (spaced (now (m .entry)))) (now (out .exit)) e ⌝ }
+{
+    let word = write_word(out, 0, b"[map");
+    let end = write_spaced(out, word, m);
+    write_close(out, end)
+}
+
+// `[generated 2 [0 1 0 1]]`
+pub fn write_generated(out: &mut [u8], merges: u8, m: &[u8]) -> usize
+    requires { ⌜ (0 < length (now m)) × (4 * length (now m) + 18 ≤ length (now out)) ⌝ }
+    ensures { λ e. ⌜ Laid (now (out .entry)) 0 (line (ascii "[generated") (spaced (merges ∷ []) ++ spacedBrackets (now (m .entry) ∷ []))) (now (out .exit)) e ⌝ }
+{
+    let word = write_word(out, 0, b"[generated");
+    let number = write_spaced_number(out, word, merges);
+    let end = write_spaced_bracket(out, number, m);
+    write_close(out, end)
+}
+
+// `[factors [0 1 0 1] [0 0 2 2]]`
+pub fn write_factors(out: &mut [u8], n: usize, count: usize, maps: &[u8]) -> usize
+    requires { ⌜ ((0 < n) × (count * (4 * n + 2) + 10 ≤ length (now out))) × (count * n ≤ length (now maps)) ⌝ }
+    ensures { λ e. ⌜ Laid (now (out .entry)) 0 (line (ascii "[factors") (spacedBrackets (map (stretch n (now (maps .entry))) (upTo count)))) (now (out .exit)) e ⌝ }
+{
+    let word = write_word(out, 0, b"[factors");
+    let end = write_maps(out, word, n, count, maps);
+    write_close(out, end)
 }

@@ -1,3 +1,4 @@
+use Rattle.bracket.specs.Reading.{ascii}
 use borrow.Author.Needs.{needs}
 use Rattle.bracket.proofs.writing.write_close.Statement.{statement}
 use Rattle.bracket.proofs.writing.write_close.Tie as tie
@@ -19,7 +20,8 @@ same-length c = search needs
 
 -- src/writing.rt:118:1
 returns : tie.Need-returns
-returns c = ?
+unfolding ascii
+returns c = c .before .before .write-word .ensures
 
 pub write-close-spec : {M : Type 1} → statement M
 write-close-spec =

@@ -1,3 +1,5 @@
+use native.Mathlib.Omega.{arith}
+use Rattle.bracket.proofs.Spacing.{bracket-after-space}
 use borrow.Author.Needs.{needs}
 use Rattle.bracket.proofs.writing.write_spaced_bracket.Statement.{statement}
 use Rattle.bracket.proofs.writing.write_spaced_bracket.Tie as tie
@@ -20,7 +22,7 @@ same-length c = search needs
 
 -- src/writing.rt:90:1
 returns : tie.Need-returns
-returns c = ?
+returns c = (search bracket-after-space, omega arith)
 
 pub write-spaced-bracket-spec : {M : Type 1} → statement M
 write-spaced-bracket-spec =
