@@ -7,11 +7,11 @@ use native.Mathlib.Decide.{decLt}
 use native.Mathlib.Omega.{arith}
 use borrow.Author.Tests.{lt-ltb, le-ltb, le-leb, lt-leb, eq-eqb, ne-eqb}
 use lib.Dec.{eqb, leb, ltb}
-use lib.ListN.{length, getD, List·getD-eq-default}
+use lib.ListN.{length}
 use Rattle.bracket.specs.Reading.{found, fault, byteAt}
 use Rattle.bracket.specs.Numbers.{digitAt, threeAt, number}
 use Rattle.bracket.specs.Promises.{NumberRead}
-use Rattle.bracket.specs.declared.reading.Number.{Number}
+use Rattle.bracket.proofs.Readers.{within-text}
 
 module _ (text : List ℕ) (at : ℕ) where
   pub digit-below : byteAt text at < 48 → digitAt text at ≡ 10
@@ -29,11 +29,8 @@ module _ (text : List ℕ) (at : ℕ) where
   -- past the end no digit stands
   pub digit-within : digitAt text at ≤ 9 → at < length text
   digit-within h =
-      elim (decLt at (length text)) [
-        | yes l ↦ l
-        | no l ↦ let e : byteAt text at ≡ 0 = List·getD-eq-default text 0 {n = at} (omega arith) in
-            absurd (omega (arith, digit-below (omega arith)))
-      ]
+      within-text text at
+      (elim (decLt 0 (byteAt text at)) [ yes p ↦ p | no p ↦ absurd (omega (arith, digit-below (omega arith))) ])
 
 -- what `number` finds, by the digits a, b and c that stand from a place on
 module _ (text : List ℕ) (at a : ℕ) (ea : a ≡ digitAt text at) where

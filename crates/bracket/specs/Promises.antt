@@ -7,6 +7,7 @@ use lib.ListN.{length, take, drop}
 use Rattle.bracket.specs.Reading.{Read, found, fault}
 use Rattle.bracket.specs.Numbers.{number}
 use Rattle.bracket.specs.declared.reading.Number.{Number}
+use Rattle.bracket.specs.declared.reading.Spot.{Spot}
 
 -- a value and the place after it, or a fault, as a flag tells
 abbrev pub readOf : {A : Type 0} → Bool → A → ℕ → Read A
@@ -38,3 +39,16 @@ pub record Laid (lent : List ℕ) (put : ℕ) (new after : List ℕ) (end : ℕ)
   pub within : end ≤ length lent
   pub long : length after ≡ length lent
   pub bytes : after ≡ laid lent put new
+
+-- the storage has room from `put` on for as many bytes as the text has from `at` on
+pub record Roomy (text : List ℕ) (at : ℕ) (cells : List ℕ) (put : ℕ) : Type 0 where
+  pub within : at ≤ length text
+  pub room : put + length text ≤ length cells + at
+
+-- a reader of lists came to what `d` says, and laid the list, or before a fault some list, in the storage from `put` on
+pub record Stored (text : List ℕ) (at : ℕ) (lent : List ℕ) (put : ℕ) (d : Read (List ℕ)) (after : List ℕ) (r : Spot) : Type 0 where
+  pub new : List ℕ
+  pub value : d ≡ readOf (r .ok) new (r .at)
+  pub laid : Laid lent put new after (r .put)
+  pub reached : Reached text at (r .ok) (r .at)
+  pub paced : r .put + at ≤ put + r .at
