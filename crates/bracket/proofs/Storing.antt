@@ -39,25 +39,25 @@ stored-fault text at from lent put d d′ after r l s e =
     record { new = s .new; value = e; laid = s .laid; reached = omega (arith, s .reached); paced = omega (arith, s .paced) }
 
 module _ (text : List ℕ) (at : ℕ) (lent : List ℕ) (put : ℕ) (w : Roomy text at lent put) where
-  pub cell-none : (v : Number) → NumberRead text at v → v .ok ≡ false → Stored text at lent put (cell text at) lent (spot false at put)
+  pub cell-none : (v : Number) → NumberRead text at (number text at) v → v .ok ≡ false → Stored text at lent put (cell text at) lent (spot false at put)
   unfolding cell
   cell-none v n e =
       stored-nothing text at lent put (cell text at) w
       (then-fault number (λ v. done (v ∷ [])) text at (n .value ∙ ap (λ (b : Bool). readOf b (v .value) (v .next)) e))
 
-  pub cell-room : (v : Number) → NumberRead text at v → v .ok ≡ true → put < length lent
-  cell-room v n e = let past : at + 1 ≤ v .next = rw e at (n .reached .past) in omega (arith, n .reached .within)
+  pub cell-room : (v : Number) → NumberRead text at (number text at) v → v .ok ≡ true → put < length lent
+  cell-room v n e = let past : at + 1 ≤ v .next = rw e at (n .past) in omega (arith, n .within)
 
-  pub cell-one : (v : Number) → NumberRead text at v → v .ok ≡ true
+  pub cell-one : (v : Number) → NumberRead text at (number text at) v → v .ok ≡ true
       → Stored text at lent put (cell text at) (set lent put (v .value)) (spot true (v .next) (put + 1))
   unfolding cell
   cell-one v n e =
-      let past : at + 1 ≤ v .next = rw e at (n .reached .past) in
+      let past : at + 1 ≤ v .next = rw e at (n .past) in
       record {
         new = v .value ∷ [];
         value = then-found number (λ v. done (v ∷ [])) text at (v .value) (v .next) (n .value ∙ ap (λ (b : Bool). readOf b (v .value) (v .next)) e);
         laid = laid-one lent put (v .value) (cell-room v n e);
-        reached = omega (arith, n .reached .within);
+        reached = omega (arith, n .within);
         paced = omega arith
       }
 
@@ -101,7 +101,7 @@ module _ (text : List ℕ) (at : ℕ) (lent : List ℕ) (put : ℕ) (item : Read
         new = s .new;
         value = parted-one item text at left l ∙ s .value ∙ ap (λ (b : Bool). readOf b (s .new) (r .at)) e;
         laid = s .laid;
-        reached = record { within = s .reached .within; past = rw e at (s .reached .past) };
+        reached = s .reached;
         paced = s .paced
       }
 

@@ -5,7 +5,6 @@ use mathlib.Core.List.{List, _++_}
 use mathlib.Core.Path.{_≡_}
 use lib.ListN.{length, take, drop}
 use Rattle.bracket.specs.Reading.{Read, found, fault}
-use Rattle.bracket.specs.Numbers.{number}
 use Rattle.bracket.specs.declared.reading.Number.{Number}
 use Rattle.bracket.specs.declared.reading.Spot.{Spot}
 
@@ -19,15 +18,16 @@ abbrev pub bit : Bool → ℕ
 bit true = 1
 bit false = 0
 
--- where a reader that began at `at` came to: within the text, and past its start if it found something
-pub record Reached (text : List ℕ) (at : ℕ) (ok : Bool) (next : ℕ) : Type 0 where
+-- a reader that began at `at` came to a place in the text that is no less
+pub record Reached (text : List ℕ) (at next : ℕ) : Type 0 where
   pub within : next ≤ length text
-  pub past : at + bit ok ≤ next
+  pub past : at ≤ next
 
--- a number was read as `number` says
-pub record NumberRead (text : List ℕ) (at : ℕ) (r : Number) : Type 0 where
-  pub reached : Reached text at (r .ok) (r .next)
-  pub value : number text at ≡ readOf (r .ok) (r .value) (r .next)
+-- a reader of a number came to what `d` says, and took a byte at least
+pub record NumberRead (text : List ℕ) (at : ℕ) (d : Read ℕ) (r : Number) : Type 0 where
+  pub value : d ≡ readOf (r .ok) (r .value) (r .next)
+  pub within : r .next ≤ length text
+  pub past : at + bit (r .ok) ≤ r .next
 
 -- the lent bytes with new ones from a place on
 unfoldable pub laid : List ℕ → ℕ → List ℕ → List ℕ
@@ -50,5 +50,5 @@ pub record Stored (text : List ℕ) (at : ℕ) (lent : List ℕ) (put : ℕ) (d 
   pub new : List ℕ
   pub value : d ≡ readOf (r .ok) new (r .at)
   pub laid : Laid lent put new after (r .put)
-  pub reached : Reached text at (r .ok) (r .at)
+  pub reached : Reached text at (r .at)
   pub paced : r .put + at ≤ put + r .at

@@ -3,8 +3,8 @@ ghost use mathlib.Core.Path.{_≡_};
 ghost use Prim.Native.Nat.{ℕ, _+_, _-_, _≤_, _<_};
 ghost use lib.ListN.{length};
 ghost use Rattle.bracket.specs.Reading.{byteAt, begins};
-ghost use Rattle.bracket.specs.Numbers.{digitAt};
-ghost use Rattle.bracket.specs.Tables.{cell, table, parted};
+ghost use Rattle.bracket.specs.Numbers.{digitAt, number};
+ghost use Rattle.bracket.specs.Tables.{cell, table, parted, items};
 ghost use Rattle.bracket.specs.Promises.{NumberRead, Roomy, Stored};
 
 // A number that was read, and the place after it; where `ok` is false, nothing.
@@ -60,7 +60,7 @@ pub fn begins_with(text: &[u8], at: usize, word: &[u8]) -> bool
 // A number from 0 to 255 without leading zeros.
 pub fn read_number(text: &[u8], at: usize) -> Number
     requires { ⌜ at ≤ length (now text) ⌝ }
-    ensures { λ r. ⌜ NumberRead (now (text .entry)) at r ⌝ }
+    ensures { λ r. ⌜ NumberRead (now (text .entry)) at (number (now (text .entry)) at) r ⌝ }
 {
     let none = Number { ok: false, value: 0, next: at };
     let a = digit_at(text, at);
@@ -143,4 +143,23 @@ fn read_rows(text: &[u8], at: usize, arity: u8, n: u8, left: u8, cells: &mut [u8
         return Spot { ok: false, at: next, put: so_far };
     }
     read_rows(text, next + 1, arity, n, left - 1, cells, so_far)
+}
+
+// Any count of tables of an arity, each after a space.
+pub fn read_items(text: &[u8], at: usize, arity: u8, n: u8, cells: &mut [u8], put: usize) -> Spot
+    requires { ⌜ Roomy (now text) at (now cells) put ⌝ }
+    requires { ⌜ 0 < n ⌝ }
+    ensures { λ r. ⌜ Stored (now (text .entry)) at (now (cells .entry)) put (items (table n arity) (now (text .entry)) at) (now (cells .exit)) r ⌝ }
+{
+    let mut next = at;
+    let mut so_far = put;
+    while byte_at(text, next) == b' ' {
+        let item = read_table(text, next + 1, arity, n, cells, so_far);
+        next = item.at;
+        so_far = item.put;
+        if !item.ok {
+            return Spot { ok: false, at: next, put: so_far };
+        }
+    }
+    Spot { ok: true, at: next, put: so_far }
 }
