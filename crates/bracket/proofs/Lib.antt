@@ -1,8 +1,10 @@
 pub mod Digits
 pub mod Examples
+pub mod Judging
 pub mod Laying
 pub mod Listing
 pub mod Readers
+pub mod SpacedNumbers
 pub mod Spacing
 pub mod Storing
 pub mod Words

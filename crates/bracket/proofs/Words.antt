@@ -1,16 +1,19 @@
 -- Words: how far the bytes of a word stand in a text.
 use Prim.Native.Nat.{ℕ, zero, suc, _+_, _≤_, _<_}
-use mathlib.Core.Bool.{true, false, _&&_}
+use mathlib.Core.Bool.{Bool, true, false, _&&_}
 use mathlib.Core.List.{List, [], _∷_}
 use mathlib.Core.Path.{_≡_, refl, ap, sym, _∙_}
 use native.Mathlib.Nat.{add-zero}
 use native.Mathlib.Numerals.{add-one}
 use native.Mathlib.Omega.{arith}
-use borrow.Author.Tests.{eq-eqb, ne-eqb}
-use lib.Dec.{eqb}
+use borrow.Author.Tests.{eq-eqb, ne-eqb, eqb-true}
+use lib.Dec.{T, eqb, ltb, ltb→lt}
 use lib.ListN.{length, getD, drop, drop-of-length-le}
 use lib.Seq.{drop-cons}
+use Rattle.equivalence.specs.Lists.{every}
+use Rattle.equivalence.proofs.Tests.{left, right}
 use Rattle.bracket.specs.Reading.{byteAt, begins}
+use Rattle.bracket.proofs.Readers.{within-text}
 
 -- the first i bytes of the word stand there
 pub record Matched (text : List ℕ) (at : ℕ) (word : List ℕ) (i : ℕ) : Type 0 where
@@ -37,3 +40,21 @@ module _ (text : List ℕ) (at : ℕ) (word : List ℕ) where
     pub matched-all : length word ≤ i → true ≡ begins text at word
     unfolding begins
     matched-all h = sym (m .rest ∙ rw (drop-of-length-le word {i = i} h))
+
+pub and-left : (a b : Bool) → (a && b) ≡ true → a ≡ true
+and-left true b e = refl
+and-left false b e = e
+
+pub and-right : (a b : Bool) → (a && b) ≡ true → b ≡ true
+and-right true b e = e
+and-right false b e = let z : _≡_ {A = ℕ} 0 1 = cc in absurd (omega arith)
+
+-- a word without byte 0 that stands in the text ends within it
+pub begins-within : (text : List ℕ) (word : List ℕ) (at : ℕ) → T (every (ltb 0) word) → at ≤ length text → begins text at word ≡ true → at + length word ≤ length text
+unfolding begins every
+begins-within text [] at t w e = omega arith
+begins-within text (b ∷ word) at t w e =
+    let here : byteAt text at ≡ b = eqb-true (byteAt text at) b (and-left (eqb (byteAt text at) b) (begins text (at + 1) word) e) in
+    let some : 0 < b = ltb→lt 0 b (left (ltb 0 b) (every (ltb 0) word) t) in
+    let l = within-text text at (omega arith) in
+    omega (arith, begins-within text word (at + 1) (right (ltb 0 b) (every (ltb 0) word) t) (omega arith) (and-right (eqb (byteAt text at) b) (begins text (at + 1) word) e))

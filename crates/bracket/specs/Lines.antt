@@ -64,15 +64,15 @@ lastTable n s = do
   close
   done cells
 
--- 2, 3 and 4 for one operation more, of arity s
-unfoldable pub operationTests : Algebra → ℕ → List Test
-operationTests a s =
+-- 2, 3 and 4 for one operation more, of arity s on n elements, behind so many operations with so many cells
+unfoldable pub operationTests : ℕ → ℕ → ℕ → ℕ → List Test
+operationTests n operations cells s =
     -- 2: above 16 operations
-    record { applies = ltb 16 (length (a .arities) + 1); reason = Operations }
+    record { applies = ltb 16 (operations + 1); reason = Operations }
     -- 3: an arity above 3
     ∷ record { applies = ltb 3 s; reason = Arity }
     -- 4: above 32,768 cells, over all up to and including its own
-    ∷ record { applies = ltb 32768 (length (a .cells) + a .size ^ s); reason = Cells }
+    ∷ record { applies = ltb 32768 (cells + n ^ s); reason = Cells }
     ∷ []
 
 -- 6: a cell not below n
@@ -91,7 +91,8 @@ afterTable a s (found cells at) = tested (lowest (cellTest (a .size) cells ∷ [
 -- the arity and the space after it are read: 14, then 2, 3 or 4, then the table
 unfoldable pub afterArity : Algebra → List ℕ → Read ℕ → Progress
 afterArity a text fault = refused Text
-afterArity a text (found s at) = tested (lowest (operationTests a s)) (afterTable a s (lastTable (a .size) s text at))
+afterArity a text (found s at) = 
+    tested (lowest (operationTests (a .size) (length (a .arities)) (length (a .cells)) s)) (afterTable a s (lastTable (a .size) s text at))
 
 -- the rest of an operation line behind `[op`
 unfoldable pub operation : Algebra → List ℕ → ℕ → Progress
@@ -104,10 +105,25 @@ pub data Request : Type 0 where
   separate : ℕ → ℕ → Request
   decompose : Request
 
+-- the rest of a line behind its word: any count of items, each after a space
+unfoldable pub listing : Reader (List ℕ) → Reader (List ℕ)
+listing item = do
+  xs ← items item
+  close
+  done xs
+
+-- two numbers, to the line's end
+unfoldable pub twoNumbers : Reader Request
+twoNumbers = do
+  v ← spacedNumber
+  w ← spacedNumber
+  close
+  done (separate v w)
+
 -- a request line: `[generate [0 2]]`, `[contained 0 0 0 3]`, `[separate 0 2]` or `[decompose]`
 unfoldable pub request : Reader Request
 request =
-    opened (ascii "[generate") (do ps ← items pair; close; done (generate ps))
-    (opened (ascii "[contained") (do xs ← items cell; close; done (contained xs))
-    (opened (ascii "[separate") (do v ← spacedNumber; w ← spacedNumber; close; done (separate v w))
+    opened (ascii "[generate") (do ps ← listing pair; done (generate ps))
+    (opened (ascii "[contained") (do xs ← listing cell; done (contained xs))
+    (opened (ascii "[separate") twoNumbers
     (opened (ascii "[decompose") (do close; done decompose) failed)))

@@ -1,10 +1,15 @@
 -- What inner functions promise each other: what a reader came to and where it stands, and what a writer laid in the lent bytes.
 use Prim.Native.Nat.{ℕ, _+_, _≤_}
 use mathlib.Core.Bool.{Bool, true, false}
-use mathlib.Core.List.{List, _++_}
+use mathlib.Core.List.{List, [], _∷_, _++_}
 use mathlib.Core.Path.{_≡_}
 use lib.ListN.{length, take, drop}
 use Rattle.bracket.specs.Reading.{Read, found, fault}
+use Rattle.equivalence.specs.declared.Check.{Check}
+use Rattle.equivalence.specs.declared.Check.the-variants.{Passed, Failed}
+use Rattle.algebra.specs.Algebra.{algebraOf}
+use Rattle.bracket.specs.Lines.{Progress, defined, refused, operation, Request, generate, contained, separate, decompose}
+use Rattle.bracket.specs.declared.lines.OperationLine.{OperationLine}
 use Rattle.bracket.specs.declared.reading.Number.{Number}
 use Rattle.bracket.specs.declared.reading.Spot.{Spot}
 
@@ -52,3 +57,16 @@ pub record Stored (text : List ℕ) (at : ℕ) (lent : List ℕ) (put : ℕ) (d 
   pub laid : Laid lent put new after (r .put)
   pub reached : Reached text at (r .at)
   pub paced : r .put + at ≤ put + r .at
+
+-- what an operation line came to, behind operations of these arities
+abbrev pub progressOf : ℕ → List ℕ → List ℕ → ℕ → ℕ → ℕ → Check → Progress
+progressOf n arities room s cells next Passed = defined (algebraOf n (arities ++ (s ∷ [])) (take cells room)) next
+progressOf n arities room s cells next (Failed r) = refused r
+
+-- the rest of an operation line was read as `operation` says, behind cells that stand first in the storage
+pub record OperationRead (text : List ℕ) (at n operations : ℕ) (lent : List ℕ) (put : ℕ) (after : List ℕ) (r : OperationLine) : Type 0 where
+  pub value : (arities : List ℕ) → length arities ≡ operations
+      → operation (algebraOf n arities (take put lent)) text at ≡ progressOf n arities after (r .arity) (r .cells) (r .next) (r .check)
+  pub reached : r .check ≡ Passed → Reached text at (r .next)
+  pub paced : r .check ≡ Passed → r .cells + at ≤ put + r .next
+  pub room : r .check ≡ Passed → r .cells ≤ 32768

@@ -1,4 +1,5 @@
 // Bracket text: reader, writer, and the answer to each line of a run.
 
+pub mod lines;
 pub mod reading;
 mod writing;

@@ -1,0 +1,116 @@
+// Reading the lines of an algebra: its size line and its operation lines.
+use crate::reading::{begins_with, byte_at, read_number, Number};
+
+ghost use mathlib.Core.Path.{_≡_};
+ghost use Prim.Native.Nat.{ℕ, _+_, _^_, _≤_, _<_};
+ghost use lib.ListN.{length};
+ghost use lib.Dec.{ltb};
+ghost use Rattle.equivalence.specs.Lists.{every};
+ghost use Rattle.equivalence.specs.Refusal.{lowest};
+ghost use Rattle.bracket.specs.Lines.{spacedNumber, sizeLine, arity, operationTests};
+ghost use Rattle.bracket.specs.Promises.{NumberRead, Roomy, OperationRead};
+
+// What an operation line came to: its arity, the place after it, and how many cells there are with its own; or a refusal.
+pub struct OperationLine {
+    pub check: equivalence::Check,
+    pub arity: u8,
+    pub next: usize,
+    pub cells: usize,
+}
+
+// A number after a space.
+pub fn read_spaced_number(text: &[u8], at: usize) -> Number
+    requires { ⌜ at ≤ length (now text) ⌝ }
+    ensures { λ r. ⌜ NumberRead (now (text .entry)) at (spacedNumber (now (text .entry)) at) r ⌝ }
+{
+    if byte_at(text, at) != b' ' {
+        return Number { ok: false, value: 0, next: at };
+    }
+    read_number(text, at + 1)
+}
+
+// The size line: `[size 4]`.
+pub fn read_size(text: &[u8], at: usize) -> Number
+    requires { ⌜ at ≤ length (now text) ⌝ }
+    ensures { λ r. ⌜ NumberRead (now (text .entry)) at (sizeLine (now (text .entry)) at) r ⌝ }
+{
+    let none = Number { ok: false, value: 0, next: at };
+    if !begins_with(text, at, b"[size") {
+        return none;
+    }
+    let n = read_spaced_number(text, at + 5);
+    let after = n.next;
+    if !n.ok {
+        return none;
+    }
+    if !begins_with(text, after, b"]\n") {
+        return none;
+    }
+    Number { ok: true, value: n.value, next: after + 2 }
+}
+
+// The arity of an operation line and the space after it.
+fn read_arity(text: &[u8], at: usize) -> Number
+    requires { ⌜ at ≤ length (now text) ⌝ }
+    ensures { λ r. ⌜ NumberRead (now (text .entry)) at (arity (now (text .entry)) at) r ⌝ }
+{
+    let s = read_spaced_number(text, at);
+    let after = s.next;
+    if !s.ok {
+        return s;
+    }
+    if byte_at(text, after) != b' ' {
+        return Number { ok: false, value: 0, next: at };
+    }
+    Number { ok: true, value: s.value, next: after + 1 }
+}
+
+// n to the power s.
+fn power(n: u8, s: u8) -> usize
+    requires { ⌜ s ≤ 3 ⌝ }
+    ensures { λ r. ⌜ r ≡ n ^ s ⌝ }
+    ensures small { λ r. ⌜ r ≤ 16581375 ⌝ }
+{
+    let m = n as usize;
+    if s == 0 {
+        return 1;
+    }
+    if s == 1 {
+        return m;
+    }
+    if s == 2 {
+        return m * m;
+    }
+    m * m * m
+}
+
+// Reasons 2, 3 and 4 for an operation of arity s behind so many operations with so many cells.
+fn check_operation(n: u8, operations: usize, cells: usize, s: u8) -> equivalence::Check
+    requires { ⌜ (operations ≤ 16) × (cells ≤ 32768) ⌝ }
+    ensures { λ r. ⌜ r ≡ lowest (operationTests n operations cells s) ⌝ }
+{
+    if 16 < operations + 1 {
+        return equivalence::Check::Failed(equivalence::Refusal::Operations);
+    }
+    if 3 < s {
+        return equivalence::Check::Failed(equivalence::Refusal::Arity);
+    }
+    if 32768 < cells + power(n, s) {
+        return equivalence::Check::Failed(equivalence::Refusal::Cells);
+    }
+    equivalence::Check::Passed
+}
+
+// Whether every cell is below n.
+fn all_below(cells: &[u8], n: u8) -> bool
+    ensures { λ r. ⌜ r ≡ every (λ c. ltb c n) (now (cells .entry)) ⌝ }
+{
+    let mut i = 0;
+    while i < cells.len() {
+        if n <= cells[i] {
+            return false;
+        }
+        i += 1;
+    }
+    true
+}
