@@ -77,3 +77,16 @@ module _ (lent : List ℕ) (put : ℕ) (word : List ℕ) (room : put + length wo
 
   pub lettered-all : (out : List ℕ) (i : ℕ) → Lettered lent put word out i → length word ≤ i → Laid lent put word out (put + i)
   lettered-all out i p h = rw take-all at (p .laid)
+
+-- what was laid, and what stands before its end
+pub laid-part : {lent : List ℕ} {put : ℕ} {new after : List ℕ} {end : ℕ} → Laid lent put new after end → take (end - put) (drop put after) ≡ new
+unfolding laid
+laid-part {lent} {put} {new} {after} {end} p =
+    let h : put ≤ length lent = omega (arith, p .place, p .within) in
+    let e : end - put ≡ length new = omega (arith, p .place) in
+    rw (e, p .bytes, drop-at (take put lent) (new ++ drop (put + length new) lent) put (length-take-le put lent h))
+    (take-at new (drop (put + length new) lent) (length new) refl)
+
+pub laid-before : {lent : List ℕ} {put : ℕ} {new after : List ℕ} {end : ℕ} → Laid lent put new after end → take end after ≡ take put lent ++ new
+laid-before {lent} {put} {new} {after} {end} p =
+    let h : put ≤ length lent = omega (arith, p .place, p .within) in rw (p .place, p .bytes, take-laid lent put new h)

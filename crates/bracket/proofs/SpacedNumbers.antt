@@ -57,7 +57,7 @@ module _ (text : List ℕ) (at : ℕ) where
         record { value = marked " " text at number (sym eb ∙ h) ∙ n .value; within = n .within; past = omega (arith, n .past) }
 
 -- a number that was found, or was not
-found-number : {text : List ℕ} {at : ℕ} {d : Read ℕ} {r : Number} → NumberRead text at d r → not (r .ok) ≡ false → d ≡ found (r .value) (r .next)
+pub found-number : {text : List ℕ} {at : ℕ} {d : Read ℕ} {r : Number} → NumberRead text at d r → not (r .ok) ≡ false → d ≡ found (r .value) (r .next)
 found-number {r = r} n e = n .value ∙ ap (λ (b : Bool). readOf b (r .value) (r .next)) (not-false (r .ok) e)
 
 pub missing-number : {text : List ℕ} {at : ℕ} {d : Read ℕ} {r : Number} → NumberRead text at d r → not (r .ok) ≡ true → d ≡ fault

@@ -8,7 +8,7 @@ use Rattle.bracket.specs.Reading.{Read, found, fault}
 use Rattle.equivalence.specs.declared.Check.{Check}
 use Rattle.equivalence.specs.declared.Check.the-variants.{Passed, Failed}
 use Rattle.algebra.specs.Algebra.{algebraOf}
-use Rattle.bracket.specs.Lines.{Progress, defined, refused, operation, Request, generate, contained, separate, decompose}
+use Rattle.bracket.specs.Lines.{Progress, defined, refused, lastTable, afterTable, operation, Request, generate, contained, separate, decompose}
 use Rattle.bracket.specs.declared.lines.OperationLine.{OperationLine}
 use Rattle.bracket.specs.declared.reading.Number.{Number}
 use Rattle.bracket.specs.declared.reading.Spot.{Spot}
@@ -63,10 +63,23 @@ abbrev pub progressOf : ℕ → List ℕ → List ℕ → ℕ → ℕ → ℕ �
 progressOf n arities room s cells next Passed = defined (algebraOf n (arities ++ (s ∷ [])) (take cells room)) next
 progressOf n arities room s cells next (Failed r) = refused r
 
--- the rest of an operation line was read as `operation` says, behind cells that stand first in the storage
+-- the table of an operation line, behind these arities and so many cells of the storage
+unfoldable pub tableProgress : List ℕ → ℕ → ℕ → ℕ → List ℕ → ℕ → List ℕ → Progress
+tableProgress text at s n lent put arities = afterTable (algebraOf n arities (take put lent)) s (lastTable n s text at)
+
+-- the table was read as that says, and stands in the storage behind the cells before
+pub record TableRead (text : List ℕ) (at s n : ℕ) (lent : List ℕ) (put : ℕ) (after : List ℕ) (r : OperationLine) : Type 0 where
+  pub value : (arities : List ℕ) → tableProgress text at s n lent put arities ≡ progressOf n arities after (r .arity) (r .cells) (r .next) (r .check)
+  pub reached : Reached text at (r .next)
+  pub paced : r .cells + at ≤ put + r .next
+
+-- an operation line, behind these arities and so many cells of the storage
+unfoldable pub operationProgress : List ℕ → ℕ → ℕ → List ℕ → ℕ → List ℕ → Progress
+operationProgress text at n lent put arities = operation (algebraOf n arities (take put lent)) text at
+
+-- the line was read as that says, behind so many operations
 pub record OperationRead (text : List ℕ) (at n operations : ℕ) (lent : List ℕ) (put : ℕ) (after : List ℕ) (r : OperationLine) : Type 0 where
   pub value : (arities : List ℕ) → length arities ≡ operations
-      → operation (algebraOf n arities (take put lent)) text at ≡ progressOf n arities after (r .arity) (r .cells) (r .next) (r .check)
-  pub reached : r .check ≡ Passed → Reached text at (r .next)
-  pub paced : r .check ≡ Passed → r .cells + at ≤ put + r .next
-  pub room : r .check ≡ Passed → r .cells ≤ 32768
+      → operationProgress text at n lent put arities ≡ progressOf n arities after (r .arity) (r .cells) (r .next) (r .check)
+  pub reached : Reached text at (r .next)
+  pub paced : r .cells + at ≤ put + r .next

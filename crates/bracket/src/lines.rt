@@ -1,5 +1,5 @@
 // Reading the lines of an algebra: its size line and its operation lines.
-use crate::reading::{begins_with, byte_at, read_number, Number};
+use crate::reading::{begins_with, byte_at, read_number, read_table, Number};
 
 ghost use mathlib.Core.Path.{_≡_};
 ghost use Prim.Native.Nat.{ℕ, _+_, _^_, _≤_, _<_};
@@ -8,7 +8,7 @@ ghost use lib.Dec.{ltb};
 ghost use Rattle.equivalence.specs.Lists.{every};
 ghost use Rattle.equivalence.specs.Refusal.{lowest};
 ghost use Rattle.bracket.specs.Lines.{spacedNumber, sizeLine, arity, operationTests};
-ghost use Rattle.bracket.specs.Promises.{NumberRead, Roomy, OperationRead};
+ghost use Rattle.bracket.specs.Promises.{NumberRead, Roomy, TableRead, OperationRead};
 
 // What an operation line came to: its arity, the place after it, and how many cells there are with its own; or a refusal.
 pub struct OperationLine {
@@ -86,7 +86,7 @@ fn power(n: u8, s: u8) -> usize
 
 // Reasons 2, 3 and 4 for an operation of arity s behind so many operations with so many cells.
 fn check_operation(n: u8, operations: usize, cells: usize, s: u8) -> equivalence::Check
-    requires { ⌜ (operations ≤ 16) × (cells ≤ 32768) ⌝ }
+    requires { ⌜ (operations ≤ 16) × (cells < 2 ^ 63) ⌝ }
     ensures { λ r. ⌜ r ≡ lowest (operationTests n operations cells s) ⌝ }
 {
     if 16 < operations + 1 {
@@ -113,4 +113,44 @@ fn all_below(cells: &[u8], n: u8) -> bool
         i += 1;
     }
     true
+}
+
+// The table of an operation line, to the line's end: 14, then 6.
+fn read_last_table(text: &[u8], at: usize, s: u8, n: u8, cells: &mut [u8], put: usize) -> OperationLine
+    requires { ⌜ Roomy (now text) at (now cells) put ⌝ }
+    requires { ⌜ 0 < n ⌝ }
+    ensures { λ r. ⌜ TableRead (now (text .entry)) at s n (now (cells .entry)) put (now (cells .exit)) r ⌝ }
+{
+    let table = read_table(text, at, s, n, cells, put);
+    let next = table.at;
+    let end = table.put;
+    if !table.ok {
+        return OperationLine { check: equivalence::Check::Failed(equivalence::Refusal::Text), arity: s, next: at, cells: put };
+    }
+    if !begins_with(text, next, b"]\n") {
+        return OperationLine { check: equivalence::Check::Failed(equivalence::Refusal::Text), arity: s, next: at, cells: put };
+    }
+    if !all_below(&cells[put..end], n) {
+        return OperationLine { check: equivalence::Check::Failed(equivalence::Refusal::Cell), arity: s, next: at, cells: put };
+    }
+    OperationLine { check: equivalence::Check::Passed, arity: s, next: next + 2, cells: end }
+}
+
+// The rest of an operation line behind `[op`: 14 in its arity, then 2, 3 or 4, then 14 and 6 in its table.
+pub fn read_operation(text: &[u8], at: usize, n: u8, operations: usize, cells: &mut [u8], put: usize) -> OperationLine
+    requires { ⌜ Roomy (now text) at (now cells) put ⌝ }
+    requires { ⌜ (0 < n) × (operations ≤ 16) ⌝ }
+    ensures { λ r. ⌜ OperationRead (now (text .entry)) at n operations (now (cells .entry)) put (now (cells .exit)) r ⌝ }
+{
+    let s = read_arity(text, at);
+    let arity = s.value;
+    let after = s.next;
+    if !s.ok {
+        return OperationLine { check: equivalence::Check::Failed(equivalence::Refusal::Text), arity, next: at, cells: put };
+    }
+    let check = check_operation(n, operations, put, arity);
+    if let equivalence::Check::Failed(r) = check {
+        return OperationLine { check: equivalence::Check::Failed(r), arity, next: at, cells: put };
+    }
+    read_last_table(text, after, arity, n, cells, put)
 }
