@@ -112,6 +112,18 @@ listing item = do
   close
   done xs
 
+-- pairs, to the line's end
+unfoldable pub generating : Reader Request
+generating = do
+  ps ← listing pair
+  done (generate ps)
+
+-- numbers, to the line's end
+unfoldable pub containing : Reader Request
+containing = do
+  xs ← listing cell
+  done (contained xs)
+
 -- two numbers, to the line's end
 unfoldable pub twoNumbers : Reader Request
 twoNumbers = do
@@ -123,7 +135,7 @@ twoNumbers = do
 -- a request line: `[generate [0 2]]`, `[contained 0 0 0 3]`, `[separate 0 2]` or `[decompose]`
 unfoldable pub request : Reader Request
 request =
-    opened (ascii "[generate") (do ps ← listing pair; done (generate ps))
-    (opened (ascii "[contained") (do xs ← listing cell; done (contained xs))
+    opened (ascii "[generate") generating
+    (opened (ascii "[contained") containing
     (opened (ascii "[separate") twoNumbers
-    (opened (ascii "[decompose") (do close; done decompose) failed)))
+    (opened (ascii "[decompose]\n") (done decompose) failed)))

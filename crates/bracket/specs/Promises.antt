@@ -12,6 +12,9 @@ use Rattle.bracket.specs.Lines.{Progress, defined, refused, lastTable, a
 use Rattle.bracket.specs.declared.lines.OperationLine.{OperationLine}
 use Rattle.bracket.specs.declared.reading.Number.{Number}
 use Rattle.bracket.specs.declared.reading.Spot.{Spot}
+use Rattle.bracket.specs.declared.requests.Asked.{Asked}
+use Rattle.bracket.specs.declared.requests.Asked.the-variants.{Generate, Contained, Separate, Decompose, Nothing}
+use Rattle.bracket.specs.declared.requests.RequestLine.{RequestLine}
 
 -- a value and the place after it, or a fault, as a flag tells
 abbrev pub readOf : {A : Type 0} → Bool → A → ℕ → Read A
@@ -83,3 +86,33 @@ pub record OperationRead (text : List ℕ) (at n operations : ℕ) (lent : List 
       → operationProgress text at n lent put arities ≡ progressOf n arities after (r .arity) (r .cells) (r .next) (r .check)
   pub reached : Reached text at (r .next)
   pub paced : r .cells + at ≤ put + r .next
+
+-- the request that was read, where these numbers were stored
+abbrev pub requestOf : List ℕ → ℕ → Asked → Read Request
+requestOf xs next (Generate k) = found (generate xs) next
+requestOf xs next (Contained k) = found (contained xs) next
+requestOf xs next (Separate v w) = found (separate v w) next
+requestOf xs next Decompose = found decompose next
+requestOf xs next Nothing = fault
+
+-- the count of the numbers that were stored for it
+abbrev pub Counted : List ℕ → Asked → Type 0
+Counted xs (Generate k) = k ≡ length xs
+Counted xs (Contained k) = k ≡ length xs
+Counted xs (Separate v w) = Unit {0}
+Counted xs Decompose = Unit {0}
+Counted xs Nothing = Unit {0}
+
+-- a request came to what `d` says, and its numbers stand in the storage from `put` on
+pub record Requested (text : List ℕ) (at : ℕ) (lent : List ℕ) (put : ℕ) (d : Read Request) (after : List ℕ) (r : RequestLine) : Type 0 where
+  pub new : List ℕ
+  pub value : d ≡ requestOf new (r .next) (r .asked)
+  pub count : Counted new (r .asked)
+  pub laid : Laid lent put new after (put + length new)
+  pub reached : Reached text at (r .next)
+
+-- the same of a request that stores nothing
+pub record RequestRead (text : List ℕ) (at : ℕ) (d : Read Request) (r : RequestLine) : Type 0 where
+  pub value : d ≡ requestOf [] (r .next) (r .asked)
+  pub count : Counted [] (r .asked)
+  pub reached : Reached text at (r .next)

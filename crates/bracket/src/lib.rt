@@ -2,4 +2,5 @@
 
 pub mod lines;
 pub mod reading;
+pub mod requests;
 mod writing;

@@ -1,0 +1,113 @@
+// Reading request lines. The numbers that a request lists are stored as bytes.
+use crate::lines::read_spaced_number;
+use crate::reading::{begins_with, read_items, Spot};
+
+ghost use mathlib.Core.Path.{_≡_};
+ghost use Prim.Native.Nat.{ℕ, _+_, _≤_, _<_};
+ghost use lib.ListN.{length};
+ghost use Rattle.bracket.specs.Tables.{cell, table, pair};
+ghost use Rattle.bracket.specs.Lines.{listing, twoNumbers, request, generating, containing};
+ghost use Rattle.bracket.specs.Promises.{Roomy, Stored, Requested, RequestRead};
+
+// What a request asks: Generate or Contained with so many stored bytes, Separate with two elements, Decompose; or nothing, where the line is faulty.
+pub enum Asked {
+    Generate(usize),
+    Contained(usize),
+    Separate(u8, u8),
+    Decompose,
+    Nothing,
+}
+
+// A request, and the place after it.
+pub struct RequestLine {
+    pub asked: Asked,
+    pub next: usize,
+}
+
+// Any count of tables of an arity, each after a space, to the line's end.
+fn read_listing(text: &[u8], at: usize, arity: u8, n: u8, room: &mut [u8], put: usize) -> Spot
+    requires { ⌜ Roomy (now text) at (now room) put ⌝ }
+    requires { ⌜ 0 < n ⌝ }
+    ensures { λ r. ⌜ Stored (now (text .entry)) at (now (room .entry)) put (listing (table n arity) (now (text .entry)) at) (now (room .exit)) r ⌝ }
+{
+    let items = read_items(text, at, arity, n, room, put);
+    let next = items.at;
+    let end = items.put;
+    if !items.ok {
+        return Spot { ok: false, at: next, put: end };
+    }
+    if !begins_with(text, next, b"]\n") {
+        return Spot { ok: false, at: next, put: end };
+    }
+    Spot { ok: true, at: next + 2, put: end }
+}
+
+// Pairs, to the line's end.
+fn read_generate(text: &[u8], at: usize, room: &mut [u8], put: usize) -> RequestLine
+    requires { ⌜ Roomy (now text) at (now room) put ⌝ }
+    ensures { λ r. ⌜ Requested (now (text .entry)) at (now (room .entry)) put (generating (now (text .entry)) at) (now (room .exit)) r ⌝ }
+{
+    let pairs = read_listing(text, at, 1, 2, room, put);
+    let next = pairs.at;
+    let end = pairs.put;
+    if !pairs.ok {
+        return RequestLine { asked: Asked::Nothing, next };
+    }
+    RequestLine { asked: Asked::Generate(end - put), next }
+}
+
+// The numbers of a map, to the line's end.
+fn read_contained(text: &[u8], at: usize, room: &mut [u8], put: usize) -> RequestLine
+    requires { ⌜ Roomy (now text) at (now room) put ⌝ }
+    ensures { λ r. ⌜ Requested (now (text .entry)) at (now (room .entry)) put (containing (now (text .entry)) at) (now (room .exit)) r ⌝ }
+{
+    let map = read_listing(text, at, 0, 1, room, put);
+    let next = map.at;
+    let end = map.put;
+    if !map.ok {
+        return RequestLine { asked: Asked::Nothing, next };
+    }
+    RequestLine { asked: Asked::Contained(end - put), next }
+}
+
+// Two numbers, to the line's end.
+fn read_separate(text: &[u8], at: usize) -> RequestLine
+    requires { ⌜ at ≤ length (now text) ⌝ }
+    ensures { λ r. ⌜ RequestRead (now (text .entry)) at (twoNumbers (now (text .entry)) at) r ⌝ }
+{
+    let nothing = RequestLine { asked: Asked::Nothing, next: at };
+    let v = read_spaced_number(text, at);
+    let after = v.next;
+    if !v.ok {
+        return nothing;
+    }
+    let w = read_spaced_number(text, after);
+    let next = w.next;
+    if !w.ok {
+        return nothing;
+    }
+    if !begins_with(text, next, b"]\n") {
+        return nothing;
+    }
+    RequestLine { asked: Asked::Separate(v.value, w.value), next: next + 2 }
+}
+
+// A request line.
+pub fn read_request(text: &[u8], at: usize, room: &mut [u8], put: usize) -> RequestLine
+    requires { ⌜ Roomy (now text) at (now room) put ⌝ }
+    ensures { λ r. ⌜ Requested (now (text .entry)) at (now (room .entry)) put (request (now (text .entry)) at) (now (room .exit)) r ⌝ }
+{
+    if begins_with(text, at, b"[generate") {
+        return read_generate(text, at + 9, room, put);
+    }
+    if begins_with(text, at, b"[contained") {
+        return read_contained(text, at + 10, room, put);
+    }
+    if begins_with(text, at, b"[separate") {
+        return read_separate(text, at + 9);
+    }
+    if begins_with(text, at, b"[decompose]\n") {
+        return RequestLine { asked: Asked::Decompose, next: at + 12 };
+    }
+    RequestLine { asked: Asked::Nothing, next: at }
+}
