@@ -1,9 +1,9 @@
--- The tests of an operation line: powers of n, reasons 2 to 4, and cells below n.
+-- The tests of an operation line: reasons 2 to 4, and cells below n.
 use Prim.Native.Nat.{ℕ, zero, suc, _+_, _-_, _*_, _^_, _≤_, _<_}
 use mathlib.Core.Bool.{Bool, true, false, _&&_}
 use mathlib.Core.List.{List, [], _∷_}
 use mathlib.Core.Path.{_≡_, refl, ap, sym, _∙_}
-use native.Mathlib.Nat.{pow-zero, pow-suc, one-mul, mul-le-mul}
+use native.Mathlib.Nat.{le-trans, pow-le-pow-left, pow-le-pow-right}
 use native.Mathlib.Numerals.{add-one}
 use native.Mathlib.Omega.{arith}
 use borrow.Author.Tests.{lt-ltb, le-ltb}
@@ -16,25 +16,9 @@ use Rattle.equivalence.specs.declared.Refusal.the-variants.{Operations, Arity, 
 use Rattle.equivalence.specs.declared.Check.the-variants.{Passed, Failed}
 use Rattle.bracket.specs.Lines.{operationTests}
 
-module _ (n s : ℕ) where
-  pub power-none : s ≡ 0 → 1 ≡ n ^ s
-  power-none e = rw (e, pow-zero)
-
-  pub power-one : s ≡ 1 → n ≡ n ^ s
-  power-one e = rw (e, pow-suc n 0, pow-zero, one-mul)
-
-  pub power-two : s ≡ 2 → n * n ≡ n ^ s
-  power-two e = rw (e, pow-suc n 1, pow-suc n 0, pow-zero, one-mul)
-
-  pub power-three : s ≤ 3 → (s ≡ 0 → ⊥) → (s ≡ 1 → ⊥) → (s ≡ 2 → ⊥) → n * n * n ≡ n ^ s
-  power-three l a b c = let e : s ≡ 3 = omega arith in rw (e, pow-suc n 2, pow-suc n 1, pow-suc n 0, pow-zero, one-mul)
-
--- products of numbers below 256
-pub square-small : (n : ℕ) → n < 256 → n * n ≤ 65025
-square-small n h = mul-le-mul {n₂ = 255} {m₂ = 255} (omega arith) (omega arith)
-
-pub cube-small : (n : ℕ) → n < 256 → n * n * n ≤ 16581375
-cube-small n h = mul-le-mul {n₂ = 65025} {m₂ = 255} (square-small n h) (omega arith)
+-- a table has at most 64 × 64 × 64 cells
+pub power-small : (n s : ℕ) → n ≤ 64 → s ≤ 3 → n ^ s ≤ 262144
+power-small n s h k = le-trans (pow-le-pow-left h s) (pow-le-pow-right {n = 64} (omega arith) k)
 
 module _ (n operations cells s : ℕ) where
   pub above-operations : 16 < operations + 1 → Failed Operations ≡ lowest (operationTests n operations cells s)

@@ -65,28 +65,9 @@ fn read_arity(text: &[u8], at: usize) -> Number
     Number { ok: true, value: s.value, next: after + 1 }
 }
 
-// n to the power s.
-fn power(n: u8, s: u8) -> usize
-    requires { ⌜ s ≤ 3 ⌝ }
-    ensures { λ r. ⌜ r ≡ n ^ s ⌝ }
-    ensures small { λ r. ⌜ r ≤ 16581375 ⌝ }
-{
-    let m = n as usize;
-    if s == 0 {
-        return 1;
-    }
-    if s == 1 {
-        return m;
-    }
-    if s == 2 {
-        return m * m;
-    }
-    m * m * m
-}
-
 // Reasons 2, 3 and 4 for an operation of arity s behind so many operations with so many cells.
 fn check_operation(n: u8, operations: usize, cells: usize, s: u8) -> equivalence::Check
-    requires { ⌜ (operations ≤ 16) × (cells < 2 ^ 63) ⌝ }
+    requires { ⌜ (n ≤ 64) × ((operations ≤ 16) × (cells < 2 ^ 63)) ⌝ }
     ensures { λ r. ⌜ r ≡ lowest (operationTests n operations cells s) ⌝ }
 {
     if 16 < operations + 1 {
@@ -95,7 +76,7 @@ fn check_operation(n: u8, operations: usize, cells: usize, s: u8) -> equivalence
     if 3 < s {
         return equivalence::Check::Failed(equivalence::Refusal::Arity);
     }
-    if 32768 < cells + power(n, s) {
+    if 32768 < cells + algebra::power(n as usize, s as usize) {
         return equivalence::Check::Failed(equivalence::Refusal::Cells);
     }
     equivalence::Check::Passed
@@ -139,7 +120,7 @@ fn read_last_table(text: &[u8], at: usize, s: u8, n: u8, cells: &mut [u8], put: 
 // The rest of an operation line behind `[op`: 14 in its arity, then 2, 3 or 4, then 14 and 6 in its table.
 pub fn read_operation(text: &[u8], at: usize, n: u8, operations: usize, cells: &mut [u8], put: usize) -> OperationLine
     requires { ⌜ Roomy (now text) at (now cells) put ⌝ }
-    requires { ⌜ (0 < n) × (operations ≤ 16) ⌝ }
+    requires { ⌜ (0 < n) × ((n ≤ 64) × (operations ≤ 16)) ⌝ }
     ensures { λ r. ⌜ OperationRead (now (text .entry)) at n operations (now (cells .entry)) put (now (cells .exit)) r ⌝ }
 {
     let s = read_arity(text, at);

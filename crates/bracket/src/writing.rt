@@ -5,7 +5,6 @@ ghost use Prim.Native.Nat.{ℕ, _+_, _*_, _≤_, _<_};
 ghost use lib.ListN.{length};
 ghost use Rattle.bracket.specs.Numbers.{decimal};
 ghost use Rattle.equivalence.specs.Lists.{upTo, stretch};
-ghost use Rattle.equivalence.specs.Refusal.{numberOf};
 ghost use Rattle.bracket.specs.Reading.{ascii};
 ghost use Rattle.bracket.specs.Answers.{spaced, bracketed, spacedBrackets, line, refusedLine};
 ghost use Rattle.bracket.specs.Promises.{Laid};
@@ -123,33 +122,12 @@ fn write_close(out: &mut [u8], put: usize) -> usize
     write_word(out, put, b"]\n")
 }
 
-// The number of a refusal in document 01's table.
-fn reason(r: equivalence::Refusal) -> u8
-    ensures { λ n. ⌜ n ≡ numberOf r ⌝ }
-{
-    match r {
-        equivalence::Refusal::Size => 1,
-        equivalence::Refusal::Operations => 2,
-        equivalence::Refusal::Arity => 3,
-        equivalence::Refusal::Cells => 4,
-        equivalence::Refusal::Length => 5,
-        equivalence::Refusal::Cell => 6,
-        equivalence::Refusal::Range => 7,
-        equivalence::Refusal::NotMap => 8,
-        equivalence::Refusal::Space => 9,
-        equivalence::Refusal::Equal => 10,
-        equivalence::Refusal::NotCongruence => 12,
-        equivalence::Refusal::Tally => 13,
-        equivalence::Refusal::Text => 14,
-    }
-}
-
 // `[refused 8]`
 pub fn write_refused(out: &mut [u8], r: equivalence::Refusal) -> usize
     requires { ⌜ 14 ≤ length (now out) ⌝ }
     ensures { λ e. ⌜ Laid (now (out .entry)) 0 (refusedLine r) (now (out .exit)) e ⌝ }
 {
-    let number = reason(r);
+    let number = equivalence::checks::number(r);
     let word = write_word(out, 0, b"[refused");
     let end = write_spaced_number(out, word, number);
     write_close(out, end)

@@ -1,36 +1,39 @@
-use Rattle.bracket.proofs.Judging.{above-operations, above-arity, above-cells, passed}
+use native.Mathlib.Omega.{arith}
+use Rattle.bracket.proofs.Judging.{power-small, above-operations, above-arity, above-cells, passed}
 use borrow.Author.Needs.{needs}
 use Rattle.bracket.proofs.lines.check_operation.Statement.{statement}
 use Rattle.bracket.proofs.lines.check_operation.Tie as tie
 use Rattle.bracket.proofs.lines.check_operation.Reads as reads
 use Rattle.bracket.proofs.lines.check_operation.Lts as lts
-use Rattle.bracket.proofs.lines.power.Reads as power-reads
+use Rattle.algebra.proofs.power.Reads as power-reads
 
--- src/lines.rt:92:13
+-- src/lines.rt:73:13
 add-if1 : tie.Need-add-if1
 add-if1 c = search needs
 
--- src/lines.rt:93:9
+-- src/lines.rt:74:9
 returns : tie.Need-returns
 returns c = search above-operations
 
--- src/lines.rt:96:9
+-- src/lines.rt:77:9
 returns-2 : tie.Need-returns-2
 returns-2 c = search above-arity
 
--- src/lines.rt:98:24
+-- src/lines.rt:79:24
 power-requires : tie.Need-power-requires
 power-requires c κs = search needs
 
--- src/lines.rt:98:16
+-- src/lines.rt:79:16
 add-if3 : tie.Need-add-if3
-add-if3 c = search needs
+add-if3 c =
+    let a = c .before .before .before .args in
+    omega (arith, power-small (a .n) (a .s) (omega arith) (omega arith), c .power .ensures)
 
--- src/lines.rt:99:9
+-- src/lines.rt:80:9
 returns-3 : tie.Need-returns-3
 returns-3 c = search above-cells
 
--- src/lines.rt:88:1
+-- src/lines.rt:69:1
 returns-4 : tie.Need-returns-4
 returns-4 c = search passed
 
