@@ -3,7 +3,6 @@ use Prim.Native.Nat.{ℕ, _+_, _-_, _≤_, _<_}
 use mathlib.Core.Bool.{Bool, true, false, not}
 use mathlib.Core.List.{List, [], _∷_}
 use mathlib.Core.Path.{_≡_, refl, ap, sym, _∙_}
-use native.Mathlib.Nat.{add-zero}
 use native.Mathlib.Omega.{arith}
 use borrow.Author.Tests.{not-true, not-false}
 use lib.Dec.{T, ltb}
@@ -12,7 +11,7 @@ use Rattle.equivalence.specs.Lists.{every}
 use Rattle.bracket.specs.Reading.{ascii, Read, found, fault, Reader, _>>=_, _>>_, done, failed, begins, opened}
 use Rattle.bracket.specs.Tables.{cell, table, pair, items}
 use Rattle.bracket.specs.Lines.{close, spacedNumber, Request, generate, contained, separate, decompose, listing, generating, containing, twoNumbers, request}
-use Rattle.bracket.specs.Promises.{readOf, NumberRead, Laid, Roomy, Stored, requestOf, Counted, Requested, RequestRead}
+use Rattle.bracket.specs.Promises.{readOf, NumberRead, Laid, Roomy, Stored, requestOf, some, Requested, RequestRead}
 use Rattle.bracket.specs.declared.reading.Number.{Number}
 use Rattle.bracket.specs.declared.reading.Spot.{Spot}
 use Rattle.bracket.specs.declared.requests.Asked.{Asked}
@@ -24,9 +23,9 @@ use Rattle.bracket.proofs.SpacedNumbers.{close-found, close-fault, foun
 use Rattle.bracket.proofs.Storing.{spot, stored-fault}
 use Rattle.bracket.proofs.Words.{begins-within}
 
--- a request line, and the place after it
-abbrev asking : Asked → ℕ → RequestLine
-asking a next = record { asked = a; next = next }
+-- a request line, and the places after it
+abbrev asking : Asked → ℕ → ℕ → RequestLine
+asking a next end = record { asked = a; next = next; end = end }
 
 -- what a flag says of a list that was read and stored
 stored-found : {text : List ℕ} {at : ℕ} {lent : List ℕ} {put : ℕ} {d : Read (List ℕ)} {after : List ℕ} {r : Spot} (s : Stored text at lent put d after r)
@@ -70,53 +69,43 @@ module _ (text : List ℕ) (at : ℕ) (lent : List ℕ) (put : ℕ) (item : Read
         }
 
 -- a request of a list that was read and stored
-module _ (text : List ℕ) (at : ℕ) (lent : List ℕ) (put : ℕ) (d : Read (List ℕ)) (after : List ℕ) (r : Spot) (s : Stored text at lent put d after r) where
-  stored-laid : Laid lent put (s .new) after (put + length (s .new))
-  stored-laid = rw (← s .laid .place) (s .laid)
-
-  pub requested : (e : Read Request) (a : Asked) → e ≡ requestOf (s .new) (r .at) a → Counted (s .new) a → Requested text at lent put e after (asking a (r .at))
-  requested e a v c = record { new = s .new; value = v; count = c; laid = stored-laid; reached = s .reached }
-
-  stored-count : r .put - put ≡ length (s .new)
-  stored-count = omega (arith, s .laid .place)
-
 module _ (text : List ℕ) (at : ℕ) (lent : List ℕ) (put : ℕ) (after : List ℕ) (r : Spot) where
+  requested : (d : Read (List ℕ)) (s : Stored text at lent put d after r) (e : Read Request) (a : Asked) → e ≡ requestOf (s .new) (r .at) a
+      → Requested text at lent put e after (asking a (r .at) (r .put))
+  requested d s e a v = record { new = s .new; value = v; laid = s .laid; reached = s .reached }
+
   pub generate-fault : Stored text at lent put (listing (table 2 1) text at) after r → not (r .ok) ≡ true
-      → Requested text at lent put (generating text at) after (asking Nothing (r .at))
+      → Requested text at lent put (generating text at) after (asking Nothing (r .at) (r .put))
   unfolding generating pair table
   generate-fault s h =
-      requested text at lent put (listing pair text at) after r s (generating text at) Nothing
-      (then-fault (listing pair) (λ ps. done (generate ps)) text at (stored-missing s h)) tt
+      requested (listing pair text at) s (generating text at) Nothing (then-fault (listing pair) (λ ps. done (generate ps)) text at (stored-missing s h))
 
   pub generate-read : Stored text at lent put (listing (table 2 1) text at) after r → not (r .ok) ≡ false
-      → Requested text at lent put (generating text at) after (asking (Generate (r .put - put)) (r .at))
+      → Requested text at lent put (generating text at) after (asking Generate (r .at) (r .put))
   unfolding generating pair table
   generate-read s h =
-      requested text at lent put (listing pair text at) after r s (generating text at) (Generate (r .put - put))
+      requested (listing pair text at) s (generating text at) Generate
       (then-found (listing pair) (λ ps. done (generate ps)) text at (s .new) (r .at) (stored-found s h))
-      (stored-count text at lent put (listing pair text at) after r s)
 
   pub contained-fault : Stored text at lent put (listing (table 1 0) text at) after r → not (r .ok) ≡ true
-      → Requested text at lent put (containing text at) after (asking Nothing (r .at))
+      → Requested text at lent put (containing text at) after (asking Nothing (r .at) (r .put))
   unfolding containing table
   contained-fault s h =
-      requested text at lent put (listing cell text at) after r s (containing text at) Nothing
-      (then-fault (listing cell) (λ xs. done (contained xs)) text at (stored-missing s h)) tt
+      requested (listing cell text at) s (containing text at) Nothing (then-fault (listing cell) (λ xs. done (contained xs)) text at (stored-missing s h))
 
   pub contained-read : Stored text at lent put (listing (table 1 0) text at) after r → not (r .ok) ≡ false
-      → Requested text at lent put (containing text at) after (asking (Contained (r .put - put)) (r .at))
+      → Requested text at lent put (containing text at) after (asking Contained (r .at) (r .put))
   unfolding containing table
   contained-read s h =
-      requested text at lent put (listing cell text at) after r s (containing text at) (Contained (r .put - put))
+      requested (listing cell text at) s (containing text at) Contained
       (then-found (listing cell) (λ xs. done (contained xs)) text at (s .new) (r .at) (stored-found s h))
-      (stored-count text at lent put (listing cell text at) after r s)
 
 -- two numbers to the line's end
-module _ (text : List ℕ) (at : ℕ) (w : at ≤ length text) (v : Number) (rv : NumberRead text at (spacedNumber text at) v) where
-  no-request : twoNumbers text at ≡ fault → RequestRead text at (twoNumbers text at) (asking Nothing at)
-  no-request e = record { value = e; count = tt; reached = omega arith }
+module _ (text : List ℕ) (at : ℕ) (put : ℕ) (w : at ≤ length text) (v : Number) (rv : NumberRead text at (spacedNumber text at) v) where
+  no-request : twoNumbers text at ≡ fault → RequestRead text at put (twoNumbers text at) (asking Nothing at put)
+  no-request e = record { value = e; end = refl; reached = omega arith }
 
-  pub separate-none : not (v .ok) ≡ true → RequestRead text at (twoNumbers text at) (asking Nothing at)
+  pub separate-none : not (v .ok) ≡ true → RequestRead text at put (twoNumbers text at) (asking Nothing at put)
   unfolding twoNumbers
   separate-none h = no-request (then-fault spacedNumber (λ v. _>>=_ spacedNumber (λ w. _>>_ close (done (separate v w)))) text at (missing-number rv h))
 
@@ -126,7 +115,7 @@ module _ (text : List ℕ) (at : ℕ) (w : at ≤ length text) (v : Number) (rv 
     one =
         then-found spacedNumber (λ v. _>>=_ spacedNumber (λ w. _>>_ close (done (separate v w)))) text at (v .value) (v .next) (found-number rv h)
 
-    pub separate-one : not (u .ok) ≡ true → RequestRead text at (twoNumbers text at) (asking Nothing at)
+    pub separate-one : not (u .ok) ≡ true → RequestRead text at put (twoNumbers text at) (asking Nothing at put)
     separate-one k =
         no-request (one ∙ then-fault spacedNumber (λ w. _>>_ close (done (separate (v .value) w))) text (v .next) (missing-number ru k))
 
@@ -134,12 +123,12 @@ module _ (text : List ℕ) (at : ℕ) (w : at ≤ length text) (v : Number) (rv 
       two : twoNumbers text at ≡ _>>_ close (done (separate (v .value) (u .value))) text (u .next)
       two = one ∙ then-found spacedNumber (λ w. _>>_ close (done (separate (v .value) w))) text (v .next) (u .value) (u .next) (found-number ru k)
 
-      pub separate-open : not q ≡ true → RequestRead text at (twoNumbers text at) (asking Nothing at)
+      pub separate-open : not q ≡ true → RequestRead text at put (twoNumbers text at) (asking Nothing at put)
       separate-open g =
           no-request
           (two ∙ then-fault close (λ _. done (separate (v .value) (u .value))) text (u .next) (close-fault text (u .next) (sym eq ∙ not-true q g)))
 
-      pub separate-read : not q ≡ false → RequestRead text at (twoNumbers text at) (asking (Separate (v .value) (u .value)) (u .next + 2))
+      pub separate-read : not q ≡ false → RequestRead text at put (twoNumbers text at) (asking (Separate (v .value) (u .value)) (u .next + 2) put)
       unfolding ascii every
       separate-read g =
           record {
@@ -147,9 +136,16 @@ module _ (text : List ℕ) (at : ℕ) (w : at ≤ length text) (v : Number) (rv 
               two
               ∙ then-found close (λ _. done (separate (v .value) (u .value))) text (u .next) tt (u .next + 2)
               (close-found text (u .next) (sym eq ∙ not-false q g));
-            count = tt;
+            end = refl;
             reached = omega (arith, begins-within text (ascii "]\n") (u .next) tt (ru .within) (sym eq ∙ not-false q g), rv .past, ru .past)
           }
+
+pub some-small : (a : Asked) → some a ≤ 1
+some-small Generate = omega arith
+some-small Contained = omega arith
+some-small (Separate v w) = omega arith
+some-small Decompose = omega arith
+some-small Nothing = omega arith
 
 -- the requests that are left when words are passed over
 abbrev from-decompose : Reader Request
@@ -172,17 +168,16 @@ module _ (text : List ℕ) (at : ℕ) (lent : List ℕ) (put : ℕ) (w : Roomy t
   behind : (from : ℕ) (d : Read Request) (after : List ℕ) (r : RequestLine) → at ≤ from → request text at ≡ d → Requested text from lent put d after r
       → Requested text at lent put (request text at) after r
   behind from d after r l e q =
-      record { new = q .new; value = e ∙ q .value; count = q .count; laid = q .laid; reached = omega (arith, q .reached) }
+      record { new = q .new; value = e ∙ q .value; laid = q .laid; reached = omega (arith, q .reached) }
 
   -- a request that stores nothing
-  unstored : (from : ℕ) (d : Read Request) (r : RequestLine) → at ≤ from → request text at ≡ d → RequestRead text from d r
+  unstored : (from : ℕ) (d : Read Request) (r : RequestLine) → at ≤ from → request text at ≡ d → RequestRead text from put d r
       → Requested text at lent put (request text at) lent r
   unstored from d r l e q =
       record {
         new = [];
         value = e ∙ q .value;
-        count = q .count;
-        laid = rw add-zero (laid-none lent put (omega arith));
+        laid = rw (q .end) (laid-none lent put (omega arith));
         reached = omega (arith, q .reached)
       }
 
@@ -209,7 +204,7 @@ module _ (text : List ℕ) (at : ℕ) (lent : List ℕ) (put : ℕ) (w : Roomy t
         past-contained : request text at ≡ from-separate text at
         past-contained = past-generate ∙ opened-other (ascii "[contained") containing from-separate text at (sym eb ∙ nb)
 
-        pub ask-separate : c ≡ true → (r : RequestLine) → RequestRead text (at + 9) (twoNumbers text (at + 9)) r
+        pub ask-separate : c ≡ true → (r : RequestLine) → RequestRead text (at + 9) put (twoNumbers text (at + 9)) r
             → Requested text at lent put (request text at) lent r
         unfolding ascii
         ask-separate h r q =
@@ -220,19 +215,19 @@ module _ (text : List ℕ) (at : ℕ) (lent : List ℕ) (put : ℕ) (w : Roomy t
           past-separate : request text at ≡ from-decompose text at
           past-separate = past-contained ∙ opened-other (ascii "[separate") twoNumbers from-decompose text at (sym ec ∙ nc)
 
-          pub ask-decompose : d ≡ true → Requested text at lent put (request text at) lent (asking Decompose (at + 12))
+          pub ask-decompose : d ≡ true → Requested text at lent put (request text at) lent (asking Decompose (at + 12) put)
           unfolding ascii every
           ask-decompose h =
-              unstored at (found decompose (at + 12)) (asking Decompose (at + 12)) (omega arith)
+              unstored at (found decompose (at + 12)) (asking Decompose (at + 12) put) (omega arith)
               (past-separate ∙ opened-body (ascii "[decompose]\n") (done decompose) failed text at (sym ed ∙ h))
               (record {
                 value = refl;
-                count = tt;
+                end = refl;
                 reached = omega (arith, begins-within text (ascii "[decompose]\n") at tt (w .within) (sym ed ∙ h))
               })
 
-          pub ask-nothing : d ≡ false → Requested text at lent put (request text at) lent (asking Nothing at)
+          pub ask-nothing : d ≡ false → Requested text at lent put (request text at) lent (asking Nothing at put)
           ask-nothing h =
-              unstored at fault (asking Nothing at) (omega arith)
+              unstored at fault (asking Nothing at put) (omega arith)
               (past-separate ∙ opened-other (ascii "[decompose]\n") (done decompose) failed text at (sym ed ∙ h))
-              (record { value = refl; count = tt; reached = omega arith })
+              (record { value = refl; end = refl; reached = omega arith })

@@ -89,30 +89,29 @@ pub record OperationRead (text : List ℕ) (at n operations : ℕ) (lent : List 
 
 -- the request that was read, where these numbers were stored
 abbrev pub requestOf : List ℕ → ℕ → Asked → Read Request
-requestOf xs next (Generate k) = found (generate xs) next
-requestOf xs next (Contained k) = found (contained xs) next
+requestOf xs next Generate = found (generate xs) next
+requestOf xs next Contained = found (contained xs) next
 requestOf xs next (Separate v w) = found (separate v w) next
 requestOf xs next Decompose = found decompose next
 requestOf xs next Nothing = fault
 
--- the count of the numbers that were stored for it
-abbrev pub Counted : List ℕ → Asked → Type 0
-Counted xs (Generate k) = k ≡ length xs
-Counted xs (Contained k) = k ≡ length xs
-Counted xs (Separate v w) = Unit {0}
-Counted xs Decompose = Unit {0}
-Counted xs Nothing = Unit {0}
+-- 1 where something was asked, else 0
+abbrev pub some : Asked → ℕ
+some Generate = 1
+some Contained = 1
+some (Separate v w) = 1
+some Decompose = 1
+some Nothing = 0
 
 -- a request came to what `d` says, and its numbers stand in the storage from `put` on
 pub record Requested (text : List ℕ) (at : ℕ) (lent : List ℕ) (put : ℕ) (d : Read Request) (after : List ℕ) (r : RequestLine) : Type 0 where
   pub new : List ℕ
   pub value : d ≡ requestOf new (r .next) (r .asked)
-  pub count : Counted new (r .asked)
-  pub laid : Laid lent put new after (put + length new)
+  pub laid : Laid lent put new after (r .end)
   pub reached : Reached text at (r .next)
 
 -- the same of a request that stores nothing
-pub record RequestRead (text : List ℕ) (at : ℕ) (d : Read Request) (r : RequestLine) : Type 0 where
+pub record RequestRead (text : List ℕ) (at put : ℕ) (d : Read Request) (r : RequestLine) : Type 0 where
   pub value : d ≡ requestOf [] (r .next) (r .asked)
-  pub count : Counted [] (r .asked)
+  pub end : r .end ≡ put
   pub reached : Reached text at (r .next)

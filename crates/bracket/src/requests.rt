@@ -7,21 +7,22 @@ ghost use Prim.Native.Nat.{ℕ, _+_, _≤_, _<_};
 ghost use lib.ListN.{length};
 ghost use Rattle.bracket.specs.Tables.{cell, table, pair};
 ghost use Rattle.bracket.specs.Lines.{listing, twoNumbers, request, generating, containing};
-ghost use Rattle.bracket.specs.Promises.{Roomy, Stored, Requested, RequestRead};
+ghost use Rattle.bracket.specs.Promises.{Roomy, Stored, some, Requested, RequestRead};
 
-// What a request asks: Generate or Contained with so many stored bytes, Separate with two elements, Decompose; or nothing, where the line is faulty.
+// What a request asks: Generate or Contained with the numbers that were stored, Separate with two elements, Decompose; or nothing, where the line is faulty.
 pub enum Asked {
-    Generate(usize),
-    Contained(usize),
+    Generate,
+    Contained,
     Separate(u8, u8),
     Decompose,
     Nothing,
 }
 
-// A request, and the place after it.
+// A request, the place after it in the text, and the place after its numbers in the storage.
 pub struct RequestLine {
     pub asked: Asked,
     pub next: usize,
+    pub end: usize,
 }
 
 // Any count of tables of an arity, each after a space, to the line's end.
@@ -51,9 +52,9 @@ fn read_generate(text: &[u8], at: usize, room: &mut [u8], put: usize) -> Request
     let next = pairs.at;
     let end = pairs.put;
     if !pairs.ok {
-        return RequestLine { asked: Asked::Nothing, next };
+        return RequestLine { asked: Asked::Nothing, next, end };
     }
-    RequestLine { asked: Asked::Generate(end - put), next }
+    RequestLine { asked: Asked::Generate, next, end }
 }
 
 // The numbers of a map, to the line's end.
@@ -65,17 +66,17 @@ fn read_contained(text: &[u8], at: usize, room: &mut [u8], put: usize) -> Reques
     let next = map.at;
     let end = map.put;
     if !map.ok {
-        return RequestLine { asked: Asked::Nothing, next };
+        return RequestLine { asked: Asked::Nothing, next, end };
     }
-    RequestLine { asked: Asked::Contained(end - put), next }
+    RequestLine { asked: Asked::Contained, next, end }
 }
 
 // Two numbers, to the line's end.
-fn read_separate(text: &[u8], at: usize) -> RequestLine
+fn read_separate(text: &[u8], at: usize, put: usize) -> RequestLine
     requires { ⌜ at ≤ length (now text) ⌝ }
-    ensures { λ r. ⌜ RequestRead (now (text .entry)) at (twoNumbers (now (text .entry)) at) r ⌝ }
+    ensures { λ r. ⌜ RequestRead (now (text .entry)) at put (twoNumbers (now (text .entry)) at) r ⌝ }
 {
-    let nothing = RequestLine { asked: Asked::Nothing, next: at };
+    let nothing = RequestLine { asked: Asked::Nothing, next: at, end: put };
     let v = read_spaced_number(text, at);
     let after = v.next;
     if !v.ok {
@@ -89,13 +90,14 @@ fn read_separate(text: &[u8], at: usize) -> RequestLine
     if !begins_with(text, next, b"]\n") {
         return nothing;
     }
-    RequestLine { asked: Asked::Separate(v.value, w.value), next: next + 2 }
+    RequestLine { asked: Asked::Separate(v.value, w.value), next: next + 2, end: put }
 }
 
 // A request line.
 pub fn read_request(text: &[u8], at: usize, room: &mut [u8], put: usize) -> RequestLine
     requires { ⌜ Roomy (now text) at (now room) put ⌝ }
     ensures { λ r. ⌜ Requested (now (text .entry)) at (now (room .entry)) put (request (now (text .entry)) at) (now (room .exit)) r ⌝ }
+    ensures past { λ r. ⌜ at + some (r .asked) ≤ r .next ⌝ }
 {
     if begins_with(text, at, b"[generate") {
         return read_generate(text, at + 9, room, put);
@@ -104,10 +106,10 @@ pub fn read_request(text: &[u8], at: usize, room: &mut [u8], put: usize) -> Requ
         return read_contained(text, at + 10, room, put);
     }
     if begins_with(text, at, b"[separate") {
-        return read_separate(text, at + 9);
+        return read_separate(text, at + 9, put);
     }
     if begins_with(text, at, b"[decompose]\n") {
-        return RequestLine { asked: Asked::Decompose, next: at + 12 };
+        return RequestLine { asked: Asked::Decompose, next: at + 12, end: put };
     }
-    RequestLine { asked: Asked::Nothing, next: at }
+    RequestLine { asked: Asked::Nothing, next: at, end: put }
 }

@@ -18,10 +18,6 @@ same-length c = search needs
 returns : tie.Need-returns
 returns c = search contained-fault
 
--- src/requests.rt:70:43
-sub-t12 : tie.Need-sub-t12
-sub-t12 c = search needs
-
 -- src/requests.rt:60:1
 same-length-2 : tie.Need-same-length-2
 same-length-2 c = search needs
@@ -32,4 +28,4 @@ returns-2 c = search contained-read
 
 pub read-contained-spec : {M : Type 1} → statement M
 read-contained-spec =
-    tie.close (tie.spec read-listing-requires same-length returns sub-t12 same-length-2 returns-2)
+    tie.close (tie.spec read-listing-requires same-length returns same-length-2 returns-2)

@@ -18,10 +18,6 @@ same-length c = search needs
 returns : tie.Need-returns
 returns c = search generate-fault
 
--- src/requests.rt:56:42
-sub-t12 : tie.Need-sub-t12
-sub-t12 c = search needs
-
 -- src/requests.rt:46:1
 same-length-2 : tie.Need-same-length-2
 same-length-2 c = search needs
@@ -32,4 +28,4 @@ returns-2 c = search generate-read
 
 pub read-generate-spec : {M : Type 1} → statement M
 read-generate-spec =
-    tie.close (tie.spec read-listing-requires same-length returns sub-t12 same-length-2 returns-2)
+    tie.close (tie.spec read-listing-requires same-length returns same-length-2 returns-2)

@@ -1,7 +1,8 @@
+use native.Mathlib.Omega.{arith}
 use mathlib.Core.Path.{sym, _∙_}
 use Rattle.equivalence.specs.Lists.{every}
 use Rattle.bracket.specs.Reading.{ascii}
-use Rattle.bracket.proofs.Asking.{room-behind, ask-generate, ask-contained, ask-separate, ask-decompose, ask-nothing}
+use Rattle.bracket.proofs.Asking.{some-small, room-behind, ask-generate, ask-contained, ask-separate, ask-decompose, ask-nothing}
 use borrow.Author.Needs.{needs}
 use Rattle.bracket.proofs.requests.read_request.Statement.{statement}
 use Rattle.bracket.proofs.requests.read_request.Tie as tie
@@ -38,7 +39,7 @@ same-length c = search needs
 -- src/requests.rt:101:9
 returns : tie.Need-returns
 unfolding ascii
-returns c = search ask-generate
+returns c = (search ask-generate, let r = c .before .before .read-generate in omega (arith, some-small (r .result .asked), r .ensures .reached))
 
 -- src/requests.rt:103:30
 slice-aggregate-begins-with-2 : tie.Need-slice-aggregate-begins-with-2
@@ -66,7 +67,7 @@ same-length-2 c = search needs
 -- src/requests.rt:104:9
 returns-2 : tie.Need-returns-2
 unfolding ascii
-returns-2 c = search ask-contained
+returns-2 c = (search ask-contained, let r = c .before .before .read-contained in omega (arith, some-small (r .result .asked), r .ensures .reached))
 
 -- src/requests.rt:106:30
 slice-aggregate-begins-with-3 : tie.Need-slice-aggregate-begins-with-3
@@ -91,7 +92,7 @@ read-separate-requires c κs =
 -- src/requests.rt:107:9
 returns-3 : tie.Need-returns-3
 unfolding ascii
-returns-3 c = search ask-separate
+returns-3 c = (search ask-separate, let r = c .read-separate in omega (arith, some-small (r .result .asked), r .ensures .reached))
 
 -- src/requests.rt:109:30
 slice-aggregate-begins-with-4 : tie.Need-slice-aggregate-begins-with-4
@@ -108,12 +109,12 @@ add-t29 c = search needs
 -- src/requests.rt:110:9
 returns-4 : tie.Need-returns-4
 unfolding ascii
-returns-4 c = search ask-decompose
+returns-4 c = (search ask-decompose, omega arith)
 
 -- src/requests.rt:96:1
 returns-5 : tie.Need-returns-5
 unfolding ascii
-returns-5 c = search ask-nothing
+returns-5 c = (search ask-nothing, omega arith)
 
 pub read-request-spec : {M : Type 1} → statement M
 read-request-spec =

@@ -40,8 +40,8 @@ unfolding ascii
 returns-3 c = search separate-open
 
 -- src/requests.rt:92:67
-add-t14 : tie.Need-add-t14
-add-t14 c = search needs
+add-t15 : tie.Need-add-t15
+add-t15 c = search needs
 
 -- src/requests.rt:74:1
 returns-4 : tie.Need-returns-4
@@ -59,5 +59,5 @@ read-separate-spec =
     slice-aggregate-begins-with
     begins-with-requires
     returns-3
-    add-t14
+    add-t15
     returns-4)
