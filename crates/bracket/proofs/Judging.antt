@@ -13,8 +13,10 @@ use lib.Seq.{drop-cons}
 use Rattle.equivalence.specs.Lists.{every}
 use Rattle.equivalence.specs.Refusal.{lowest}
 use Rattle.equivalence.specs.declared.Refusal.the-variants.{Operations, Arity, Cells}
+use Rattle.equivalence.specs.declared.Check.{Check}
 use Rattle.equivalence.specs.declared.Check.the-variants.{Passed, Failed}
 use Rattle.bracket.specs.Lines.{operationTests}
+use Rattle.bracket.specs.Promises.{passing}
 
 -- a table has at most 64 × 64 × 64 cells
 pub power-small : (n s : ℕ) → n ≤ 64 → s ≤ 3 → n ^ s ≤ 262144
@@ -38,6 +40,14 @@ module _ (n operations cells s : ℕ) where
       pub passed : cells + p ≤ 32768 → Passed ≡ lowest (operationTests n operations cells s)
       unfolding lowest operationTests
       passed l = sym (simp (lowest, le-ltb 16 (operations + 1) h, le-ltb 3 s k, ← e, le-ltb 32768 (cells + p) l))
+
+passing-small : (c : Check) → passing c ≤ 1
+passing-small Passed = omega arith
+passing-small (Failed r) = omega arith
+
+-- where the tests of an operation line pass, there is room for one operation more, whatever its table comes to
+pub few-still : (operations : ℕ) (c d : Check) → operations + passing c ≤ 16 → c ≡ Passed → operations + passing d ≤ 16
+few-still operations c d h e = let k : operations + 1 ≤ 16 = rw e at h in omega (arith, passing-small d)
 
 -- the first i cells are below n
 pub record Below (cells : List ℕ) (n i : ℕ) : Type 0 where

@@ -61,6 +61,11 @@ pub record Stored (text : List ℕ) (at : ℕ) (lent : List ℕ) (put : ℕ) (d 
   pub reached : Reached text at (r .at)
   pub paced : r .put + at ≤ put + r .at
 
+-- 1 where the tests pass, else 0
+abbrev pub passing : Check → ℕ
+passing Passed = 1
+passing (Failed r) = 0
+
 -- what an operation line came to, behind operations of these arities
 abbrev pub progressOf : ℕ → List ℕ → List ℕ → ℕ → ℕ → ℕ → Check → Progress
 progressOf n arities room s cells next Passed = defined (algebraOf n (arities ++ (s ∷ [])) (take cells room)) next

@@ -8,7 +8,7 @@ ghost use lib.Dec.{ltb};
 ghost use Rattle.equivalence.specs.Lists.{every};
 ghost use Rattle.equivalence.specs.Refusal.{lowest};
 ghost use Rattle.bracket.specs.Lines.{spacedNumber, sizeLine, arity, operationTests};
-ghost use Rattle.bracket.specs.Promises.{NumberRead, Roomy, TableRead, OperationRead};
+ghost use Rattle.bracket.specs.Promises.{passing, NumberRead, Roomy, TableRead, OperationRead};
 
 // What an operation line came to: its arity, the place after it, and how many cells there are with its own; or a refusal.
 pub struct OperationLine {
@@ -69,6 +69,7 @@ fn read_arity(text: &[u8], at: usize) -> Number
 fn check_operation(n: u8, operations: usize, cells: usize, s: u8) -> equivalence::Check
     requires { ⌜ (n ≤ 64) × ((operations ≤ 16) × (cells < 2 ^ 63)) ⌝ }
     ensures { λ r. ⌜ r ≡ lowest (operationTests n operations cells s) ⌝ }
+    ensures few { λ r. ⌜ operations + passing r ≤ 16 ⌝ }
 {
     if 16 < operations + 1 {
         return equivalence::Check::Failed(equivalence::Refusal::Operations);
@@ -122,6 +123,7 @@ pub fn read_operation(text: &[u8], at: usize, n: u8, operations: usize, cells: &
     requires { ⌜ Roomy (now text) at (now cells) put ⌝ }
     requires { ⌜ (0 < n) × ((n ≤ 64) × (operations ≤ 16)) ⌝ }
     ensures { λ r. ⌜ OperationRead (now (text .entry)) at n operations (now (cells .entry)) put (now (cells .exit)) r ⌝ }
+    ensures few { λ r. ⌜ operations + passing (r .check) ≤ 16 ⌝ }
 {
     let s = read_arity(text, at);
     let arity = s.value;

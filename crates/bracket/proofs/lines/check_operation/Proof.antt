@@ -13,11 +13,11 @@ add-if1 c = search needs
 
 -- src/lines.rt:74:9
 returns : tie.Need-returns
-returns c = search above-operations
+returns c = (search above-operations, omega arith)
 
 -- src/lines.rt:77:9
 returns-2 : tie.Need-returns-2
-returns-2 c = search above-arity
+returns-2 c = (search above-arity, omega arith)
 
 -- src/lines.rt:79:24
 power-requires : tie.Need-power-requires
@@ -31,11 +31,11 @@ add-if3 c =
 
 -- src/lines.rt:80:9
 returns-3 : tie.Need-returns-3
-returns-3 c = search above-cells
+returns-3 c = (search above-cells, omega arith)
 
 -- src/lines.rt:69:1
 returns-4 : tie.Need-returns-4
-returns-4 c = search passed
+returns-4 c = (search passed, omega arith)
 
 pub check-operation-spec : {M : Type 1} → statement M
 check-operation-spec =

@@ -1,3 +1,5 @@
+use native.Mathlib.Omega.{arith}
+use Rattle.bracket.proofs.Judging.{few-still}
 use Rattle.bracket.proofs.Defining.{arity-faulty, operation-refused, operation-read}
 use borrow.Author.Needs.{needs}
 use Rattle.bracket.proofs.lines.read_operation.Statement.{statement}
@@ -14,7 +16,7 @@ read-arity-requires c κs = search needs
 
 -- src/lines.rt:150:9
 returns : tie.Need-returns
-returns c = search arity-faulty
+returns c = (search arity-faulty, omega arith)
 
 -- src/lines.rt:152:9
 check-operation-requires : tie.Need-check-operation-requires
@@ -26,7 +28,7 @@ enum-known-check c = search needs
 
 -- src/lines.rt:154:9
 returns-2 : tie.Need-returns-2
-returns-2 c = search operation-refused
+returns-2 c = (search operation-refused, omega arith)
 
 enum-told : tie.Need-enum-told
 enum-told c = search needs
@@ -41,7 +43,7 @@ same-length c = search needs
 
 -- src/lines.rt:141:1
 returns-3 : tie.Need-returns-3
-returns-3 c = search operation-read
+returns-3 c = (search operation-read, search few-still)
 
 pub read-operation-spec : {M : Type 1} → statement M
 read-operation-spec =
