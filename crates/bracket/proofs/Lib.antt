@@ -8,5 +8,6 @@ pub mod Listing
 pub mod Readers
 pub mod SpacedNumbers
 pub mod Spacing
+pub mod Stepping
 pub mod Storing
 pub mod Words

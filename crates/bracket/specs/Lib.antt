@@ -5,3 +5,4 @@ pub mod Lines
 pub mod Answers
 pub mod Transcript
 pub mod Promises
+pub mod Steps

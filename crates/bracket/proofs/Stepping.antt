@@ -1,0 +1,132 @@
+-- Steps of a run: what each line of the algebra comes to.
+use Prim.Native.Nat.{ℕ, zero, suc, _+_, _≤_, _<_}
+use mathlib.Core.Bool.{Bool, true, false, not, _||_}
+use mathlib.Core.List.{List, [], _∷_, _++_}
+use mathlib.Core.Path.{_≡_, refl, ap, sym, _∙_}
+use native.Mathlib.Numerals.{add-one}
+use native.Mathlib.Omega.{arith}
+use borrow.Author.Tests.{not-true, not-false, eqb-false, ltb-false}
+use lib.Dec.{T, eqb, ltb}
+use lib.ListN.{length, take, set}
+use lib.Seq.{take-suc-set, length-take-le}
+use Rattle.equivalence.specs.Refusal.{lowest, sizeTest}
+use Rattle.equivalence.proofs.Refusals.{lowest-none, lowest-here, lowest-next}
+use Rattle.equivalence.specs.declared.Refusal.{Refusal}
+use Rattle.equivalence.specs.declared.Refusal.the-variants.{Size, Text}
+use Rattle.equivalence.specs.declared.Check.{Check}
+use Rattle.equivalence.specs.declared.Check.the-variants.{Passed, Failed}
+use Rattle.algebra.specs.Algebra.{algebraOf}
+use Rattle.bracket.specs.Reading.{found, fault}
+use Rattle.bracket.specs.Lines.{Progress, defined, refused, sizeLine, tested, afterSize, sized, operation}
+use Rattle.bracket.specs.Answers.{refusedLine}
+use Rattle.bracket.specs.Transcript.{goes, ends, afterLine, firstStep}
+use Rattle.bracket.specs.Promises.{readOf, NumberRead, Laid, passing, progressOf, operationProgress, OperationRead}
+use Rattle.bracket.specs.Steps.{stateOf, stepOf, operationStep, Sound, Lent, Stepping}
+use Rattle.bracket.specs.declared.lines.OperationLine.{OperationLine}
+use Rattle.bracket.specs.declared.reading.Number.{Number}
+use Rattle.bracket.specs.declared.run.Standing.{Standing}
+use Rattle.bracket.specs.declared.run.Stepped.{Stepped}
+use Rattle.bracket.proofs.Laying.{laid-none}
+use Rattle.bracket.proofs.SpacedNumbers.{found-number, missing-number}
+
+-- a run that did not get past its size line
+abbrev unbegun : Standing
+unbegun = record { goes = false; at = 0; size = 1; operations = 0; cells = 0; asked = false }
+
+-- a run that has just read its size line
+abbrev begun : ℕ → ℕ → Standing
+begun n next = record { goes = true; at = next; size = n; operations = 0; cells = 0; asked = false }
+
+-- what a standing and a count of written bytes make
+abbrev stepped : Standing → ℕ → Stepped
+stepped s wrote = record { standing = s; wrote = wrote }
+
+or-left : (a b : Bool) → (a || b) ≡ false → a ≡ false
+or-left true b e = e
+or-left false b e = refl
+
+or-right : (a b : Bool) → (a || b) ≡ false → b ≡ false
+or-right true b e = let z : _≡_ {A = ℕ} 0 1 = cc in absurd (omega arith)
+or-right false b e = e
+
+-- 1 passes just where n is 1 to 64
+size-fails : (n : ℕ) (b : Bool) → b ≡ not (sizeTest n .applies) → not b ≡ true → lowest (sizeTest n ∷ []) ≡ Failed Size
+unfolding sizeTest
+size-fails n b e h = lowest-here (sizeTest n) [] (rw (not-false (eqb n 0 || ltb 64 n) (sym e ∙ not-true b h)) tt)
+
+size-passes : (n : ℕ) (b : Bool) → b ≡ not (sizeTest n .applies) → not b ≡ false → lowest (sizeTest n ∷ []) ≡ Passed
+unfolding sizeTest
+size-passes n b e h =
+    lowest-next (sizeTest n) [] (rw (not-true (eqb n 0 || ltb 64 n) (sym e ∙ not-false b h)) (λ f. f)) ∙ lowest-none
+
+size-known : (n : ℕ) (b : Bool) → b ≡ not (sizeTest n .applies) → not b ≡ false → (0 < n) × (n ≤ 64)
+unfolding sizeTest
+size-known n b e h =
+    let f : (eqb n 0 || ltb 64 n) ≡ false = not-true (eqb n 0 || ltb 64 n) (sym e ∙ not-false b h) in
+    let z : n ≡ 0 → ⊥ = eqb-false n 0 (or-left (eqb n 0) (ltb 64 n) f) in
+    omega (arith, ltb-false 64 n (or-right (eqb n 0) (ltb 64 n) f))
+
+module _ (text lent out : List ℕ) (n : Number) (r : NumberRead text 0 (sizeLine text 0) n) (wrote : ℕ) (arities room : List ℕ) where
+  pub first-fault : not (n .ok) ≡ true → Laid lent 0 (refusedLine Text) out wrote
+      → Stepping text 0 (firstStep text) lent arities room out (stepped unbegun wrote)
+  unfolding firstStep sized afterSize afterLine
+  first-fault h l = record { piece = refusedLine Text; value = rw (missing-number r h); laid = l; sound = omega arith; past = omega arith }
+
+  module _ (h : not (n .ok) ≡ false) (b : Bool) (e : b ≡ not (sizeTest (n .value) .applies)) where
+    pub first-refused : not b ≡ true → Laid lent 0 (refusedLine Size) out wrote
+        → Stepping text 0 (firstStep text) lent arities room out (stepped unbegun wrote)
+    unfolding firstStep sized afterSize afterLine tested
+    first-refused k l =
+        record {
+          piece = refusedLine Size;
+          value = rw (found-number r h, size-fails (n .value) b e k);
+          laid = l;
+          sound = omega arith;
+          past = omega arith
+        }
+
+  pub first-begun : not (n .ok) ≡ false → (b : Bool) → b ≡ not (sizeTest (n .value) .applies) → not b ≡ false
+      → Stepping text 0 (firstStep text) lent arities room lent (stepped (begun (n .value) (n .next)) 0)
+  unfolding firstStep sized afterSize afterLine tested
+  first-begun h b e k =
+      let p : 0 + 1 ≤ n .next = rw (not-false (n .ok) h) at (r .past) in
+      record {
+        piece = [];
+        value = rw (found-number r h, size-passes (n .value) b e k);
+        laid = laid-none lent 0 (omega arith);
+        sound = omega (arith, size-known (n .value) b e k, r .within);
+        past = p
+      }
+
+-- an operation line that was refused, or gave one operation more
+module _ (text : List ℕ) (s : Standing) (arities room lent out : List ℕ) (sound : Sound text s) (w : Lent text arities room lent)
+    (after : List ℕ) (l : OperationLine) (r : OperationRead text (s .at + 3) (s .size) (s .operations) room (s .cells) after l) where
+  known : operation (algebraOf (s .size) (take (s .operations) arities) (take (s .cells) room)) text (s .at + 3)
+      ≡ progressOf (s .size) (take (s .operations) arities) after (l .arity) (l .cells) (l .next) (l .check)
+  unfolding operationProgress
+  known = r .value (take (s .operations) arities) (length-take-le (s .operations) arities (omega arith))
+
+  pub operation-ends : (x : Refusal) → l .check ≡ Failed x → (wrote : ℕ) → Laid lent 0 (refusedLine x) out wrote
+      → Stepping text (s .at) (operationStep text (stateOf s arities room)) lent arities after out
+      (stepped (record { goes = false; at = s .at; size = s .size; operations = s .operations; cells = s .cells; asked = false }) wrote)
+  unfolding operationStep afterLine
+  operation-ends x e wrote l′ =
+      record { piece = refusedLine x; value = rw (known, e); laid = l′; sound = omega arith; past = omega arith }
+
+  -- there is room for its arity
+  pub operation-place : s .operations + passing (l .check) ≤ 16 → l .check ≡ Passed → s .operations < length arities
+  operation-place f e = let k : s .operations + 1 ≤ 16 = rw e at f in omega arith
+
+  pub operation-grows : s .operations + passing (l .check) ≤ 16 → l .check ≡ Passed
+      → Stepping text (s .at) (operationStep text (stateOf s arities room)) lent (set arities (s .operations) (l .arity)) after lent
+      (stepped (record { goes = true; at = l .next; size = s .size; operations = s .operations + 1; cells = l .cells; asked = false }) 0)
+  unfolding operationStep afterLine
+  operation-grows f e =
+      let k : s .operations + 1 ≤ 16 = rw e at f in
+      record {
+        piece = [];
+        value = rw (known, e, add-one (s .operations), take-suc-set arities (s .operations) (l .arity) (operation-place f e));
+        laid = laid-none lent 0 (omega arith);
+        sound = omega (arith, r .reached, r .paced);
+        past = omega (arith, r .reached)
+      }

@@ -1,0 +1,73 @@
+// A run over a text, line by line: where it stands, and what each line writes.
+use crate::lines::{read_operation, read_size};
+use crate::writing::write_refused;
+
+ghost use mathlib.Core.Path.{_≡_};
+ghost use mathlib.Core.List.{List};
+ghost use Prim.Native.Nat.{ℕ, _+_, _≤_, _<_};
+ghost use lib.ListN.{length};
+ghost use Rattle.bracket.specs.Transcript.{firstStep};
+ghost use Rattle.bracket.specs.Steps.{Sound, Lent, Stepping, operationStep, stateOf};
+
+// Where a run stands: whether it goes on, the start of the next line, the algebra's size, how many operations and cells it has, and whether a request has
+// come. The arities of the operations, and the cells, stand first in two slices that the caller lends to every step.
+pub struct Standing {
+    pub goes: bool,
+    pub at: usize,
+    pub size: u8,
+    pub operations: usize,
+    pub cells: usize,
+    pub asked: bool,
+}
+
+// Where the run stands after a line, and how many bytes the line wrote.
+pub struct Stepped {
+    pub standing: Standing,
+    pub wrote: usize,
+}
+
+// The first line of a text, which is its size line: 14, then 1.
+pub fn first_step(text: &[u8], out: &mut [u8]) -> Stepped
+    requires { ⌜ 14 ≤ length (now out) ⌝ }
+    ensures { λ r. ⌜ ((arities room : List ℕ) → Stepping (now (text .entry)) 0 (firstStep (now (text .entry))) (now (out .entry)) arities room (now (out .exit)) r) ⌝ }
+{
+    let ended = Standing { goes: false, at: 0, size: 1, operations: 0, cells: 0, asked: false };
+    let size = read_size(text, 0);
+    let n = size.value;
+    let next = size.next;
+    if !size.ok {
+        let wrote = write_refused(out, equivalence::Refusal::Text);
+        return Stepped { standing: ended, wrote };
+    }
+    if !equivalence::checks::is_size(n as usize) {
+        let wrote = write_refused(out, equivalence::Refusal::Size);
+        return Stepped { standing: ended, wrote };
+    }
+    let begun = Standing { goes: true, at: next, size: n, operations: 0, cells: 0, asked: false };
+    Stepped { standing: begun, wrote: 0 }
+}
+
+// An operation line, which begins with `[op`.
+fn operation_step(text: &[u8], standing: Standing, arities: &mut [u8], room: &mut [u8], out: &mut [u8]) -> Stepped
+    requires { ⌜ Sound (now text) standing ⌝ }
+    requires { ⌜ Lent (now text) (now arities) (now room) (now out) ⌝ }
+    requires { ⌜ standing .at + 3 ≤ length (now text) ⌝ }
+    ensures { λ r. ⌜ Stepping (now (text .entry)) (standing .at) (operationStep (now (text .entry)) (stateOf standing (now (arities .entry)) (now (room .entry)))) (now (out .entry)) (now (arities .exit)) (now (room .exit)) (now (out .exit)) r ⌝ }
+{
+    let at = standing.at;
+    let size = standing.size;
+    let k = standing.operations;
+    let cells = standing.cells;
+    let line = read_operation(text, at + 3, size, k, room, cells);
+    let next = line.next;
+    let end = line.cells;
+    let check = line.check;
+    if let equivalence::Check::Failed(r) = check {
+        let wrote = write_refused(out, r);
+        let ended = Standing { goes: false, at, size, operations: k, cells, asked: false };
+        return Stepped { standing: ended, wrote };
+    }
+    arities[k] = line.arity;
+    let grown = Standing { goes: true, at: next, size, operations: k + 1, cells: end, asked: false };
+    Stepped { standing: grown, wrote: 0 }
+}
