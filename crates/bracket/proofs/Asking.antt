@@ -148,13 +148,13 @@ some-small Decompose = omega arith
 some-small Nothing = omega arith
 
 -- the requests that are left when words are passed over
-abbrev from-decompose : Reader Request
+abbrev pub from-decompose : Reader Request
 from-decompose = opened (ascii "[decompose]\n") (done decompose) failed
 
-abbrev from-separate : Reader Request
+abbrev pub from-separate : Reader Request
 from-separate = opened (ascii "[separate") twoNumbers from-decompose
 
-abbrev from-contained : Reader Request
+abbrev pub from-contained : Reader Request
 from-contained = opened (ascii "[contained") containing from-separate
 
 -- behind a word that stands in the text there is as much room

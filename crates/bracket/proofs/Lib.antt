@@ -2,9 +2,11 @@ pub mod Asking
 pub mod Defining
 pub mod Digits
 pub mod Examples
+pub mod Forward
 pub mod Judging
 pub mod Laying
 pub mod Listing
+pub mod Parts
 pub mod Readers
 pub mod SpacedNumbers
 pub mod Spacing

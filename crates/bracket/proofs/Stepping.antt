@@ -19,9 +19,9 @@ use Rattle.algebra.specs.Algebra.{algebraOf}
 use Rattle.bracket.specs.Reading.{found, fault}
 use Rattle.bracket.specs.Lines.{Progress, defined, refused, sizeLine, tested, afterSize, sized, operation}
 use Rattle.bracket.specs.Answers.{refusedLine}
-use Rattle.bracket.specs.Transcript.{goes, ends, afterLine, firstStep}
+use Rattle.bracket.specs.Transcript.{goes, ends, afterLine, firstStep, operationStep}
 use Rattle.bracket.specs.Promises.{readOf, NumberRead, Laid, passing, progressOf, operationProgress, OperationRead}
-use Rattle.bracket.specs.Steps.{stateOf, stepOf, operationStep, Sound, Lent, Stepping}
+use Rattle.bracket.specs.Steps.{stateOf, stepOf, Sound, Lent, Stepping}
 use Rattle.bracket.specs.declared.lines.OperationLine.{OperationLine}
 use Rattle.bracket.specs.declared.reading.Number.{Number}
 use Rattle.bracket.specs.declared.run.Standing.{Standing}

@@ -5,8 +5,7 @@ use mathlib.Core.List.{List}
 use mathlib.Core.Path.{_≡_}
 use lib.ListN.{length, take}
 use Rattle.algebra.specs.Algebra.{algebraOf}
-use Rattle.bracket.specs.Lines.{operation}
-use Rattle.bracket.specs.Transcript.{State, Step, goes, ends, afterLine}
+use Rattle.bracket.specs.Transcript.{State, Step, goes, ends}
 use Rattle.bracket.specs.Promises.{bit, Laid}
 use Rattle.bracket.specs.declared.run.Standing.{Standing}
 use Rattle.bracket.specs.declared.run.Stepped.{Stepped}
@@ -20,10 +19,6 @@ stateOf s arities room =
 abbrev pub stepOf : Bool → List ℕ → State → Step
 stepOf true piece s = goes piece s
 stepOf false piece s = ends piece
-
--- an operation line, behind `[op`
-unfoldable pub operationStep : List ℕ → State → Step
-operationStep text s = afterLine (operation (s .algebra) text (s .at + 3))
 
 -- a standing that a run over the text can come to
 pub record Sound (text : List ℕ) (s : Standing) : Type 0 where

@@ -1,5 +1,5 @@
 -- The whole output as a function of the whole input.
-use Prim.Native.Nat.{ℕ, zero, suc, _+_}
+use Prim.Native.Nat.{ℕ, zero, suc, _+_, _≤_, _<_}
 use mathlib.Core.Bool.{Bool, true, false, not, _&&_}
 use mathlib.Core.List.{List, [], _∷_, _++_}
 use lib.Dec.{leb, ltb}
@@ -35,13 +35,18 @@ afterRequest a fault = ends (refusedLine Text)
 unfoldable pub firstStep : List ℕ → Step
 firstStep text = afterLine (sized text)
 
--- a line after it: an operation, while no request has come, or a request
+-- an operation line, which begins with `[op`
+unfoldable pub operationStep : List ℕ → State → Step
+operationStep text s = afterLine (operation (s .algebra) text (s .at + 3))
+
+-- any other line
+unfoldable pub requestStep : List ℕ → State → Step
+requestStep text s = afterRequest (s .algebra) (request text (s .at))
+
+-- a line after the first: an operation, while no request has come, or a request
 unfoldable pub step : List ℕ → State → Step
 step text s =
-    elim (not (s .asked) && begins text (s .at) (ascii "[op")) [
-      | true ↦ afterLine (operation (s .algebra) text (s .at + 3))
-      | false ↦ afterRequest (s .algebra) (request text (s .at))
-    ]
+    elim (not (s .asked) && begins text (s .at) (ascii "[op")) [ true ↦ operationStep text s | false ↦ requestStep text s ]
 
 -- what a line writes, and what the rest of the run writes after it
 unfoldable pub output : Step → (State → List ℕ) → List ℕ
@@ -57,3 +62,9 @@ run (suc k) text s = elim (leb (length text) (s .at)) [ true ↦ [] | false ↦ 
 unfoldable pub transcript : List ℕ → List ℕ
 transcript text =
     elim (ltb 65536 (length text)) [ true ↦ refusedLine Text | false ↦ output (firstStep text) (run (length text) text) ]
+
+-- the pieces that a step and those after it write, in order: to a step that ends the run, or to the end of the text
+pub data Pieces (text : List ℕ) : Step → List (List ℕ) → Type 0 where
+  ended : {piece : List ℕ} → Pieces text (ends piece) (piece ∷ [])
+  finished : {piece : List ℕ} {s : State} → length text ≤ s .at → Pieces text (goes piece s) (piece ∷ [])
+  onwards : {piece : List ℕ} {s : State} {rest : List (List ℕ)} → s .at < length text → Pieces text (step text s) rest → Pieces text (goes piece s) (piece ∷ rest)

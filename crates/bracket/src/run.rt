@@ -6,8 +6,8 @@ ghost use mathlib.Core.Path.{_≡_};
 ghost use mathlib.Core.List.{List};
 ghost use Prim.Native.Nat.{ℕ, _+_, _≤_, _<_};
 ghost use lib.ListN.{length};
-ghost use Rattle.bracket.specs.Transcript.{firstStep};
-ghost use Rattle.bracket.specs.Steps.{Sound, Lent, Stepping, operationStep, stateOf};
+ghost use Rattle.bracket.specs.Transcript.{firstStep, operationStep};
+ghost use Rattle.bracket.specs.Steps.{Sound, Lent, Stepping, stateOf};
 
 // Where a run stands: whether it goes on, the start of the next line, the algebra's size, how many operations and cells it has, and whether a request has
 // come. The arities of the operations, and the cells, stand first in two slices that the caller lends to every step.
