@@ -42,23 +42,35 @@ module _ (text : List ℕ) where
   output-pieces (suc k) e (onwards {piece = p} {s = s} h q) =
       ap (λ (l : List ℕ). p ++ l) (run-onwards k s h ∙ output-pieces k (enough-next k (s .at) (step text s) e (step-ahead text s)) q)
 
-  -- every run has its pieces
-  pieces-from : (k : ℕ) (d : Step) → Enough k d → (ps : List (List ℕ)) × Pieces text d ps
-  pieces-from k (ends p) e = (p ∷ [], ended)
-  pieces-from zero (goes p s) e = (p ∷ [], finished {s = s} (omega arith))
-  pieces-from (suc k) (goes p s) e =
+  -- the pieces from a step on
+  abbrev PiecesFrom : Step → Type 0
+  PiecesFrom d = (ps : List (List ℕ)) × Pieces text d ps
+
+  no-line-left : (d : Step) → Enough 0 d → PiecesFrom d
+  no-line-left (goes p s) e = (p ∷ [], finished {s = s} (omega arith))
+  no-line-left (ends p) e = (p ∷ [], ended)
+
+  a-line-left : (k : ℕ) (d : Step) → Enough (suc k) d → ((next : Step) → Enough k next → PiecesFrom next) → PiecesFrom d
+  a-line-left k (goes p s) e rest =
       elim (decLt (s .at) (length text)) [
-        | yes h ↦ let q = pieces-from k (step text s) (enough-next k (s .at) (step text s) e (step-ahead text s)) in (p ∷ q .0, onwards h (q .1))
+        | yes h ↦ let q = rest (step text s) (enough-next k (s .at) (step text s) e (step-ahead text s)) in (p ∷ q .0, onwards h (q .1))
         | no h ↦ (p ∷ [], finished {s = s} (omega arith))
       ]
+  a-line-left k (ends p) e rest = (p ∷ [], ended)
+
+  pieces-from : (k : ℕ) (d : Step) → Enough k d → PiecesFrom d
+  pieces-from zero d e = no-line-left d e
+  pieces-from (suc k) d e = a-line-left k d e (pieces-from k)
 
   first-enough : (d : Step) → Enough (length text) d
   first-enough (goes p s) = omega arith
   first-enough (ends p) = tt
 
-  pub pieces-exist : (ps : List (List ℕ)) × Pieces text (firstStep text) ps
+  -- every run has its pieces
+  pub pieces-exist : PiecesFrom (firstStep text)
   pieces-exist = pieces-from (length text) (firstStep text) (first-enough (firstStep text))
 
+  -- and they are the transcript
   pub pieces-transcript : (ps : List (List ℕ)) → length text ≤ 65536 → Pieces text (firstStep text) ps → concat ps ≡ transcript text
   unfolding transcript
   pieces-transcript ps h q = sym (simp (transcript, le-ltb 65536 (length text) h) (output-pieces (length text) (first-enough (firstStep text)) q))
