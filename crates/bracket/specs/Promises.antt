@@ -1,9 +1,9 @@
 -- What inner functions promise each other: what a reader came to and where it stands, and what a writer laid in the lent bytes.
-use Prim.Native.Nat.{ℕ, _+_, _≤_}
+use Prim.Native.Nat.{ℕ, _+_, _≤_, _<_}
 use mathlib.Core.Bool.{Bool, true, false}
 use mathlib.Core.List.{List, [], _∷_, _++_}
 use mathlib.Core.Path.{_≡_}
-use lib.ListN.{length, take, drop}
+use lib.ListN.{length, take, drop, replicate}
 use Rattle.bracket.specs.Reading.{Read, found, fault}
 use Rattle.equivalence.specs.declared.Check.{Check}
 use Rattle.equivalence.specs.declared.Check.the-variants.{Passed, Failed}
@@ -120,3 +120,20 @@ pub record RequestRead (text : List ℕ) (at put : ℕ) (d : Read Request) (r : 
   pub value : d ≡ requestOf [] (r .next) (r .asked)
   pub end : r .end ≡ put
   pub reached : Reached text at (r .next)
+
+-- an algebra of n elements, and room for its longest line
+pub record LineFits (n : ℕ) (out : List ℕ) : Type 0 where
+  pub some : 0 < n
+  pub most : n ≤ 64
+  pub line : 16384 ≤ length out
+
+-- a map of 1 to 64 bytes, and room for a line
+pub record MapFits (map out : List ℕ) : Type 0 where
+  pub some : 0 < length map
+  pub most : length map ≤ 64
+  pub line : 16384 ≤ length out
+
+-- n zero bytes for a map, and room for a line
+pub record Zeros (n : ℕ) (map out : List ℕ) : Type 0 where
+  pub zeros : map ≡ replicate n 0
+  pub fits : LineFits n out
