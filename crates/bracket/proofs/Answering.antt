@@ -1,21 +1,33 @@
 -- Answers as lines: each case of a service's answer, and the zero bytes that a service is lent.
 use Prim.Native.Nat.{ℕ, zero, suc, _+_, _-_, _*_, _≤_, _<_}
-use mathlib.Core.List.{List, [], _∷_, _++_}
+use mathlib.Core.List.{List, [], _∷_, _++_, map}
 use mathlib.Core.Path.{_≡_, refl, ap, sym, _∙_}
-use native.Mathlib.Nat.{sub-zero, le-of-suc-le-suc}
+use native.Mathlib.Nat.{sub-zero, le-of-suc-le-suc, mul-le-mul, mul-le-mul-right}
 use native.Mathlib.Omega.{arith}
 use lib.ListN.{length, take, replicate, length-replicate}
+use Rattle.equivalence.specs.Lists.{upTo, stretch}
+use Rattle.equivalence.specs.Refusal.{lowest, spaceTest, answered, serve}
+use Rattle.equivalence.specs.declared.Check.{Check}
+use Rattle.equivalence.specs.declared.Check.the-variants.{Passed, Failed}
+use Rattle.equivalence.specs.declared.Element.{Element}
 use Rattle.equivalence.specs.declared.Refusal.{Refusal}
 use Rattle.equivalence.specs.declared.Written.{Written}
 use Rattle.equivalence.specs.declared.Written.the-variants.{Done, Refused as WriteRefused}
-use Rattle.algebra.specs.Algebra.{algebraOf}
-use Rattle.congruence.specs.Calls.{generateCall, containedCall, separateCall}
+use Rattle.algebra.specs.Accepted.{algebraTests}
+use Rattle.algebra.specs.Algebra.{Algebra, algebraOf}
+use Rattle.algebra.proofs.Accepted.{accepted-wellFormed}
+use Rattle.congruence.specs.Calls.{generateCall, containedCall, separateCall, decomposed, decomposeCall}
+use Rattle.congruence.proofs.Calls.{factors-reducible}
+use Rattle.congruence.proofs.Factors.{listed-law}
+use Rattle.congruence.proofs.Serving.{of-checked}
+use Rattle.congruence.specs.declared.Decomposed.{Decomposed}
+use Rattle.congruence.specs.declared.Decomposed.the-variants.{Factors, Irreducible, Refused as DecomposeRefused}
 use Rattle.congruence.specs.declared.Generated.{Generated}
 use Rattle.congruence.specs.declared.Generated.the-variants.{Merges, Refused as GenerateRefused}
 use Rattle.bracket.specs.Reading.{ascii}
 use Rattle.bracket.specs.Lines.{generate, contained, separate}
-use Rattle.bracket.specs.Answers.{spaced, spacedBrackets, line, refusedLine, mapLine, generatedLine, answer}
-use Rattle.bracket.specs.Promises.{Laid, LineFits, MapFits, Zeros}
+use Rattle.bracket.specs.Answers.{spaced, spacedBrackets, line, refusedLine, mapLine, generatedLine, factorsLine, answer}
+use Rattle.bracket.specs.Promises.{Laid, FactorsRoom, LineFits, MapFits, FactorsFit, Zeros}
 
 -- the first of many zeros
 take-zeros : (k m : ℕ) → k ≤ m → take {A = ℕ} k (replicate m 0) ≡ replicate k 0
@@ -50,6 +62,45 @@ module _ (lent map out : List ℕ) (end : ℕ) where
   pub line-of-write-refused : (g : Written) (r : Refusal) → g ≡ WriteRefused r → Laid lent 0 (refusedLine r) out end → Laid lent 0 (mapLine g map) out end
   unfolding mapLine
   line-of-write-refused g r e l = rw e l
+
+module _ (answer : Decomposed) (n : ℕ) (factors lent : List ℕ) (f : FactorsFit answer n factors lent) where
+  pub factors-room : (k : ℕ) → answer ≡ Factors k → FactorsRoom n k factors lent
+  factors-room k e =
+      let l : k < n = f .few k e in
+      let p : k * (4 * n + 2) ≤ 63 * 258 = mul-le-mul {n₂ = 63} {m₂ = 258} (omega (arith, f .fits)) (omega (arith, f .fits)) in
+      let q : k * n ≤ (n - 1) * n = mul-le-mul-right {m = k} {n = n - 1} n (omega arith) in
+      record { some = f .fits .some; line = omega (arith, f .fits .line); list = rw (f .list) q }
+
+  module _ (out : List ℕ) (end : ℕ) where
+    pub line-of-factors : (k : ℕ) → answer ≡ Factors k → Laid lent 0 (line (ascii "[factors") (spacedBrackets (map (stretch n factors) (upTo k)))) out end
+        → Laid lent 0 (factorsLine n answer factors) out end
+    unfolding factorsLine
+    line-of-factors k e l = rw e l
+
+    pub line-of-irreducible : (x y : Element) → answer ≡ Irreducible x y → Laid lent 0 (line (ascii "[refused") (spaced (11 ∷ x .0 ∷ y .0 ∷ []))) out end
+        → Laid lent 0 (factorsLine n answer factors) out end
+    unfolding factorsLine
+    line-of-irreducible x y e l = rw e l
+
+    pub line-of-decompose-refused : (r : Refusal) → answer ≡ DecomposeRefused r → Laid lent 0 (refusedLine r) out end
+        → Laid lent 0 (factorsLine n answer factors) out end
+    unfolding factorsLine
+    line-of-decompose-refused r e l = rw e l
+
+-- Decompose gives fewer factors than there are elements
+few-factors : (a : Algebra) (lent : List ℕ) (k : ℕ) (c : Check) → c ≡ lowest (algebraTests a ++ (spaceTest ((a .size - 1) * a .size) (length lent) ∷ []))
+    → answered DecomposeRefused c (decomposed a) ≡ Factors k → k < a .size
+unfolding answered
+few-factors a lent k Passed e g =
+    let w = accepted-wellFormed a (of-checked a (spaceTest ((a .size - 1) * a .size) (length lent) ∷ []) e .0) in
+    rw (factors-reducible a w k g .1) (listed-law a w .few)
+few-factors a lent k (Failed r) e g = let z : _≡_ {A = ℕ} 0 1 = cc in absurd (omega arith)
+
+pub factors-few : (a : Algebra) (lent map : List ℕ) (d : Decomposed) → (d, map) ≡ decomposeCall a lent → (k : ℕ) → d ≡ Factors k → k < a .size
+unfolding decomposeCall serve
+factors-few a lent map d e k g =
+    few-factors a lent k (lowest (algebraTests a ++ (spaceTest ((a .size - 1) * a .size) (length lent) ∷ []))) refl
+    (sym (ap (λ (p : Decomposed × List ℕ). p .0) e) ∙ g)
 
 -- the calls, lent zeros
 module _ (n : ℕ) (arities cells before map lent out : List ℕ) (end : ℕ) (z : Zeros n before lent) where

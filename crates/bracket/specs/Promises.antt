@@ -1,5 +1,5 @@
 -- What inner functions promise each other: what a reader came to and where it stands, and what a writer laid in the lent bytes.
-use Prim.Native.Nat.{ℕ, _+_, _≤_, _<_}
+use Prim.Native.Nat.{ℕ, _+_, _-_, _*_, _≤_, _<_}
 use mathlib.Core.Bool.{Bool, true, false}
 use mathlib.Core.List.{List, [], _∷_, _++_}
 use mathlib.Core.Path.{_≡_}
@@ -8,6 +8,8 @@ use Rattle.bracket.specs.Reading.{Read, found, fault}
 use Rattle.equivalence.specs.declared.Check.{Check}
 use Rattle.equivalence.specs.declared.Check.the-variants.{Passed, Failed}
 use Rattle.algebra.specs.Algebra.{algebraOf}
+use Rattle.congruence.specs.declared.Decomposed.{Decomposed}
+use Rattle.congruence.specs.declared.Decomposed.the-variants.{Factors}
 use Rattle.bracket.specs.Lines.{Progress, defined, refused, lastTable, afterTable, operation, Request, generate, contained, separate, decompose}
 use Rattle.bracket.specs.declared.lines.OperationLine.{OperationLine}
 use Rattle.bracket.specs.declared.reading.Number.{Number}
@@ -121,6 +123,12 @@ pub record RequestRead (text : List ℕ) (at put : ℕ) (d : Read Request) (r : 
   pub end : r .end ≡ put
   pub reached : Reached text at (r .next)
 
+-- there are k lists of n numbers, and room for a line of them
+pub record FactorsRoom (n k : ℕ) (factors out : List ℕ) : Type 0 where
+  pub some : 0 < n
+  pub line : k * (4 * n + 2) + 10 ≤ length out
+  pub list : k * n ≤ length factors
+
 -- an algebra of n elements, and room for its longest line
 pub record LineFits (n : ℕ) (out : List ℕ) : Type 0 where
   pub some : 0 < n
@@ -132,6 +140,12 @@ pub record MapFits (map out : List ℕ) : Type 0 where
   pub some : 0 < length map
   pub most : length map ≤ 64
   pub line : 16384 ≤ length out
+
+-- Decompose's answer over n elements, the list that it was lent, and room for a line
+pub record FactorsFit (answer : Decomposed) (n : ℕ) (factors out : List ℕ) : Type 0 where
+  pub fits : LineFits n out
+  pub list : length factors ≡ (n - 1) * n
+  pub few : (k : ℕ) → answer ≡ Factors k → k < n
 
 -- n zero bytes for a map, and room for a line
 pub record Zeros (n : ℕ) (map out : List ℕ) : Type 0 where

@@ -1,13 +1,14 @@
 // The answers to requests: what a service answers, written as a line.
+use congruence::Decomposed;
 use congruence::Generated;
 use equivalence::Written;
 
-use crate::writing::{write_generated, write_map, write_refused};
+use crate::writing::{write_factors, write_generated, write_irreducible, write_map, write_refused};
 
 ghost use Rattle.algebra.specs.Algebra.{algebraOf};
 ghost use Rattle.bracket.specs.Lines.{generate, contained, separate, decompose};
-ghost use Rattle.bracket.specs.Answers.{generatedLine, mapLine, answer};
-ghost use Rattle.bracket.specs.Promises.{Laid, LineFits, MapFits, Zeros};
+ghost use Rattle.bracket.specs.Answers.{generatedLine, mapLine, factorsLine, answer};
+ghost use Rattle.bracket.specs.Promises.{Laid, LineFits, MapFits, FactorsFit, Zeros};
 
 // The line for Generate's answer, which wrote the map.
 fn write_generate(answer: Generated, map: &[u8], out: &mut [u8]) -> usize
@@ -28,6 +29,18 @@ fn write_written(answer: Written, map: &[u8], out: &mut [u8]) -> usize
     match answer {
         Written::Done => write_map(out, map),
         Written::Refused(reason) => write_refused(out, reason),
+    }
+}
+
+// The line for Decompose's answer, which wrote the factors one after another.
+fn write_decompose(answer: Decomposed, n: usize, factors: &[u8], out: &mut [u8]) -> usize
+    requires { ⌜ FactorsFit answer n (now factors) (now out) ⌝ }
+    ensures { λ r. ⌜ Laid (now (out .entry)) 0 (factorsLine n answer (now (factors .entry))) (now (out .exit)) r ⌝ }
+{
+    match answer {
+        Decomposed::Factors(count) => write_factors(out, n, count as usize, factors),
+        Decomposed::Irreducible(x, y) => write_irreducible(out, x.0, y.0),
+        Decomposed::Refused(reason) => write_refused(out, reason),
     }
 }
 

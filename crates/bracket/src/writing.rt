@@ -7,7 +7,7 @@ ghost use Rattle.bracket.specs.Numbers.{decimal};
 ghost use Rattle.equivalence.specs.Lists.{upTo, stretch};
 ghost use Rattle.bracket.specs.Reading.{ascii};
 ghost use Rattle.bracket.specs.Answers.{spaced, bracketed, spacedBrackets, line, refusedLine};
-ghost use Rattle.bracket.specs.Promises.{Laid};
+ghost use Rattle.bracket.specs.Promises.{Laid, FactorsRoom};
 
 // One byte.
 fn write_byte(out: &mut [u8], put: usize, b: u8) -> usize
@@ -177,7 +177,7 @@ pub fn write_generated(out: &mut [u8], merges: u8, m: &[u8]) -> usize
 
 // `[factors [0 1 0 1] [0 0 2 2]]`
 pub fn write_factors(out: &mut [u8], n: usize, count: usize, maps: &[u8]) -> usize
-    requires { ⌜ ((0 < n) × (count * (4 * n + 2) + 10 ≤ length (now out))) × (count * n ≤ length (now maps)) ⌝ }
+    requires { ⌜ FactorsRoom n count (now maps) (now out) ⌝ }
     ensures { λ e. ⌜ Laid (now (out .entry)) 0 (line (ascii "[factors") (spacedBrackets (map (stretch n (now (maps .entry))) (upTo count)))) (now (out .exit)) e ⌝ }
 {
     let word = write_word(out, 0, b"[factors");
