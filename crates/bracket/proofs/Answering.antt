@@ -11,6 +11,7 @@ use Rattle.equivalence.specs.declared.Check.{Check}
 use Rattle.equivalence.specs.declared.Check.the-variants.{Passed, Failed}
 use Rattle.equivalence.specs.declared.Element.{Element}
 use Rattle.equivalence.specs.declared.Refusal.{Refusal}
+use Rattle.equivalence.specs.declared.Refusal.the-variants.{Text}
 use Rattle.equivalence.specs.declared.Written.{Written}
 use Rattle.equivalence.specs.declared.Written.the-variants.{Done, Refused as WriteRefused}
 use Rattle.algebra.specs.Accepted.{algebraTests}
@@ -25,9 +26,11 @@ use Rattle.congruence.specs.declared.Decomposed.the-variants.{Factors, Irreduci
 use Rattle.congruence.specs.declared.Generated.{Generated}
 use Rattle.congruence.specs.declared.Generated.the-variants.{Merges, Refused as GenerateRefused}
 use Rattle.bracket.specs.Reading.{ascii}
-use Rattle.bracket.specs.Lines.{generate, contained, separate}
+use Rattle.bracket.specs.Lines.{generate, contained, separate, decompose}
 use Rattle.bracket.specs.Answers.{spaced, spacedBrackets, line, refusedLine, mapLine, generatedLine, factorsLine, answer}
-use Rattle.bracket.specs.Promises.{Laid, FactorsRoom, LineFits, MapFits, FactorsFit, Zeros}
+use Rattle.bracket.specs.Promises.{Laid, lineFor, FactorsRoom, LineFits, MapFits, FactorsFit, ZeroFactors, Zeros}
+use Rattle.bracket.specs.declared.requests.Asked.{Asked}
+use Rattle.bracket.specs.declared.requests.Asked.the-variants.{Generate, Contained, Separate, Decompose, Nothing}
 
 -- the first of many zeros
 take-zeros : (k m : ℕ) → k ≤ m → take {A = ℕ} k (replicate m 0) ≡ replicate k 0
@@ -102,6 +105,10 @@ factors-few a lent map d e k g =
     few-factors a lent k (lowest (algebraTests a ++ (spaceTest ((a .size - 1) * a .size) (length lent) ∷ []))) refl
     (sym (ap (λ (p : Decomposed × List ℕ). p .0) e) ∙ g)
 
+-- all factors together have 63 × 64 bytes at most
+pub factors-short : (n : ℕ) → n ≤ 64 → (n - 1) * n ≤ 4032
+factors-short n h = mul-le-mul {n₂ = 63} {m₂ = 64} (omega arith) h
+
 -- the calls, lent zeros
 module _ (n : ℕ) (arities cells before map lent out : List ℕ) (end : ℕ) (z : Zeros n before lent) where
   pub generate-answered : (ps : List ℕ) (g : Generated) → (g, map) ≡ generateCall (algebraOf n arities cells) ps before
@@ -118,3 +125,39 @@ module _ (n : ℕ) (arities cells before map lent out : List ℕ) (end : ℕ) (z
       → Laid lent 0 (mapLine g map) out end → Laid lent 0 (answer (algebraOf n arities cells) (separate v w)) out end
   unfolding answer
   separate-answered v w g e l = rw (← z .zeros, ← e) l
+
+-- Decompose, lent zeros
+pub zeros-of-4032 : (n : ℕ) (out : List ℕ) → LineFits n out → ZeroFactors n (take ((n - 1) * n - 0) (replicate 4032 0)) out
+zeros-of-4032 n out f = record { zeros = rw sub-zero (take-zeros ((n - 1) * n) 4032 (factors-short n (f .most))); fits = f }
+
+pub factors-fit : (n : ℕ) (arities cells before factors out : List ℕ) (d : Decomposed) → ZeroFactors n before out → length factors ≡ length before
+    → (d, factors) ≡ decomposeCall (algebraOf n arities cells) before → FactorsFit d n factors out
+factors-fit n arities cells before factors out d z e g =
+    record {
+      fits = z .fits;
+      list = e ∙ ap length (z .zeros) ∙ length-replicate ((n - 1) * n) 0;
+      few = λ k h. factors-few (algebraOf n arities cells) before factors d g k h
+    }
+
+pub decompose-answered : (n : ℕ) (arities cells before factors lent out : List ℕ) (end : ℕ) (d : Decomposed) → ZeroFactors n before lent
+    → (d, factors) ≡ decomposeCall (algebraOf n arities cells) before → Laid lent 0 (factorsLine n d factors) out end
+    → Laid lent 0 (answer (algebraOf n arities cells) decompose) out end
+unfolding answer
+decompose-answered n arities cells before factors lent out end d z e l = rw (← z .zeros, ← e) l
+
+-- the cases of a request
+module _ (a : Algebra) (xs lent out : List ℕ) (end : ℕ) (asked : Asked) where
+  pub line-for-generate : asked ≡ Generate → Laid lent 0 (answer a (generate xs)) out end → Laid lent 0 (lineFor a xs asked) out end
+  line-for-generate e l = rw e l
+
+  pub line-for-contained : asked ≡ Contained → Laid lent 0 (answer a (contained xs)) out end → Laid lent 0 (lineFor a xs asked) out end
+  line-for-contained e l = rw e l
+
+  pub line-for-separate : (v w : ℕ) → asked ≡ Separate v w → Laid lent 0 (answer a (separate v w)) out end → Laid lent 0 (lineFor a xs asked) out end
+  line-for-separate v w e l = rw e l
+
+  pub line-for-decompose : asked ≡ Decompose → Laid lent 0 (answer a decompose) out end → Laid lent 0 (lineFor a xs asked) out end
+  line-for-decompose e l = rw e l
+
+  pub line-for-nothing : asked ≡ Nothing → Laid lent 0 (refusedLine Text) out end → Laid lent 0 (lineFor a xs asked) out end
+  line-for-nothing e l = rw e l

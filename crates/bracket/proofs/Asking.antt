@@ -11,7 +11,7 @@ use Rattle.equivalence.specs.Lists.{every}
 use Rattle.bracket.specs.Reading.{ascii, Read, found, fault, Reader, _>>=_, _>>_, done, failed, begins, opened}
 use Rattle.bracket.specs.Tables.{cell, table, pair, items}
 use Rattle.bracket.specs.Lines.{close, spacedNumber, Request, generate, contained, separate, decompose, listing, generating, containing, twoNumbers, request}
-use Rattle.bracket.specs.Promises.{readOf, NumberRead, Laid, Roomy, Stored, requestOf, some, Requested, RequestRead}
+use Rattle.bracket.specs.Promises.{readOf, NumberRead, Laid, Roomy, Stored, bit, requestOf, Requested, RequestRead}
 use Rattle.bracket.specs.declared.reading.Number.{Number}
 use Rattle.bracket.specs.declared.reading.Spot.{Spot}
 use Rattle.bracket.specs.declared.requests.Asked.{Asked}
@@ -140,12 +140,9 @@ module _ (text : List ℕ) (at : ℕ) (put : ℕ) (w : at ≤ length text) (v : 
             reached = omega (arith, begins-within text (ascii "]\n") (u .next) tt (ru .within) (sym eq ∙ not-false q g), rv .past, ru .past)
           }
 
-pub some-small : (a : Asked) → some a ≤ 1
-some-small Generate = omega arith
-some-small Contained = omega arith
-some-small (Separate v w) = omega arith
-some-small Decompose = omega arith
-some-small Nothing = omega arith
+pub bit-small : (b : Bool) → bit b ≤ 1
+bit-small true = omega arith
+bit-small false = omega arith
 
 -- the requests that are left when words are passed over
 abbrev pub from-decompose : Reader Request

@@ -5,11 +5,13 @@ use mathlib.Core.List.{List, [], _∷_, _++_}
 use mathlib.Core.Path.{_≡_}
 use lib.ListN.{length, take, drop, replicate}
 use Rattle.bracket.specs.Reading.{Read, found, fault}
+use Rattle.equivalence.specs.declared.Refusal.the-variants.{Text}
 use Rattle.equivalence.specs.declared.Check.{Check}
 use Rattle.equivalence.specs.declared.Check.the-variants.{Passed, Failed}
-use Rattle.algebra.specs.Algebra.{algebraOf}
+use Rattle.algebra.specs.Algebra.{Algebra, algebraOf}
 use Rattle.congruence.specs.declared.Decomposed.{Decomposed}
 use Rattle.congruence.specs.declared.Decomposed.the-variants.{Factors}
+use Rattle.bracket.specs.Answers.{refusedLine, answer}
 use Rattle.bracket.specs.Lines.{Progress, defined, refused, lastTable, afterTable, operation, Request, generate, contained, separate, decompose}
 use Rattle.bracket.specs.declared.lines.OperationLine.{OperationLine}
 use Rattle.bracket.specs.declared.reading.Number.{Number}
@@ -102,13 +104,21 @@ requestOf xs next (Separate v w) = found (separate v w) next
 requestOf xs next Decompose = found decompose next
 requestOf xs next Nothing = fault
 
--- 1 where something was asked, else 0
-abbrev pub some : Asked → ℕ
-some Generate = 1
-some Contained = 1
-some (Separate v w) = 1
-some Decompose = 1
-some Nothing = 0
+-- something was asked, so that the run goes on
+abbrev pub goesOn : Asked → Bool
+goesOn Generate = true
+goesOn Contained = true
+goesOn (Separate v w) = true
+goesOn Decompose = true
+goesOn Nothing = false
+
+-- what is written for it, where these numbers were stored
+abbrev pub lineFor : Algebra → List ℕ → Asked → List ℕ
+lineFor a xs Generate = answer a (generate xs)
+lineFor a xs Contained = answer a (contained xs)
+lineFor a xs (Separate v w) = answer a (separate v w)
+lineFor a xs Decompose = answer a decompose
+lineFor a xs Nothing = refusedLine Text
 
 -- a request came to what `d` says, and its numbers stand in the storage from `put` on
 pub record Requested (text : List ℕ) (at : ℕ) (lent : List ℕ) (put : ℕ) (d : Read Request) (after : List ℕ) (r : RequestLine) : Type 0 where
@@ -146,6 +156,11 @@ pub record FactorsFit (answer : Decomposed) (n : ℕ) (factors out : List ℕ) :
   pub fits : LineFits n out
   pub list : length factors ≡ (n - 1) * n
   pub few : (k : ℕ) → answer ≡ Factors k → k < n
+
+-- zero bytes for the factors of an algebra of n elements, and room for a line
+pub record ZeroFactors (n : ℕ) (factors out : List ℕ) : Type 0 where
+  pub zeros : factors ≡ replicate ((n - 1) * n) 0
+  pub fits : LineFits n out
 
 -- n zero bytes for a map, and room for a line
 pub record Zeros (n : ℕ) (map out : List ℕ) : Type 0 where

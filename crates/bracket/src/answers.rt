@@ -3,12 +3,13 @@ use congruence::Decomposed;
 use congruence::Generated;
 use equivalence::Written;
 
+use crate::requests::Asked;
 use crate::writing::{write_factors, write_generated, write_irreducible, write_map, write_refused};
 
 ghost use Rattle.algebra.specs.Algebra.{algebraOf};
 ghost use Rattle.bracket.specs.Lines.{generate, contained, separate, decompose};
 ghost use Rattle.bracket.specs.Answers.{generatedLine, mapLine, factorsLine, answer};
-ghost use Rattle.bracket.specs.Promises.{Laid, LineFits, MapFits, FactorsFit, Zeros};
+ghost use Rattle.bracket.specs.Promises.{Laid, lineFor, LineFits, MapFits, FactorsFit, ZeroFactors, Zeros};
 
 // The line for Generate's answer, which wrote the map.
 fn write_generate(answer: Generated, map: &[u8], out: &mut [u8]) -> usize
@@ -118,4 +119,37 @@ pub fn answer_separate(n: usize, arities: &[u8], cells: &[u8], v: u8, w: u8, out
 {
     let mut map = [0u8; 64];
     separate_into(n, arities, cells, v, w, &mut map[0..n], out)
+}
+
+// Decompose, lent just the zero bytes that it wants.
+fn decompose_into(n: usize, arities: &[u8], cells: &[u8], factors: &mut [u8], out: &mut [u8]) -> usize
+    requires { ⌜ ZeroFactors n (now factors) (now out) ⌝ }
+    ensures { λ r. ⌜ Laid (now (out .entry)) 0 (answer (algebraOf n (now (arities .entry)) (now (cells .entry))) decompose) (now (out .exit)) r ⌝ }
+{
+    let answer = congruence::decompose(n, arities, cells, factors);
+    write_decompose(answer, n, factors, out)
+}
+
+// Decompose.
+pub fn answer_decompose(n: usize, arities: &[u8], cells: &[u8], out: &mut [u8]) -> usize
+    requires { ⌜ LineFits n (now out) ⌝ }
+    ensures { λ r. ⌜ Laid (now (out .entry)) 0 (answer (algebraOf n (now (arities .entry)) (now (cells .entry))) decompose) (now (out .exit)) r ⌝ }
+{
+    let mut factors = [0u8; 4032];
+    let wanted = (n - 1) * n;
+    decompose_into(n, arities, cells, &mut factors[0..wanted], out)
+}
+
+// The line for what a request asks, with the numbers that were stored for it.
+pub fn answer(asked: Asked, n: usize, arities: &[u8], cells: &[u8], numbers: &[u8], out: &mut [u8]) -> usize
+    requires { ⌜ LineFits n (now out) ⌝ }
+    ensures { λ r. ⌜ Laid (now (out .entry)) 0 (lineFor (algebraOf n (now (arities .entry)) (now (cells .entry))) (now (numbers .entry)) asked) (now (out .exit)) r ⌝ }
+{
+    match asked {
+        Asked::Generate => answer_generate(n, arities, cells, numbers, out),
+        Asked::Contained => answer_contained(n, arities, cells, numbers, out),
+        Asked::Separate(v, w) => answer_separate(n, arities, cells, v, w, out),
+        Asked::Decompose => answer_decompose(n, arities, cells, out),
+        Asked::Nothing => write_refused(out, equivalence::Refusal::Text),
+    }
 }

@@ -7,7 +7,7 @@ ghost use Prim.Native.Nat.{ℕ, _+_, _≤_, _<_};
 ghost use lib.ListN.{length};
 ghost use Rattle.bracket.specs.Tables.{cell, table, pair};
 ghost use Rattle.bracket.specs.Lines.{listing, twoNumbers, request, generating, containing};
-ghost use Rattle.bracket.specs.Promises.{Roomy, Stored, some, Requested, RequestRead};
+ghost use Rattle.bracket.specs.Promises.{bit, goesOn, Roomy, Stored, Requested, RequestRead};
 
 // What a request asks: Generate or Contained with the numbers that were stored, Separate with two elements, Decompose; or nothing, where the line is faulty.
 pub enum Asked {
@@ -23,6 +23,19 @@ pub struct RequestLine {
     pub asked: Asked,
     pub next: usize,
     pub end: usize,
+}
+
+// Whether something is asked, so that the run goes on.
+pub fn goes_on(asked: Asked) -> bool
+    ensures { λ r. ⌜ r ≡ goesOn asked ⌝ }
+{
+    match asked {
+        Asked::Generate => true,
+        Asked::Contained => true,
+        Asked::Separate(_, _) => true,
+        Asked::Decompose => true,
+        Asked::Nothing => false,
+    }
 }
 
 // Any count of tables of an arity, each after a space, to the line's end.
@@ -97,7 +110,7 @@ fn read_separate(text: &[u8], at: usize, put: usize) -> RequestLine
 pub fn read_request(text: &[u8], at: usize, room: &mut [u8], put: usize) -> RequestLine
     requires { ⌜ Roomy (now text) at (now room) put ⌝ }
     ensures { λ r. ⌜ Requested (now (text .entry)) at (now (room .entry)) put (request (now (text .entry)) at) (now (room .exit)) r ⌝ }
-    ensures past { λ r. ⌜ at + some (r .asked) ≤ r .next ⌝ }
+    ensures past { λ r. ⌜ at + bit (goesOn (r .asked)) ≤ r .next ⌝ }
 {
     if begins_with(text, at, b"[generate") {
         return read_generate(text, at + 9, room, put);

@@ -1,8 +1,9 @@
+use Rattle.bracket.specs.Promises.{goesOn}
 use native.Mathlib.Omega.{arith}
 use mathlib.Core.Path.{sym, _∙_}
 use Rattle.equivalence.specs.Lists.{every}
 use Rattle.bracket.specs.Reading.{ascii}
-use Rattle.bracket.proofs.Asking.{some-small, room-behind, ask-generate, ask-contained, ask-separate, ask-decompose, ask-nothing}
+use Rattle.bracket.proofs.Asking.{bit-small, room-behind, ask-generate, ask-contained, ask-separate, ask-decompose, ask-nothing}
 use borrow.Author.Needs.{needs}
 use Rattle.bracket.proofs.requests.read_request.Statement.{statement}
 use Rattle.bracket.proofs.requests.read_request.Tie as tie
@@ -39,7 +40,7 @@ same-length c = search needs
 -- src/requests.rt:101:9
 returns : tie.Need-returns
 unfolding ascii
-returns c = (search ask-generate, let r = c .before .before .read-generate in omega (arith, some-small (r .result .asked), r .ensures .reached))
+returns c = (search ask-generate, let r = c .before .before .read-generate in omega (arith, bit-small (goesOn (r .result .asked)), r .ensures .reached))
 
 -- src/requests.rt:103:30
 slice-aggregate-begins-with-2 : tie.Need-slice-aggregate-begins-with-2
@@ -67,7 +68,7 @@ same-length-2 c = search needs
 -- src/requests.rt:104:9
 returns-2 : tie.Need-returns-2
 unfolding ascii
-returns-2 c = (search ask-contained, let r = c .before .before .read-contained in omega (arith, some-small (r .result .asked), r .ensures .reached))
+returns-2 c = (search ask-contained, let r = c .before .before .read-contained in omega (arith, bit-small (goesOn (r .result .asked)), r .ensures .reached))
 
 -- src/requests.rt:106:30
 slice-aggregate-begins-with-3 : tie.Need-slice-aggregate-begins-with-3
@@ -92,7 +93,7 @@ read-separate-requires c κs =
 -- src/requests.rt:107:9
 returns-3 : tie.Need-returns-3
 unfolding ascii
-returns-3 c = (search ask-separate, let r = c .read-separate in omega (arith, some-small (r .result .asked), r .ensures .reached))
+returns-3 c = (search ask-separate, let r = c .read-separate in omega (arith, bit-small (goesOn (r .result .asked)), r .ensures .reached))
 
 -- src/requests.rt:109:30
 slice-aggregate-begins-with-4 : tie.Need-slice-aggregate-begins-with-4
