@@ -90,3 +90,9 @@ laid-part {lent} {put} {new} {after} {end} p =
 pub laid-before : {lent : List ℕ} {put : ℕ} {new after : List ℕ} {end : ℕ} → Laid lent put new after end → take end after ≡ take put lent ++ new
 laid-before {lent} {put} {new} {after} {end} p =
     let h : put ≤ length lent = omega (arith, p .place, p .within) in rw (p .place, p .bytes, take-laid lent put new h)
+
+pub laid-front : {lent : List ℕ} {put : ℕ} {new after : List ℕ} {end : ℕ} → Laid lent put new after end → take put after ≡ take put lent
+unfolding laid
+laid-front {lent} {put} {new} {after} {end} p =
+    let h : put ≤ length lent = omega (arith, p .place, p .within) in
+    rw (p .bytes) (take-at (take put lent) (new ++ drop (put + length new) lent) put (length-take-le put lent h))

@@ -1,13 +1,14 @@
--- Steps of a run: what each line of the algebra comes to.
-use Prim.Native.Nat.{ℕ, zero, suc, _+_, _≤_, _<_}
+-- Steps of a run: what each line comes to.
+use Prim.Native.Nat.{ℕ, zero, suc, _+_, _-_, _≤_, _<_}
 use mathlib.Core.Bool.{Bool, true, false, not, _||_}
 use mathlib.Core.List.{List, [], _∷_, _++_}
 use mathlib.Core.Path.{_≡_, refl, ap, sym, _∙_}
+use native.Mathlib.Nat.{sub-zero}
 use native.Mathlib.Numerals.{add-one}
 use native.Mathlib.Omega.{arith}
 use borrow.Author.Tests.{not-true, not-false, eqb-false, ltb-false}
 use lib.Dec.{T, eqb, ltb}
-use lib.ListN.{length, take, set}
+use lib.ListN.{length, take, drop, set}
 use lib.Seq.{take-suc-set, length-take-le}
 use Rattle.equivalence.specs.Refusal.{lowest, sizeTest}
 use Rattle.equivalence.proofs.Refusals.{lowest-none, lowest-here, lowest-next}
@@ -15,18 +16,21 @@ use Rattle.equivalence.specs.declared.Refusal.{Refusal}
 use Rattle.equivalence.specs.declared.Refusal.the-variants.{Size, Text}
 use Rattle.equivalence.specs.declared.Check.{Check}
 use Rattle.equivalence.specs.declared.Check.the-variants.{Passed, Failed}
-use Rattle.algebra.specs.Algebra.{algebraOf}
+use Rattle.algebra.specs.Algebra.{Algebra, algebraOf}
 use Rattle.bracket.specs.Reading.{found, fault}
-use Rattle.bracket.specs.Lines.{Progress, defined, refused, sizeLine, tested, afterSize, sized, operation}
+use Rattle.bracket.specs.Lines.{Progress, defined, refused, sizeLine, tested, afterSize, sized, operation, request}
 use Rattle.bracket.specs.Answers.{refusedLine}
-use Rattle.bracket.specs.Transcript.{goes, ends, afterLine, firstStep, operationStep}
-use Rattle.bracket.specs.Promises.{readOf, NumberRead, Laid, passing, progressOf, operationProgress, OperationRead}
+use Rattle.bracket.specs.Transcript.{goes, ends, afterLine, afterRequest, firstStep, operationStep, requestStep}
+use Rattle.bracket.specs.Promises.{bit, readOf, NumberRead, Laid, passing, progressOf, operationProgress, OperationRead, requestOf, goesOn, lineFor, Requested}
 use Rattle.bracket.specs.Steps.{stateOf, stepOf, Sound, Lent, Stepping}
 use Rattle.bracket.specs.declared.lines.OperationLine.{OperationLine}
 use Rattle.bracket.specs.declared.reading.Number.{Number}
+use Rattle.bracket.specs.declared.requests.Asked.{Asked}
+use Rattle.bracket.specs.declared.requests.Asked.the-variants.{Generate, Contained, Separate, Decompose, Nothing}
+use Rattle.bracket.specs.declared.requests.RequestLine.{RequestLine}
 use Rattle.bracket.specs.declared.run.Standing.{Standing}
 use Rattle.bracket.specs.declared.run.Stepped.{Stepped}
-use Rattle.bracket.proofs.Laying.{laid-none}
+use Rattle.bracket.proofs.Laying.{laid-none, laid-part, laid-front}
 use Rattle.bracket.proofs.SpacedNumbers.{found-number, missing-number}
 
 -- a run that did not get past its size line
@@ -130,3 +134,33 @@ module _ (text : List ℕ) (s : Standing) (arities room lent out : List ℕ) (so
         sound = omega (arith, r .reached, r .paced);
         past = omega (arith, r .reached)
       }
+
+-- a request, by what it asks
+after-asked : (a : Algebra) (xs : List ℕ) (next : ℕ) (q : Asked)
+    → afterRequest a (requestOf xs next q) ≡ stepOf (goesOn q) (lineFor a xs q) (record { at = next; algebra = a; asked = true })
+unfolding afterRequest
+after-asked a xs next Generate = refl
+after-asked a xs next Contained = refl
+after-asked a xs next (Separate v w) = refl
+after-asked a xs next Decompose = refl
+after-asked a xs next Nothing = refl
+
+-- a request line that was read, and answered from the lent slices
+pub request-stepped : (text : List ℕ) (s : Standing) (arities room lent : List ℕ) → Sound text s → Lent text arities room lent
+    → (after : List ℕ) (l : RequestLine) → Requested text (s .at) room (s .cells) (request text (s .at)) after l → s .at + bit (goesOn (l .asked)) ≤ l .next
+    → (out : List ℕ) (wrote : ℕ)
+    → Laid lent 0 (lineFor (algebraOf (s .size) (take (s .operations - 0) arities) (take (s .cells - 0) after)) (take (l .end - s .cells) (drop (s .cells) after)) (l .asked)) out wrote
+    → (g : Bool) → g ≡ goesOn (l .asked)
+    → Stepping text (s .at) (requestStep text (stateOf s arities room)) lent arities after out
+    (stepped (record { goes = g; at = l .next; size = s .size; operations = s .operations; cells = s .cells; asked = true }) wrote)
+unfolding requestStep
+request-stepped text s arities room lent sound w after l r p out wrote a g eg =
+    let x = algebraOf (s .size) (take (s .operations) arities) (take (s .cells) room) in
+    let front = laid-front (r .laid) in
+    record {
+      piece = lineFor x (r .new) (l .asked);
+      value = rw (r .value, front, eg) (after-asked x (r .new) (l .next) (l .asked));
+      laid = rw (sub-zero (s .operations), sub-zero (s .cells), laid-part (r .laid), front) at a;
+      sound = omega (arith, r .reached);
+      past = rw eg p
+    }

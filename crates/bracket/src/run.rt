@@ -1,12 +1,14 @@
 // A run over a text, line by line: where it stands, and what each line writes.
+use crate::answers::answer;
 use crate::lines::{read_operation, read_size};
+use crate::requests::{goes_on, read_request};
 use crate::writing::write_refused;
 
 ghost use mathlib.Core.Path.{_≡_};
 ghost use mathlib.Core.List.{List};
 ghost use Prim.Native.Nat.{ℕ, _+_, _≤_, _<_};
 ghost use lib.ListN.{length};
-ghost use Rattle.bracket.specs.Transcript.{firstStep, operationStep};
+ghost use Rattle.bracket.specs.Transcript.{firstStep, operationStep, requestStep};
 ghost use Rattle.bracket.specs.Steps.{Sound, Lent, Stepping, stateOf};
 
 // Where a run stands: whether it goes on, the start of the next line, the algebra's size, how many operations and cells it has, and whether a request has
@@ -70,4 +72,22 @@ fn operation_step(text: &[u8], standing: Standing, arities: &mut [u8], room: &mu
     arities[k] = line.arity;
     let grown = Standing { goes: true, at: next, size, operations: k + 1, cells: end, asked: false };
     Stepped { standing: grown, wrote: 0 }
+}
+
+// A line that is no operation: a request, or a fault.
+fn request_step(text: &[u8], standing: Standing, arities: &[u8], room: &mut [u8], out: &mut [u8]) -> Stepped
+    requires { ⌜ Sound (now text) standing ⌝ }
+    requires { ⌜ Lent (now text) (now arities) (now room) (now out) ⌝ }
+    ensures { λ r. ⌜ Stepping (now (text .entry)) (standing .at) (requestStep (now (text .entry)) (stateOf standing (now (arities .entry)) (now (room .entry)))) (now (out .entry)) (now (arities .entry)) (now (room .exit)) (now (out .exit)) r ⌝ }
+{
+    let size = standing.size;
+    let operations = standing.operations;
+    let cells = standing.cells;
+    let line = read_request(text, standing.at, room, cells);
+    let next = line.next;
+    let end = line.end;
+    let asked = line.asked;
+    let wrote = answer(asked, size as usize, &arities[0..operations], &room[0..cells], &room[cells..end], out);
+    let after = Standing { goes: goes_on(asked), at: next, size, operations, cells, asked: true };
+    Stepped { standing: after, wrote }
 }
