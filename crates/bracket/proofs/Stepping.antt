@@ -10,6 +10,7 @@ use borrow.Author.Tests.{not-true, not-false, eqb-false, ltb-false}
 use lib.Dec.{T, eqb, ltb}
 use lib.ListN.{length, take, drop, set}
 use lib.Seq.{take-suc-set, length-take-le}
+use Rattle.equivalence.specs.Lists.{every}
 use Rattle.equivalence.specs.Refusal.{lowest, sizeTest}
 use Rattle.equivalence.proofs.Refusals.{lowest-none, lowest-here, lowest-next}
 use Rattle.equivalence.specs.declared.Refusal.{Refusal}
@@ -17,10 +18,10 @@ use Rattle.equivalence.specs.declared.Refusal.the-variants.{Size, Text}
 use Rattle.equivalence.specs.declared.Check.{Check}
 use Rattle.equivalence.specs.declared.Check.the-variants.{Passed, Failed}
 use Rattle.algebra.specs.Algebra.{Algebra, algebraOf}
-use Rattle.bracket.specs.Reading.{found, fault}
+use Rattle.bracket.specs.Reading.{ascii, found, fault, begins}
 use Rattle.bracket.specs.Lines.{Progress, defined, refused, sizeLine, tested, afterSize, sized, operation, request}
 use Rattle.bracket.specs.Answers.{refusedLine}
-use Rattle.bracket.specs.Transcript.{goes, ends, afterLine, afterRequest, firstStep, operationStep, requestStep}
+use Rattle.bracket.specs.Transcript.{State, goes, ends, afterLine, afterRequest, firstStep, operationStep, requestStep, step}
 use Rattle.bracket.specs.Promises.{bit, readOf, NumberRead, Laid, passing, progressOf, operationProgress, OperationRead, requestOf, goesOn, lineFor, Requested}
 use Rattle.bracket.specs.Steps.{stateOf, stepOf, Sound, Lent, Stepping}
 use Rattle.bracket.specs.declared.lines.OperationLine.{OperationLine}
@@ -32,6 +33,7 @@ use Rattle.bracket.specs.declared.run.Standing.{Standing}
 use Rattle.bracket.specs.declared.run.Stepped.{Stepped}
 use Rattle.bracket.proofs.Laying.{laid-none, laid-part, laid-front}
 use Rattle.bracket.proofs.SpacedNumbers.{found-number, missing-number}
+use Rattle.bracket.proofs.Words.{begins-within}
 
 -- a run that did not get past its size line
 abbrev unbegun : Standing
@@ -164,3 +166,37 @@ request-stepped text s arities room lent sound w after l r p out wrote a g eg =
       sound = omega (arith, r .reached);
       past = rw eg p
     }
+
+-- which step a line takes
+module _ (text : List ℕ) (s : State) where
+  asked-request : s .asked ≡ true → step text s ≡ requestStep text s
+  unfolding step
+  asked-request e = simp (step, e)
+
+  module _ (e : s .asked ≡ false) (b : Bool) (eb : b ≡ begins text (s .at) (ascii "[op")) where
+    word-operation : b ≡ true → step text s ≡ operationStep text s
+    unfolding step
+    word-operation h = simp (step, e, ← eb, h)
+
+    other-request : b ≡ false → step text s ≡ requestStep text s
+    unfolding step
+    other-request h = simp (step, e, ← eb, h)
+
+module _ (text : List ℕ) (s : Standing) (arities room lent arities′ room′ out : List ℕ) (r : Stepped) where
+  pub step-asked : s .asked ≡ true → Stepping text (s .at) (requestStep text (stateOf s arities room)) lent arities′ room′ out r
+      → Stepping text (s .at) (step text (stateOf s arities room)) lent arities′ room′ out r
+  step-asked e q = rw (asked-request text (stateOf s arities room) e) q
+
+  module _ (e : s .asked ≡ false) (b : Bool) (eb : b ≡ begins text (s .at) (ascii "[op")) where
+    pub step-operation : b ≡ true → Stepping text (s .at) (operationStep text (stateOf s arities room)) lent arities′ room′ out r
+        → Stepping text (s .at) (step text (stateOf s arities room)) lent arities′ room′ out r
+    step-operation h q = rw (word-operation text (stateOf s arities room) e b eb h) q
+
+    pub step-request : b ≡ false → Stepping text (s .at) (requestStep text (stateOf s arities room)) lent arities′ room′ out r
+        → Stepping text (s .at) (step text (stateOf s arities room)) lent arities′ room′ out r
+    step-request h q = rw (other-request text (stateOf s arities room) e b eb h) q
+
+-- the word of an operation line is within the text
+pub operation-room : (text : List ℕ) (s : Standing) (b : Bool) → b ≡ begins text (s .at) (ascii "[op") → Sound text s → b ≡ true → s .at + 3 ≤ length text
+unfolding ascii every
+operation-room text s b eb sound h = begins-within text (ascii "[op") (s .at) tt (sound .within) (sym eb ∙ h)

@@ -1,6 +1,7 @@
 // A run over a text, line by line: where it stands, and what each line writes.
 use crate::answers::answer;
 use crate::lines::{read_operation, read_size};
+use crate::reading::begins_with;
 use crate::requests::{goes_on, read_request};
 use crate::writing::write_refused;
 
@@ -8,7 +9,7 @@ ghost use mathlib.Core.Path.{_≡_};
 ghost use mathlib.Core.List.{List};
 ghost use Prim.Native.Nat.{ℕ, _+_, _≤_, _<_};
 ghost use lib.ListN.{length};
-ghost use Rattle.bracket.specs.Transcript.{firstStep, operationStep, requestStep};
+ghost use Rattle.bracket.specs.Transcript.{firstStep, operationStep, requestStep, step};
 ghost use Rattle.bracket.specs.Steps.{Sound, Lent, Stepping, stateOf};
 
 // Where a run stands: whether it goes on, the start of the next line, the algebra's size, how many operations and cells it has, and whether a request has
@@ -90,4 +91,19 @@ fn request_step(text: &[u8], standing: Standing, arities: &[u8], room: &mut [u8]
     let wrote = answer(asked, size as usize, &arities[0..operations], &room[0..cells], &room[cells..end], out);
     let after = Standing { goes: goes_on(asked), at: next, size, operations, cells, asked: true };
     Stepped { standing: after, wrote }
+}
+
+// The line at which a run stands, from a sound standing and with enough lent.
+fn next_step(text: &[u8], standing: Standing, arities: &mut [u8], room: &mut [u8], out: &mut [u8]) -> Stepped
+    requires { ⌜ Sound (now text) standing ⌝ }
+    requires { ⌜ Lent (now text) (now arities) (now room) (now out) ⌝ }
+    ensures { λ r. ⌜ Stepping (now (text .entry)) (standing .at) (step (now (text .entry)) (stateOf standing (now (arities .entry)) (now (room .entry)))) (now (out .entry)) (now (arities .exit)) (now (room .exit)) (now (out .exit)) r ⌝ }
+{
+    if standing.asked {
+        return request_step(text, standing, arities, room, out);
+    }
+    if begins_with(text, standing.at, b"[op") {
+        return operation_step(text, standing, arities, room, out);
+    }
+    request_step(text, standing, arities, room, out)
 }
