@@ -9,8 +9,8 @@ ghost use mathlib.Core.Path.{_≡_};
 ghost use mathlib.Core.List.{List};
 ghost use Prim.Native.Nat.{ℕ, _+_, _≤_, _<_};
 ghost use lib.ListN.{length};
-ghost use Rattle.bracket.specs.Transcript.{firstStep, operationStep, requestStep, step};
-ghost use Rattle.bracket.specs.Steps.{Sound, Lent, Stepping, stateOf};
+ghost use Rattle.bracket.specs.Transcript.{firstStep, operationStep, requestStep, step as stepDefined};
+ghost use Rattle.bracket.specs.Steps.{Sound, Lent, Stepping, canStep, Begun, Taken, stateOf};
 
 // Where a run stands: whether it goes on, the start of the next line, the algebra's size, how many operations and cells it has, and whether a request has
 // come. The arities of the operations, and the cells, stand first in two slices that the caller lends to every step.
@@ -30,7 +30,7 @@ pub struct Stepped {
 }
 
 // The first line of a text, which is its size line: 14, then 1.
-pub fn first_step(text: &[u8], out: &mut [u8]) -> Stepped
+fn first_step(text: &[u8], out: &mut [u8]) -> Stepped
     requires { ⌜ 14 ≤ length (now out) ⌝ }
     ensures { λ r. ⌜ ((arities room : List ℕ) → Stepping (now (text .entry)) 0 (firstStep (now (text .entry))) (now (out .entry)) arities room (now (out .exit)) r) ⌝ }
 {
@@ -97,7 +97,7 @@ fn request_step(text: &[u8], standing: Standing, arities: &[u8], room: &mut [u8]
 fn next_step(text: &[u8], standing: Standing, arities: &mut [u8], room: &mut [u8], out: &mut [u8]) -> Stepped
     requires { ⌜ Sound (now text) standing ⌝ }
     requires { ⌜ Lent (now text) (now arities) (now room) (now out) ⌝ }
-    ensures { λ r. ⌜ Stepping (now (text .entry)) (standing .at) (step (now (text .entry)) (stateOf standing (now (arities .entry)) (now (room .entry)))) (now (out .entry)) (now (arities .exit)) (now (room .exit)) (now (out .exit)) r ⌝ }
+    ensures { λ r. ⌜ Stepping (now (text .entry)) (standing .at) (stepDefined (now (text .entry)) (stateOf standing (now (arities .entry)) (now (room .entry)))) (now (out .entry)) (now (arities .exit)) (now (room .exit)) (now (out .exit)) r ⌝ }
 {
     if standing.asked {
         return request_step(text, standing, arities, room, out);
@@ -106,4 +106,60 @@ fn next_step(text: &[u8], standing: Standing, arities: &mut [u8], room: &mut [u8
         return operation_step(text, standing, arities, room, out);
     }
     request_step(text, standing, arities, room, out)
+}
+
+// Whether a step can be taken: the run goes on, from a standing that a run can come to, and enough is lent.
+fn can_step(text: usize, standing: Standing, arities: usize, room: usize, out: usize) -> bool
+    ensures { λ r. ⌜ r ≡ canStep text standing arities room out ⌝ }
+{
+    if !standing.goes {
+        return false;
+    }
+    if text < standing.at {
+        return false;
+    }
+    if standing.size < 1 {
+        return false;
+    }
+    if 64 < standing.size {
+        return false;
+    }
+    if 16 < standing.operations {
+        return false;
+    }
+    if standing.at < standing.cells {
+        return false;
+    }
+    if arities < 16 {
+        return false;
+    }
+    if room < text {
+        return false;
+    }
+    16384 <= out
+}
+
+// Begins a run over a text: its first line. What the line writes goes to the start of `out`, which wants 14 bytes; with less nothing is done and the run
+// does not go on.
+pub fn begin(text: &[u8], out: &mut [u8]) -> Stepped
+    ensures { λ r. ⌜ Begun (now (text .entry)) (now (out .entry)) (now (out .exit)) r ⌝ }
+{
+    if out.len() < 14 {
+        let idle = Standing { goes: false, at: 0, size: 1, operations: 0, cells: 0, asked: false };
+        return Stepped { standing: idle, wrote: 0 };
+    }
+    first_step(text, out)
+}
+
+// Takes the line at which a run stands. What the line writes goes to the start of `out`, which wants 16,384 bytes. `arities`, of 16 bytes, and `room`, as
+// long as the text, are lent to every step of a run and left as they are between steps: the arities and the cells of the algebra stand first in them, and the
+// rest of `room` is left open. With less lent, or from a standing that no run comes to, nothing is done and the run does not go on.
+pub fn step(text: &[u8], standing: Standing, arities: &mut [u8], room: &mut [u8], out: &mut [u8]) -> Stepped
+    ensures { λ r. ⌜ Taken (now (text .entry)) standing (now (arities .entry)) (now (room .entry)) (now (out .entry)) (now (arities .exit)) (now (room .exit)) (now (out .exit)) r ⌝ }
+{
+    if !can_step(text.len(), standing, arities.len(), room.len(), out.len()) {
+        let idle = Standing { goes: false, at: 0, size: 1, operations: 0, cells: 0, asked: false };
+        return Stepped { standing: idle, wrote: 0 };
+    }
+    next_step(text, standing, arities, room, out)
 }
