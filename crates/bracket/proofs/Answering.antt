@@ -1,0 +1,163 @@
+-- Answers as lines: each case of a service's answer, and the zero bytes that a service is lent.
+use Prim.Native.Nat.{ℕ, zero, suc, _+_, _-_, _*_, _≤_, _<_}
+use mathlib.Core.List.{List, [], _∷_, _++_, map}
+use mathlib.Core.Path.{_≡_, refl, ap, sym, _∙_}
+use native.Mathlib.Nat.{sub-zero, le-of-suc-le-suc, mul-le-mul, mul-le-mul-right}
+use native.Mathlib.Omega.{arith}
+use lib.ListN.{length, take, replicate, length-replicate}
+use Rattle.equivalence.specs.Lists.{upTo, stretch}
+use Rattle.equivalence.specs.Refusal.{lowest, spaceTest, answered, serve}
+use Rattle.equivalence.specs.declared.Check.{Check}
+use Rattle.equivalence.specs.declared.Check.the-variants.{Passed, Failed}
+use Rattle.equivalence.specs.declared.Element.{Element}
+use Rattle.equivalence.specs.declared.Refusal.{Refusal}
+use Rattle.equivalence.specs.declared.Refusal.the-variants.{Text}
+use Rattle.equivalence.specs.declared.Written.{Written}
+use Rattle.equivalence.specs.declared.Written.the-variants.{Done, Refused as WriteRefused}
+use Rattle.algebra.specs.Accepted.{algebraTests}
+use Rattle.algebra.specs.Algebra.{Algebra, algebraOf}
+use Rattle.algebra.proofs.Accepted.{accepted-wellFormed}
+use Rattle.congruence.specs.Calls.{generateCall, containedCall, separateCall, decomposed, decomposeCall}
+use Rattle.congruence.proofs.Calls.{factors-reducible}
+use Rattle.congruence.proofs.Factors.{listed-law}
+use Rattle.congruence.proofs.Serving.{of-checked}
+use Rattle.congruence.specs.declared.Decomposed.{Decomposed}
+use Rattle.congruence.specs.declared.Decomposed.the-variants.{Factors, Irreducible, Refused as DecomposeRefused}
+use Rattle.congruence.specs.declared.Generated.{Generated}
+use Rattle.congruence.specs.declared.Generated.the-variants.{Merges, Refused as GenerateRefused}
+use Rattle.bracket.specs.Reading.{ascii}
+use Rattle.bracket.specs.Lines.{generate, contained, separate, decompose}
+use Rattle.bracket.specs.Answers.{spaced, spacedBrackets, line, refusedLine, mapLine, generatedLine, factorsLine, answer}
+use Rattle.bracket.specs.Promises.{Laid, lineFor, FactorsRoom, LineFits, MapFits, FactorsFit, ZeroFactors, Zeros}
+use Rattle.bracket.specs.declared.requests.Asked.{Asked}
+use Rattle.bracket.specs.declared.requests.Asked.the-variants.{Generate, Contained, Separate, Decompose, Nothing}
+
+-- the first of many zeros
+take-zeros : (k m : ℕ) → k ≤ m → take {A = ℕ} k (replicate m 0) ≡ replicate k 0
+take-zeros zero m h = refl
+take-zeros (suc k) zero h = absurd (omega arith)
+take-zeros (suc k) (suc m) h = ap (λ (l : List ℕ). 0 ∷ l) (take-zeros k m (le-of-suc-le-suc h))
+
+pub zeros-of-64 : (n : ℕ) (out : List ℕ) → LineFits n out → Zeros n (take (n - 0) (replicate 64 0)) out
+zeros-of-64 n out f = record { zeros = rw sub-zero (take-zeros n 64 (f .most)); fits = f }
+
+-- a service that was lent n bytes gives n bytes back
+pub map-fits : (n : ℕ) (lent map out : List ℕ) → Zeros n lent out → length map ≡ length lent → MapFits map out
+map-fits n lent map out z e =
+    let l : length map ≡ n = e ∙ ap length (z .zeros) ∙ length-replicate n 0 in
+    record { some = omega arith; most = omega arith; line = z .fits .line }
+
+module _ (lent map out : List ℕ) (end : ℕ) where
+  pub line-of-merges : (g : Generated) (k : ℕ) → g ≡ Merges k
+      → Laid lent 0 (line (ascii "[generated") (spaced (k ∷ []) ++ spacedBrackets (map ∷ []))) out end → Laid lent 0 (generatedLine g map) out end
+  unfolding generatedLine
+  line-of-merges g k e l = rw e l
+
+  pub line-of-generate-refused : (g : Generated) (r : Refusal) → g ≡ GenerateRefused r → Laid lent 0 (refusedLine r) out end
+      → Laid lent 0 (generatedLine g map) out end
+  unfolding generatedLine
+  line-of-generate-refused g r e l = rw e l
+
+  pub line-of-done : (g : Written) → g ≡ Done → Laid lent 0 (line (ascii "[map") (spaced map)) out end → Laid lent 0 (mapLine g map) out end
+  unfolding mapLine
+  line-of-done g e l = rw e l
+
+  pub line-of-write-refused : (g : Written) (r : Refusal) → g ≡ WriteRefused r → Laid lent 0 (refusedLine r) out end → Laid lent 0 (mapLine g map) out end
+  unfolding mapLine
+  line-of-write-refused g r e l = rw e l
+
+module _ (answer : Decomposed) (n : ℕ) (factors lent : List ℕ) (f : FactorsFit answer n factors lent) where
+  pub factors-room : (k : ℕ) → answer ≡ Factors k → FactorsRoom n k factors lent
+  factors-room k e =
+      let l : k < n = f .few k e in
+      let p : k * (4 * n + 2) ≤ 63 * 258 = mul-le-mul {n₂ = 63} {m₂ = 258} (omega (arith, f .fits)) (omega (arith, f .fits)) in
+      let q : k * n ≤ (n - 1) * n = mul-le-mul-right {m = k} {n = n - 1} n (omega arith) in
+      record { some = f .fits .some; line = omega (arith, f .fits .line); list = rw (f .list) q }
+
+  module _ (out : List ℕ) (end : ℕ) where
+    pub line-of-factors : (k : ℕ) → answer ≡ Factors k → Laid lent 0 (line (ascii "[factors") (spacedBrackets (map (stretch n factors) (upTo k)))) out end
+        → Laid lent 0 (factorsLine n answer factors) out end
+    unfolding factorsLine
+    line-of-factors k e l = rw e l
+
+    pub line-of-irreducible : (x y : Element) → answer ≡ Irreducible x y → Laid lent 0 (line (ascii "[refused") (spaced (11 ∷ x .0 ∷ y .0 ∷ []))) out end
+        → Laid lent 0 (factorsLine n answer factors) out end
+    unfolding factorsLine
+    line-of-irreducible x y e l = rw e l
+
+    pub line-of-decompose-refused : (r : Refusal) → answer ≡ DecomposeRefused r → Laid lent 0 (refusedLine r) out end
+        → Laid lent 0 (factorsLine n answer factors) out end
+    unfolding factorsLine
+    line-of-decompose-refused r e l = rw e l
+
+-- Decompose gives fewer factors than there are elements
+few-factors : (a : Algebra) (lent : List ℕ) (k : ℕ) (c : Check) → c ≡ lowest (algebraTests a ++ (spaceTest ((a .size - 1) * a .size) (length lent) ∷ []))
+    → answered DecomposeRefused c (decomposed a) ≡ Factors k → k < a .size
+unfolding answered
+few-factors a lent k Passed e g =
+    let w = accepted-wellFormed a (of-checked a (spaceTest ((a .size - 1) * a .size) (length lent) ∷ []) e .0) in
+    rw (factors-reducible a w k g .1) (listed-law a w .few)
+few-factors a lent k (Failed r) e g = let z : _≡_ {A = ℕ} 0 1 = cc in absurd (omega arith)
+
+pub factors-few : (a : Algebra) (lent map : List ℕ) (d : Decomposed) → (d, map) ≡ decomposeCall a lent → (k : ℕ) → d ≡ Factors k → k < a .size
+unfolding decomposeCall serve
+factors-few a lent map d e k g =
+    few-factors a lent k (lowest (algebraTests a ++ (spaceTest ((a .size - 1) * a .size) (length lent) ∷ []))) refl
+    (sym (ap (λ (p : Decomposed × List ℕ). p .0) e) ∙ g)
+
+-- all factors together have 63 × 64 bytes at most
+pub factors-short : (n : ℕ) → n ≤ 64 → (n - 1) * n ≤ 4032
+factors-short n h = mul-le-mul {n₂ = 63} {m₂ = 64} (omega arith) h
+
+-- the calls, lent zeros
+module _ (n : ℕ) (arities cells before map lent out : List ℕ) (end : ℕ) (z : Zeros n before lent) where
+  pub generate-answered : (ps : List ℕ) (g : Generated) → (g, map) ≡ generateCall (algebraOf n arities cells) ps before
+      → Laid lent 0 (generatedLine g map) out end → Laid lent 0 (answer (algebraOf n arities cells) (generate ps)) out end
+  unfolding answer
+  generate-answered ps g e l = rw (← z .zeros, ← e) l
+
+  pub contained-answered : (m : List ℕ) (g : Written) → (g, map) ≡ containedCall (algebraOf n arities cells) m before
+      → Laid lent 0 (mapLine g map) out end → Laid lent 0 (answer (algebraOf n arities cells) (contained m)) out end
+  unfolding answer
+  contained-answered m g e l = rw (← z .zeros, ← e) l
+
+  pub separate-answered : (v w : ℕ) (g : Written) → (g, map) ≡ separateCall (algebraOf n arities cells) v w before
+      → Laid lent 0 (mapLine g map) out end → Laid lent 0 (answer (algebraOf n arities cells) (separate v w)) out end
+  unfolding answer
+  separate-answered v w g e l = rw (← z .zeros, ← e) l
+
+-- Decompose, lent zeros
+pub zeros-of-4032 : (n : ℕ) (out : List ℕ) → LineFits n out → ZeroFactors n (take ((n - 1) * n - 0) (replicate 4032 0)) out
+zeros-of-4032 n out f = record { zeros = rw sub-zero (take-zeros ((n - 1) * n) 4032 (factors-short n (f .most))); fits = f }
+
+pub factors-fit : (n : ℕ) (arities cells before factors out : List ℕ) (d : Decomposed) → ZeroFactors n before out → length factors ≡ length before
+    → (d, factors) ≡ decomposeCall (algebraOf n arities cells) before → FactorsFit d n factors out
+factors-fit n arities cells before factors out d z e g =
+    record {
+      fits = z .fits;
+      list = e ∙ ap length (z .zeros) ∙ length-replicate ((n - 1) * n) 0;
+      few = λ k h. factors-few (algebraOf n arities cells) before factors d g k h
+    }
+
+pub decompose-answered : (n : ℕ) (arities cells before factors lent out : List ℕ) (end : ℕ) (d : Decomposed) → ZeroFactors n before lent
+    → (d, factors) ≡ decomposeCall (algebraOf n arities cells) before → Laid lent 0 (factorsLine n d factors) out end
+    → Laid lent 0 (answer (algebraOf n arities cells) decompose) out end
+unfolding answer
+decompose-answered n arities cells before factors lent out end d z e l = rw (← z .zeros, ← e) l
+
+-- the cases of a request
+module _ (a : Algebra) (xs lent out : List ℕ) (end : ℕ) (asked : Asked) where
+  pub line-for-generate : asked ≡ Generate → Laid lent 0 (answer a (generate xs)) out end → Laid lent 0 (lineFor a xs asked) out end
+  line-for-generate e l = rw e l
+
+  pub line-for-contained : asked ≡ Contained → Laid lent 0 (answer a (contained xs)) out end → Laid lent 0 (lineFor a xs asked) out end
+  line-for-contained e l = rw e l
+
+  pub line-for-separate : (v w : ℕ) → asked ≡ Separate v w → Laid lent 0 (answer a (separate v w)) out end → Laid lent 0 (lineFor a xs asked) out end
+  line-for-separate v w e l = rw e l
+
+  pub line-for-decompose : asked ≡ Decompose → Laid lent 0 (answer a decompose) out end → Laid lent 0 (lineFor a xs asked) out end
+  line-for-decompose e l = rw e l
+
+  pub line-for-nothing : asked ≡ Nothing → Laid lent 0 (refusedLine Text) out end → Laid lent 0 (lineFor a xs asked) out end
+  line-for-nothing e l = rw e l

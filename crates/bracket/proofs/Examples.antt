@@ -1,0 +1,76 @@
+-- Document 01's worked input with its output, and small texts for the points that are easily read otherwise, computed.
+use Prim.Native.Nat.{ℕ}
+use Prim.Native.String.{String}
+use mathlib.Core.List.{List}
+use mathlib.Core.Path.{_≡_, refl}
+use Rattle.equivalence.specs.Equivalence.{isMap, holds, inside, roots, blocks, blockOf, mapOf, identity, whole, same, isIdentity, meet, meetAll, maps, best, join}
+use Rattle.equivalence.specs.Lists.{upTo, every, any, keep, first, concat, stretch}
+use Rattle.equivalence.specs.Order.{pairs, notLaterOn, notLater, firstHeld}
+use Rattle.equivalence.specs.Refusal.{numberOf, lowest, sizeTest, mapTest, spaceTest, answered, written, lentAfter, serve}
+use Rattle.algebra.specs.Accepted.{algebraTests}
+use Rattle.algebra.specs.Algebra.{Algebra, algebraOf, cellCount, operationsOf, operations, arguments, place, value}
+use Rattle.algebra.specs.Congruence.{respects, isCongruence, congruences}
+use Rattle.congruence.specs.Calls.{pairsTest, elementsTest, equalTest, generateCall, containedCall, separateCall, decomposed, factorBytes, decomposeCall}
+use Rattle.congruence.specs.Decompose.{added, gathered, pruned, listed, reducible, commonPair}
+use Rattle.congruence.specs.Extremal.{holdsAll, generated, contained, separated}
+use Rattle.bracket.specs.Reading.{ascii, onward, _>>=_, mark, begins, opened}
+use Rattle.bracket.specs.Numbers.{digitAt, number, decimal}
+use Rattle.bracket.specs.Tables.{cell, parted, bracket, table, pair, itemsUpTo, items}
+use Rattle.bracket.specs.Lines.{close, spacedNumber, sizeLine, tested, afterSize, sized, arity, lastTable, operationTests, cellTest, withOperation, afterTable, afterArity, operation, listing, generating, containing, twoNumbers, request}
+use Rattle.bracket.specs.Answers.{spaced, bracketed, spacedBrackets, line, refusedLine, mapLine, generatedLine, factorsLine, answer}
+use Rattle.bracket.specs.Transcript.{afterLine, afterRequest, firstStep, operationStep, requestStep, step, output, run, transcript}
+
+-- the desk's output for an input is this
+abbrev Gives : String → String → Type 0
+Gives input written = transcript (ascii input) ≡ ascii written
+
+pub record Examples : Type 0 where
+  -- document 01's input and output, whole
+  pub worked : Gives "[size 4]\n[op 1 [1 0 3 2]]\n[generate [0 2]]\n[contained 0 0 0 3]\n[separate 0 2]\n[decompose]\n"
+      "[generated 2 [0 1 0 1]]\n[map 0 0 2 3]\n[map 0 0 2 2]\n[factors [0 1 0 1] [0 0 2 2]]\n"
+  -- no operations, and no requests
+  pub bare : Gives "[size 3]\n[decompose]\n" "[factors [0 1 0] [0 0 2]]\n"
+      × Gives "[size 4]\n" ""
+  -- every line is ended by byte 10, and the first is a size line
+  pub ended : Gives "" "[refused 14]\n"
+      × Gives "[size 65]" "[refused 14]\n"
+      × Gives "\n" "[refused 14]\n"
+      × Gives "[decompose]\n" "[refused 14]\n"
+      × Gives "[size 2]\n[size 2]\n" "[refused 14]\n"
+  -- a number is 0 to 255 without leading zeros, after one space
+  pub numbers : Gives "[size 65]\n" "[refused 1]\n"
+      × Gives "[size 255]\n" "[refused 1]\n"
+      × Gives "[size 256]\n" "[refused 14]\n"
+      × Gives "[size 04]\n" "[refused 14]\n"
+      × Gives "[size  4]\n" "[refused 14]\n"
+      × Gives "[size 4 ]\n" "[refused 14]\n"
+  -- 2, 3 and 4 come once the arity and the space after it are read
+  pub early : Gives "[size 2]\n[op 4 " "[refused 3]\n"
+      × Gives "[size 2]\n[op 4]\n" "[refused 14]\n"
+      × Gives "[size 33]\n[op 3 " "[refused 4]\n"
+      × Gives "[size 1]\n[op 0 0]\n[op 0 0]\n[op 0 0]\n[op 0 0]\n[op 0 0]\n[op 0 0]\n[op 0 0]\n[op 0 0]\n[op 0 0]\n[op 0 0]\n[op 0 0]\n[op 0 0]\n[op 0 0]\n[op 0 0]\n[op 0 0]\n[op 0 0]\n[op 4 " "[refused 2]\n"
+  -- then 14, over the whole line, and then 6
+  pub late : Gives "[size 2]\n[op 1 [0 2]]" "[refused 14]\n"
+      × Gives "[size 2]\n[op 1 [0 256]]\n" "[refused 14]\n"
+      × Gives "[size 2]\n[op 1 [0 255]]\n" "[refused 6]\n"
+      × Gives "[size 2]\n[op 1 [0]]\n" "[refused 14]\n"
+      × Gives "[size 2]\n[op 1 [0 1 0]]\n" "[refused 14]\n"
+  -- a table of arity 2
+  pub nested : Gives "[size 2]\n[op 2 [[0 0] [0 1]]]\n[generate [0 1]]\n" "[generated 1 [0 0]]\n"
+  -- operations come before requests; answers given before a fault stay
+  pub order : Gives "[size 2]\n[decompose]\n[op 0 0]\n[decompose]\n" "[refused 11 0 1]\n[refused 14]\n"
+  -- a refused request does not end the run
+  pub goes : Gives "[size 4]\n[generate]\n[generate [255 0]]\n[contained]\n[separate 5 5]\n[separate 1 1]\n[contained 0 1 2 3]\n"
+      "[generated 0 [0 1 2 3]]\n[refused 7]\n[refused 8]\n[refused 7]\n[refused 10]\n[map 0 1 2 3]\n"
+  -- a fault anywhere in a request line goes before 7 and 8, and ends the run
+  pub faulty : Gives "[size 2]\n[generate [9 0] [0]]\n[decompose]\n" "[refused 14]\n"
+      × Gives "[size 2]\n[generate ]\n" "[refused 14]\n"
+      × Gives "[size 2]\n[generate []]\n" "[refused 14]\n"
+      × Gives "[size 2]\n[contained ]\n" "[refused 14]\n"
+      × Gives "[size 2]\n[separate 0 1 1]\n" "[refused 14]\n"
+      × Gives "[size 2]\n[decompose] \n" "[refused 14]\n"
+      × Gives "[size 2]\r\n" "[refused 14]\n"
+
+pub examples : Examples
+unfolding ascii onward _>>=_ mark begins opened digitAt number decimal cell parted bracket table pair itemsUpTo items close spacedNumber sizeLine tested afterSize sized arity lastTable operationTests cellTest withOperation afterTable afterArity operation listing generating containing twoNumbers request spaced bracketed spacedBrackets line refusedLine mapLine generatedLine factorsLine answer afterLine afterRequest firstStep operationStep requestStep step output run transcript isMap holds inside roots blocks blockOf mapOf identity whole same isIdentity meet meetAll maps best join upTo every any keep first concat stretch pairs notLaterOn notLater firstHeld numberOf lowest sizeTest mapTest spaceTest answered written lentAfter serve algebraTests cellCount operationsOf operations arguments place value respects isCongruence congruences pairsTest elementsTest equalTest generateCall containedCall separateCall decomposed factorBytes decomposeCall added gathered pruned listed reducible commonPair holdsAll generated contained separated
+examples = record { worked = refl; bare = (refl, refl); ended = (refl, refl, refl, refl, refl); numbers = (refl, refl, refl, refl, refl, refl); early = (refl, refl, refl, refl); late = (refl, refl, refl, refl, refl); nested = refl; order = refl; goes = refl; faulty = (refl, refl, refl, refl, refl, refl, refl) }

@@ -1,0 +1,229 @@
+-- Readers never go back: what is found ends no earlier than it begins, and every line ends after it begins.
+use Prim.Native.Nat.{ℕ, zero, suc, _+_, _≤_, _<_}
+use Prim.Native.Char.{Char, code}
+use mathlib.Core.Bool.{Bool, true, false, not, _&&_}
+use mathlib.Core.List.{List, [], _∷_, _++_}
+use mathlib.Core.Path.{_≡_, refl, ap, sym, _∙_}
+use native.Mathlib.Omega.{arith}
+use lib.Dec.{eqb, ltb}
+use lib.ListN.{length}
+use Rattle.equivalence.proofs.Tests.{pick}
+use Rattle.equivalence.specs.Refusal.{lowest}
+use Rattle.equivalence.specs.declared.Check.{Check}
+use Rattle.equivalence.specs.declared.Check.the-variants.{Passed, Failed}
+use Rattle.algebra.specs.Algebra.{Algebra}
+use Rattle.bracket.specs.Reading.{ascii, Read, found, fault, Reader, byteAt, onward, _>>=_, _>>_, done, failed, mark, begins, opened}
+use Rattle.bracket.specs.Numbers.{digitAt, threeAt, number}
+use Rattle.bracket.specs.Tables.{cell, parted, bracket, table, pair, itemsUpTo, items}
+use Rattle.bracket.specs.Lines.{Progress, defined, refused, close, spacedNumber, sizeLine, tested, arity, lastTable, cellTest, operationTests, withOperation, afterTable, afterArity, operation, Request, generate, contained, separate, decompose, listing, generating, containing, twoNumbers, request}
+use Rattle.bracket.proofs.Asking.{from-contained, from-separate, from-decompose}
+use Rattle.bracket.specs.Transcript.{State, Step, goes, ends, afterLine, afterRequest, operationStep, requestStep, step}
+
+-- where something is found, it is found k bytes further at least
+abbrev Past : {A : Type 0} → ℕ → ℕ → Read A → Type 0
+Past k at (found a next) = at + k ≤ next
+Past k at fault = Unit {0}
+
+-- a reader goes k bytes forward at least
+abbrev Forward : {A : Type 0} → ℕ → Reader A → Type 0
+Forward k r = (text : List ℕ) (at : ℕ) → Past k at (r text at)
+
+past-later : {A : Type 0} (i j k at next : ℕ) (r : Read A) → at + j ≤ next → i ≤ j + k → Past k next r → Past i at r
+past-later i j k at next (found a end) p l h = omega arith
+past-later i j k at next fault p l h = tt
+
+-- one reader after another
+onward-past : {A B : Type 0} (i j k at : ℕ) (r : Read A) (f : A → ℕ → Read B) → i ≤ j + k → Past j at r → ((a : A) (next : ℕ) → Past k next (f a next))
+    → Past i at (onward f r)
+unfolding onward
+onward-past i j k at (found a next) f l p q = past-later i j k at next (f a next) p l (q a next)
+onward-past i j k at fault f l p q = tt
+
+module _ {A B : Type 0} (m : Reader A) (f : A → Reader B) where
+  then-forward : (i j k : ℕ) → i ≤ j + k → Forward j m → ((a : A) → Forward k (f a)) → Forward i (_>>=_ m f)
+  unfolding _>>=_
+  then-forward i j k l p q text at =
+      onward-past i j k at (m text at) (λ a after. f a text after) l (p text at) (λ a next. q a text next)
+
+  -- neither goes back
+  both-forward : Forward 0 m → ((a : A) → Forward 0 (f a)) → Forward 0 (_>>=_ m f)
+  both-forward p q = then-forward 0 0 0 (omega arith) p q
+
+done-forward : {A : Type 0} (a : A) → Forward 0 (done a)
+done-forward a text at = omega arith
+
+choice-past : {A : Type 0} (k at : ℕ) (b : Bool) (r s : Read A) → Past k at r → Past k at s → Past k at (pick b r s)
+choice-past k at true r s p q = p
+choice-past k at false r s p q = q
+
+mark-forward : (c : Char) → Forward 0 (mark c)
+unfolding mark
+mark-forward c text at = choice-past 0 at (eqb (byteAt text at) (code c)) (found tt (at + 1)) fault (omega arith) tt
+
+opened-forward : {A : Type 0} (word : List ℕ) (body other : Reader A) (k : ℕ) → k ≤ length word → Forward 0 body → Forward k other → Forward k (opened word body other)
+unfolding opened
+opened-forward word body other k l p q text at =
+    choice-past k at (begins text at word) (body text (at + length word)) (other text at)
+    (past-later k (length word) 0 at (at + length word) (body text (at + length word)) (omega arith) (omega arith) (p text (at + length word))) (q text at)
+
+le-self-add : (at k : ℕ) → at + 0 ≤ at + k
+le-self-add at k = omega arith
+
+number-forward : Forward 0 number
+unfolding number
+number-forward text at =
+    choice-past 0 at (ltb 9 (digitAt text at)) _ _ tt
+    (choice-past 0 at (eqb (digitAt text at) 0) _ _ (le-self-add at 1)
+    (choice-past 0 at (ltb 9 (digitAt text (at + 1))) _ _ (le-self-add at 1)
+    (choice-past 0 at (ltb 9 (digitAt text (at + 2))) _ _ (le-self-add at 2)
+    (choice-past 0 at (ltb 255 (threeAt text at)) _ _ tt (le-self-add at 3)))))
+
+-- items and tables
+cell-forward : Forward 0 cell
+unfolding cell
+cell-forward = both-forward number (λ v. done (v ∷ [])) number-forward (λ v. done-forward (v ∷ []))
+
+-- a reader, and then a byte that must follow
+marked-forward : {A : Type 0} (c : Char) (next : Reader A) → Forward 0 next → Forward 0 (_>>_ (mark c) next)
+marked-forward c next p = both-forward (mark c) (λ _. next) (mark-forward c) (λ _. p)
+
+parted-forward : (item : Reader (List ℕ)) → Forward 0 item → (k : ℕ) → Forward 0 (parted item k)
+unfolding parted
+parted-forward item p zero = λ text at. tt
+parted-forward item p (suc zero) = p
+parted-forward item p (suc (suc k)) =
+    both-forward item (λ xs. _>>_ (mark " ") (_>>=_ (parted item (suc k)) (λ ys. done (xs ++ ys)))) p
+    (λ xs. marked-forward " " (_>>=_ (parted item (suc k)) (λ ys. done (xs ++ ys)))
+      (both-forward (parted item (suc k)) (λ ys. done (xs ++ ys)) (parted-forward item p (suc k)) (λ ys. done-forward (xs ++ ys))))
+
+bracket-forward : (item : Reader (List ℕ)) → Forward 0 item → (k : ℕ) → Forward 0 (bracket item k)
+unfolding bracket
+bracket-forward item p k =
+    marked-forward "[" (_>>=_ (parted item k) (λ xs. _>>_ (mark "]") (done xs)))
+    (both-forward (parted item k) (λ xs. _>>_ (mark "]") (done xs)) (parted-forward item p k) (λ xs. marked-forward "]" (done xs) (done-forward xs)))
+
+table-forward : (n s : ℕ) → Forward 0 (table n s)
+unfolding table
+table-forward n zero = cell-forward
+table-forward n (suc s) = bracket-forward (table n s) (table-forward n s) n
+
+pair-forward : Forward 0 pair
+unfolding pair
+pair-forward = bracket-forward cell cell-forward 2
+
+items-up-to-forward : (item : Reader (List ℕ)) → Forward 0 item → (k : ℕ) → Forward 0 (itemsUpTo k item)
+unfolding itemsUpTo
+items-up-to-forward item p zero = done-forward {A = List ℕ} []
+items-up-to-forward item p (suc k) =
+    opened-forward (ascii " ") (_>>=_ item (λ xs. _>>=_ (itemsUpTo k item) (λ ys. done (xs ++ ys)))) (done []) 0 (omega arith)
+    (both-forward item (λ xs. _>>=_ (itemsUpTo k item) (λ ys. done (xs ++ ys))) p
+    (λ xs. both-forward (itemsUpTo k item) (λ ys. done (xs ++ ys)) (items-up-to-forward item p k) (λ ys. done-forward (xs ++ ys))))
+    (done-forward {A = List ℕ} [])
+
+items-forward : (item : Reader (List ℕ)) → Forward 0 item → Forward 0 (items item)
+unfolding items
+items-forward item p text at = items-up-to-forward item p (length text) text at
+
+-- lines
+close-forward : Forward 0 close
+unfolding close
+close-forward = marked-forward "]" (mark "\n") (mark-forward "\n")
+
+-- a reader, and then the end of the line
+closed-forward : {A : Type 0} (next : Reader A) → Forward 0 next → Forward 0 (_>>_ close next)
+closed-forward next p = both-forward close (λ _. next) close-forward (λ _. p)
+
+spaced-number-forward : Forward 0 spacedNumber
+unfolding spacedNumber
+spaced-number-forward = marked-forward " " number number-forward
+
+size-forward : Forward 0 sizeLine
+unfolding sizeLine
+size-forward =
+    opened-forward (ascii "[size") (_>>=_ spacedNumber (λ n. _>>_ close (done n))) failed 0 (omega arith)
+    (both-forward spacedNumber (λ n. _>>_ close (done n)) spaced-number-forward (λ n. closed-forward (done n) (done-forward n))) (λ text at. tt)
+
+arity-forward : Forward 0 arity
+unfolding arity
+arity-forward =
+    both-forward spacedNumber (λ s. _>>_ (mark " ") (done s)) spaced-number-forward (λ s. marked-forward " " (done s) (done-forward s))
+
+last-table-forward : (n s : ℕ) → Forward 0 (lastTable n s)
+unfolding lastTable
+last-table-forward n s = both-forward (table n s) (λ cells. _>>_ close (done cells)) (table-forward n s) (λ cells. closed-forward (done cells) (done-forward cells))
+
+listing-forward : (item : Reader (List ℕ)) → Forward 0 item → Forward 0 (listing item)
+unfolding listing
+listing-forward item p = both-forward (items item) (λ xs. _>>_ close (done xs)) (items-forward item p) (λ xs. closed-forward (done xs) (done-forward xs))
+
+generating-forward : Forward 0 generating
+unfolding generating
+generating-forward = both-forward (listing pair) (λ ps. done (generate ps)) (listing-forward pair pair-forward) (λ ps. done-forward (generate ps))
+
+containing-forward : Forward 0 containing
+unfolding containing
+containing-forward = both-forward (listing cell) (λ xs. done (contained xs)) (listing-forward cell cell-forward) (λ xs. done-forward (contained xs))
+
+two-numbers-forward : Forward 0 twoNumbers
+unfolding twoNumbers
+two-numbers-forward =
+    both-forward spacedNumber (λ v. _>>=_ spacedNumber (λ w. _>>_ close (done (separate v w)))) spaced-number-forward
+    (λ v. both-forward spacedNumber (λ w. _>>_ close (done (separate v w))) spaced-number-forward
+      (λ w. closed-forward (done (separate v w)) (done-forward (separate v w))))
+
+-- a request goes forward
+request-forward : Forward 1 request
+unfolding request ascii
+request-forward =
+    opened-forward (ascii "[generate") generating from-contained 1 (omega arith) generating-forward
+    (opened-forward (ascii "[contained") containing from-separate 1 (omega arith) containing-forward
+    (opened-forward (ascii "[separate") twoNumbers from-decompose 1 (omega arith) two-numbers-forward
+    (opened-forward (ascii "[decompose]\n") (done decompose) failed 1 (omega arith) (done-forward decompose) (λ text at. tt))))
+
+-- a line of the algebra goes forward
+abbrev Further : ℕ → Progress → Type 0
+Further at (defined a next) = at ≤ next
+Further at (refused r) = Unit {0}
+
+tested-further : (at : ℕ) (c : Check) (p : Progress) → Further at p → Further at (tested c p)
+unfolding tested
+tested-further at Passed p h = h
+tested-further at (Failed r) p h = tt
+
+table-further : (at next : ℕ) (a : Algebra) (s : ℕ) (r : Read (List ℕ)) → at ≤ next → Past 0 next r → Further at (afterTable a s r)
+unfolding afterTable
+table-further at next a s (found cells end) l h = tested-further at (lowest (cellTest (a .size) cells ∷ [])) (defined (withOperation a s cells) end) (omega (arith, h))
+table-further at next a s fault l h = tt
+
+arity-further : (at : ℕ) (a : Algebra) (text : List ℕ) (r : Read ℕ) → Past 0 at r → Further at (afterArity a text r)
+unfolding afterArity
+arity-further at a text (found s next) h =
+    tested-further at (lowest (operationTests (a .size) (length (a .arities)) (length (a .cells)) s)) (afterTable a s (lastTable (a .size) s text next))
+    (table-further at next a s (lastTable (a .size) s text next) (omega (arith, h)) (last-table-forward (a .size) s text next))
+arity-further at a text fault h = tt
+
+-- a step that goes on goes forward
+abbrev pub Ahead : ℕ → Step → Type 0
+Ahead at (goes piece s) = at < s .at
+Ahead at (ends piece) = Unit {0}
+
+line-ahead : (at : ℕ) (p : Progress) → Further (at + 3) p → Ahead at (afterLine p)
+unfolding afterLine
+line-ahead at (defined a next) h = omega (arith, h)
+line-ahead at (refused r) h = tt
+
+request-ahead : (at : ℕ) (a : Algebra) (r : Read Request) → Past 1 at r → Ahead at (afterRequest a r)
+unfolding afterRequest
+request-ahead at a (found q next) h = omega (arith, h)
+request-ahead at a fault h = tt
+
+choice-ahead : (at : ℕ) (b : Bool) (p q : Step) → Ahead at p → Ahead at q → Ahead at (pick b p q)
+choice-ahead at true p q h k = h
+choice-ahead at false p q h k = k
+
+pub step-ahead : (text : List ℕ) (s : State) → Ahead (s .at) (step text s)
+unfolding step operationStep requestStep operation
+step-ahead text s =
+    choice-ahead (s .at) (not (s .asked) && begins text (s .at) (ascii "[op")) (operationStep text s) (requestStep text s)
+    (line-ahead (s .at) (operation (s .algebra) text (s .at + 3)) (arity-further (s .at + 3) (s .algebra) text (arity text (s .at + 3)) (arity-forward text (s .at + 3))))
+    (request-ahead (s .at) (s .algebra) (request text (s .at)) (request-forward text (s .at)))

@@ -1,0 +1,17 @@
+pub mod Answering
+pub mod Asking
+pub mod Calling
+pub mod Defining
+pub mod Digits
+pub mod Examples
+pub mod Forward
+pub mod Judging
+pub mod Laying
+pub mod Listing
+pub mod Parts
+pub mod Readers
+pub mod SpacedNumbers
+pub mod Spacing
+pub mod Stepping
+pub mod Storing
+pub mod Words

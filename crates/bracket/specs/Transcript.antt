@@ -1,0 +1,70 @@
+-- The whole output as a function of the whole input.
+use Prim.Native.Nat.{ℕ, zero, suc, _+_, _≤_, _<_}
+use mathlib.Core.Bool.{Bool, true, false, not, _&&_}
+use mathlib.Core.List.{List, [], _∷_, _++_}
+use lib.Dec.{leb, ltb}
+use lib.ListN.{length}
+use Rattle.equivalence.specs.declared.Refusal.the-variants.{Text}
+use Rattle.algebra.specs.Algebra.{Algebra}
+use Rattle.bracket.specs.Reading.{ascii, Read, found, fault, begins}
+use Rattle.bracket.specs.Lines.{Progress, defined, refused, sized, operation, Request, request}
+use Rattle.bracket.specs.Answers.{refusedLine, answer}
+
+-- where a run stands: at the start of a line, behind the lines that gave this algebra, before or after the first request
+pub record State : Type 0 where
+  pub at : ℕ
+  pub algebra : Algebra
+  pub asked : Bool
+
+-- what a line comes to: it writes, and the run goes on from a state, or ends
+pub data Step : Type 0 where
+  goes : List ℕ → State → Step
+  ends : List ℕ → Step
+
+-- a line of the algebra writes nothing; a refusal of one ends the run
+unfoldable pub afterLine : Progress → Step
+afterLine (defined a at) = goes [] (record { at = at; algebra = a; asked = false })
+afterLine (refused r) = ends (refusedLine r)
+
+-- a request is answered, also by a refusal, and the run goes on; a faulty line ends it
+unfoldable pub afterRequest : Algebra → Read Request → Step
+afterRequest a (found q at) = goes (answer a q) (record { at = at; algebra = a; asked = true })
+afterRequest a fault = ends (refusedLine Text)
+
+-- the first line, which is the size line
+unfoldable pub firstStep : List ℕ → Step
+firstStep text = afterLine (sized text)
+
+-- an operation line, which begins with `[op`
+unfoldable pub operationStep : List ℕ → State → Step
+operationStep text s = afterLine (operation (s .algebra) text (s .at + 3))
+
+-- any other line
+unfoldable pub requestStep : List ℕ → State → Step
+requestStep text s = afterRequest (s .algebra) (request text (s .at))
+
+-- a line after the first: an operation, while no request has come, or a request
+unfoldable pub step : List ℕ → State → Step
+step text s =
+    elim (not (s .asked) && begins text (s .at) (ascii "[op")) [ true ↦ operationStep text s | false ↦ requestStep text s ]
+
+-- what a line writes, and what the rest of the run writes after it
+unfoldable pub output : Step → (State → List ℕ) → List ℕ
+output (goes out s) rest = out ++ rest s
+output (ends out) rest = out
+
+-- what the lines from a state on write, to the end of the text or of the run; k is no less than their count
+unfoldable pub run : ℕ → List ℕ → State → List ℕ
+run zero text s = []
+run (suc k) text s = elim (leb (length text) (s .at)) [ true ↦ [] | false ↦ output (step text s) (run k text) ]
+
+-- the output of the desk program; a text has no more lines than bytes
+unfoldable pub transcript : List ℕ → List ℕ
+transcript text =
+    elim (ltb 65536 (length text)) [ true ↦ refusedLine Text | false ↦ output (firstStep text) (run (length text) text) ]
+
+-- the pieces that a step and those after it write, in order: to a step that ends the run, or to the end of the text
+pub data Pieces (text : List ℕ) : Step → List (List ℕ) → Type 0 where
+  ended : {piece : List ℕ} → Pieces text (ends piece) (piece ∷ [])
+  finished : {piece : List ℕ} {s : State} → length text ≤ s .at → Pieces text (goes piece s) (piece ∷ [])
+  onwards : {piece : List ℕ} {s : State} {rest : List (List ℕ)} → s .at < length text → Pieces text (step text s) rest → Pieces text (goes piece s) (piece ∷ rest)
