@@ -12,8 +12,12 @@ pub mod LeastCongruence
 pub mod Quotients
 pub mod Separation
 pub mod Listings
+pub mod ListTests
 pub mod Pruning
 pub mod Gathering
 pub mod Suffixes
 pub mod Serving
 pub mod Factoring
+pub mod Closures
+pub mod Superfluous
+pub mod Certifying

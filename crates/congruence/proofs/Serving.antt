@@ -1,10 +1,12 @@
 -- The tests of the services: the algebra's and then each other one, where it applies and where it is passed over; and the answer with the lent
 -- bytes, where a test declines and where all pass.
-use Prim.Native.Nat.{ℕ, _≤_, _<_, _%_}
-use mathlib.Core.Bool.{Bool, true, false, not}
+use Prim.Native.Nat.{ℕ, _≤_, _<_, _/_, _%_}
+use mathlib.Core.Bool.{Bool, true, false, not, _||_}
 use mathlib.Core.List.{List, [], _∷_, _++_}
 use mathlib.Core.Logic.{inl, inr}
 use mathlib.Core.Path.{_≡_, sym, ap, _∙_}
+use native.Mathlib.Decide.{decLt}
+use native.Mathlib.Nat.{div-add-mod'}
 use native.Mathlib.Omega.{arith}
 use lib.Dec.{T, eqb, ltb, T-not, not-T, eqb→eq, ltb→lt, lt→ltb}
 use lib.ListN.{length, getD}
@@ -17,11 +19,13 @@ use Rattle.equivalence.proofs.Tests.{T?, or-left, or-right, or-cases, eq→eqb,
 use Rattle.algebra.specs.Accepted.{algebraTests, Accepted}
 use Rattle.algebra.specs.Algebra.{Algebra, cellCount}
 use Rattle.algebra.specs.Congruence.{isCongruence}
-use Rattle.algebra.proofs.Accepted.{every-at}
-use Rattle.congruence.specs.Calls.{pairsTest, elementsTest, equalTest, congruenceTest}
+use Rattle.algebra.proofs.Accepted.{every-at, accepted-wellFormed}
+use Rattle.congruence.specs.Calls.{pairsTest, elementsTest, equalTest, congruenceTest, mapsIn, mapsTest}
+use Rattle.congruence.specs.Listing.{listing, MapsListed}
 use Rattle.congruence.proofs.LeastCongruence.{Below}
+use Rattle.congruence.proofs.ListTests.{of-every-listing}
 use Rattle.equivalence.specs.declared.Refusal.{Refusal}
-use Rattle.equivalence.specs.declared.Refusal.the-variants.{Range, Space, Equal, NotCongruence}
+use Rattle.equivalence.specs.declared.Refusal.the-variants.{Range, NotMap, Space, Equal, NotCongruence}
 use Rattle.equivalence.specs.declared.Check.{Check}
 use Rattle.equivalence.specs.declared.Check.the-variants.{Passed, Failed}
 
@@ -126,6 +130,55 @@ module _ (a : Algebra) (m : Map) (rest : List Test) where
   unfolding congruenceTest
   congruence-passed e f = lowest-next (congruenceTest a m) rest (not-T-of (ap not (sym e) ∙ f))
 
+-- ---- 8, of a list of maps
+
+module _ (n : ℕ) (bytes : List ℕ) (rest : List Test) where
+  pub maps-ragged : ¬ (length bytes % n ≡ 0) → lowest (mapsTest n bytes ∷ rest) ≡ Failed NotMap
+  unfolding mapsTest
+  maps-ragged h =
+      lowest-here (mapsTest n bytes) rest (or-left (not (eqb (length bytes % n) 0) || ltb 63 (length bytes / n)) _
+      (or-left (not (eqb (length bytes % n) 0)) _ (not-T (eqb (length bytes % n) 0) (λ t. h (eqb→eq (length bytes % n) 0 t)))))
+
+  pub maps-many : 63 < length bytes / n → lowest (mapsTest n bytes ∷ rest) ≡ Failed NotMap
+  unfolding mapsTest
+  maps-many h =
+      lowest-here (mapsTest n bytes) rest (or-left (not (eqb (length bytes % n) 0) || ltb 63 (length bytes / n)) _
+      (or-right (not (eqb (length bytes % n) 0)) _ (lt→ltb 63 (length bytes / n) h)))
+
+  pub maps-refused : {r : Bool} → r ≡ every (isMap n) (listing n (length bytes / n) bytes) → not r ≡ true → lowest (mapsTest n bytes ∷ rest) ≡ Failed NotMap
+  unfolding mapsTest mapsIn listing
+  maps-refused e f =
+      lowest-here (mapsTest n bytes) rest (or-right (not (eqb (length bytes % n) 0) || ltb 63 (length bytes / n)) _ (T-of (ap not (sym e) ∙ f)))
+
+  pub maps-passed : {r : Bool} → length bytes % n ≡ 0 → length bytes / n ≤ 63 → r ≡ every (isMap n) (listing n (length bytes / n) bytes) → not r ≡ false
+      → lowest (mapsTest n bytes ∷ rest) ≡ lowest rest
+  unfolding mapsTest mapsIn listing
+  maps-passed even few e f =
+      lowest-next (mapsTest n bytes) rest (λ t. elim (or-cases (not (eqb (length bytes % n) 0) || ltb 63 (length bytes / n)) _ t) [
+        | inl s ↦ elim (or-cases (not (eqb (length bytes % n) 0)) _ s) [
+          | inl u ↦ absurd (T-not (eqb (length bytes % n) 0) u (eq→eqb (length bytes % n) 0 even))
+          | inr u ↦ absurd (omega (arith, ltb→lt 63 (length bytes / n) u))
+        ]
+        | inr s ↦ absurd (not-T-of (ap not (sym e) ∙ f) s)
+      ])
+
+pub of-mapsTest : (n : ℕ) (bytes : List ℕ) → 1 ≤ n → n ≤ 64 → ¬ T (mapsTest n bytes .applies) → MapsListed n (length bytes / n) bytes
+unfolding mapsTest mapsIn listing
+of-mapsTest n bytes some most t =
+    let ragged : Bool = not (eqb (length bytes % n) 0) in
+    let many : Bool = ltb 63 (length bytes / n) in
+    let all : Bool = every (isMap n) (mapsIn n bytes) in
+    record {
+      some = some;
+      most = most;
+      few = elim (decLt 63 (length bytes / n)) [ yes h ↦ absurd (t (or-left (ragged || many) (not all) (or-right ragged many (lt→ltb 63 (length bytes / n) h)))) | no h ↦ omega arith ];
+      room = omega (arith, div-add-mod' (length bytes) n);
+      each = λ i l. elim (T? all) [
+        | yes s ↦ of-every-listing (isMap n) n (length bytes / n) bytes s i l
+        | no s ↦ absurd (t (or-right (ragged || many) (not all) (not-T all s)))
+      ];
+    }
+
 -- ---- 9, where a function measured what is wanted
 
 module _ (wanted lent : ℕ) (rest : List Test) {measured : ℕ} (e : measured ≡ wanted) where
@@ -165,6 +218,12 @@ module _ (a : Algebra) (room : ℕ) where
       let p = of-checked a (mapTest (a .size) m ∷ spaceTest wanted room ∷ congruenceTest a m ∷ []) e in
       let q = of-passed (mapTest (a .size) m) (spaceTest wanted room ∷ congruenceTest a m ∷ []) (p .1) in
       (p .0, isMap-of (a .size) m (of-mapTest (a .size) m (q .0)), of-spaceTest wanted room (of-passed (spaceTest wanted room) (congruenceTest a m ∷ []) (q .1) .0))
+
+pub of-certifyTests : (a : Algebra) (bytes : List ℕ) → Passed ≡ lowest (algebraTests a ++ (mapsTest (a .size) bytes ∷ [])) → Accepted a × MapsListed (a .size) (length bytes / a .size) bytes
+of-certifyTests a bytes e =
+    let p = of-checked a (mapsTest (a .size) bytes ∷ []) e in
+    let w = accepted-wellFormed a (p .0) in
+    (p .0, of-mapsTest (a .size) bytes (w .some) (w .most) (of-passed (mapsTest (a .size) bytes) [] (p .1) .0))
 
 -- ---- the answer, and the lent bytes afterwards
 

@@ -5,11 +5,12 @@ ghost use Prim.Native.Nat.{ℕ, _-_, _*_, _<_, _≤_};
 ghost use lib.Dec.{ltb};
 ghost use lib.ListN.{length, getD};
 ghost use Rattle.equivalence.specs.Lists.{every};
-ghost use Rattle.equivalence.specs.Equivalence.{blocks};
+ghost use Rattle.equivalence.specs.Equivalence.{isMap, blocks};
 ghost use Rattle.equivalence.specs.Refusal.{lowest, mapTest, spaceTest};
 ghost use Rattle.algebra.specs.Algebra.{algebraOf, cellCount};
 ghost use Rattle.algebra.specs.Accepted.{algebraTests};
-ghost use Rattle.congruence.specs.Calls.{pairsTest, elementsTest, equalTest, congruenceTest};
+ghost use Rattle.congruence.specs.Calls.{pairsTest, elementsTest, equalTest, congruenceTest, mapsTest};
+ghost use Rattle.congruence.specs.Listing.{listing};
 use equivalence::Check;
 use equivalence::Refusal;
 
@@ -135,6 +136,45 @@ pub fn decompose_check(n: usize, arities: &[u8], cells: &[u8], room: usize) -> C
     }
     if room < (n - 1) * n {
         return Check::Failed(Refusal::Space);
+    }
+    Check::Passed
+}
+
+// Whether each of the first `count` stretches of n bytes is a map.
+fn all_maps(n: usize, count: usize, maps: &[u8]) -> bool
+    requires { ⌜ count * n ≤ length (now maps) ⌝ }
+    ensures { λ r. ⌜ r ≡ every (isMap n) (listing n count (now (maps .entry))) ⌝ }
+{
+    let mut i = 0;
+    let mut at = 0;
+    while i < count {
+        let next = at + n;
+        if !equivalence::map::is_map(n, &maps[at..next]) {
+            return false;
+        }
+        at = next;
+        i += 1;
+    }
+    true
+}
+
+// Certify's tests.
+pub fn certify_check(n: usize, arities: &[u8], cells: &[u8], maps: &[u8]) -> Check
+    ensures { λ r. ⌜ r ≡ lowest (algebraTests (algebraOf n (now (arities .entry)) (now (cells .entry))) ++ (mapsTest n (now (maps .entry)) ∷ [])) ⌝ }
+{
+    let check = algebra::check(n, arities, cells);
+    if let Check::Failed(reason) = check {
+        return Check::Failed(reason);
+    }
+    if maps.len() % n != 0 {
+        return Check::Failed(Refusal::NotMap);
+    }
+    let count = maps.len() / n;
+    if 63 < count {
+        return Check::Failed(Refusal::NotMap);
+    }
+    if !all_maps(n, count, maps) {
+        return Check::Failed(Refusal::NotMap);
     }
     Check::Passed
 }

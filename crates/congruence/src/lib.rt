@@ -1,10 +1,11 @@
 // The services over an algebra: the congruences they give, the answers and the lent bytes.
 ghost use mathlib.Core.Path.{_≡_};
 ghost use Rattle.algebra.specs.Algebra.{algebraOf};
-ghost use Rattle.congruence.specs.Calls.{decomposeCall, generateCall, containedCall, separateCall, quotientCall};
+ghost use Rattle.congruence.specs.Calls.{decomposeCall, generateCall, containedCall, separateCall, quotientCall, certifyCall};
 use equivalence::Check;
 use equivalence::Written;
 
+mod certificate;
 mod checks;
 pub mod extremal;
 mod factor;
@@ -110,4 +111,20 @@ pub fn decompose(n: usize, arities: &[u8], cells: &[u8], out: &mut [u8]) -> Deco
         return Decomposed::Refused(reason);
     }
     factor::factors(n, arities, cells, out)
+}
+
+// Whether a list of maps, n bytes each, consists of congruences that meet in the identity, none of which can be left out, each maximal for some pair.
+// The empty list meets in the map with one block. Reasons to decline: 1 to 6, and 8 for a length that is no multiple of n, for more than 63 maps and
+// for a member that is no map.
+pub fn certify(n: usize, arities: &[u8], cells: &[u8], maps: &[u8]) -> Certified
+    ensures { λ r. ⌜ r ≡ certifyCall (algebraOf n (now (arities .entry)) (now (cells .entry))) (now (maps .entry)) ⌝ }
+{
+    let check = checks::certify_check(n, arities, cells, maps);
+    if let Check::Failed(reason) = check {
+        return Certified::Refused(reason);
+    }
+    if certificate::is_certified(n, arities, cells, maps.len() / n, maps) {
+        return Certified::Yes;
+    }
+    Certified::No
 }
