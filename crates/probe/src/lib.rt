@@ -59,6 +59,14 @@ pub extern "C" fn probe_quotient(
     outcome::divided_number(congruence::quotient(n, arities, cells, map, out))
 }
 
+// Certify: 256 for yes, 0 for no, or the reason.
+#[no_mangle]
+pub extern "C" fn probe_certify(n: usize, arities: &[u8], cells: &[u8], maps: &[u8]) -> u32
+    ensures { λ r. ⌜ r ≡ packed (certifiedOutcome (certifyCall (algebraOf n (now (arities .entry)) (now (cells .entry))) (now (maps .entry)))) ⌝ }
+{
+    outcome::certified_number(congruence::certify(n, arities, cells, maps))
+}
+
 // Start, over a bench's image: the reason, or 255 for an image of another length.
 #[no_mangle]
 pub extern "C" fn probe_bench_start(n: usize, bytes: &mut [u8]) -> u32 {
