@@ -1,0 +1,283 @@
+-- What the calls of the claim may rely on and answer, one by one; the loop over the factors (`Calling`); and the claim, that every last call answers 11.
+use Prim.Native.Nat.{ℕ, zero, suc, _+_, _-_, _*_, _≤_, _<_}
+use mathlib.Core.List.{List, [], _∷_, _++_}
+use mathlib.Core.Logic.{_⊎_, inl, inr}
+use mathlib.Core.Path.{_≡_, refl, sym, ap, subst, _∙_}
+use native.Mathlib.Nat.{suc-mul, mul-le-mul-right}
+use native.Mathlib.Numerals.{add-one}
+use native.Mathlib.Omega.{arith}
+use lib.ListN.{length, getD, take, drop}
+use Rattle.equivalence.specs.Equivalence.{Map, blocks}
+use Rattle.equivalence.specs.Lists.{concat, stretch}
+use Rattle.equivalence.specs.Refusal.{Test, lowest, mapTest, spaceTest, written}
+use Rattle.equivalence.proofs.BlockNumbers.{blocks-le}
+use Rattle.equivalence.proofs.Refusals.{serve-passed, serve-failed}
+use Rattle.equivalence.proofs.Tests.{T?, pick-no}
+use Rattle.equivalence.proofs.Writing.{written-length}
+use Rattle.algebra.specs.Accepted.{algebraTests, Accepted}
+use Rattle.algebra.specs.Algebra.{Algebra, algebraOf, cellCount}
+use Rattle.algebra.proofs.Accepted.{WellFormed, accepted-wellFormed}
+use Rattle.congruence.specs.Calls.{congruenceTest, quotientCall, decomposed, factorBytes, decomposeCall}
+use Rattle.congruence.specs.Decompose.{listed, reducible}
+use Rattle.congruence.specs.Demands.{QuotientDraws11, FactorCalls}
+use Rattle.congruence.proofs.Calls.{factor-calls}
+use Rattle.congruence.proofs.Demands.{listed-right}
+use Rattle.congruence.proofs.Factoring.{of-decomposeTests}
+use Rattle.congruence.proofs.Factors.{decomposed-yes, decomposed-no}
+use Rattle.congruence.proofs.Quotients.{quotientCells-length}
+use Rattle.congruence.proofs.Serving.{of-quotientTests}
+use Rattle.division.specs.Quotient.{quotientCells}
+use Rattle.claim.specs.Calls.{factorCount, eleven, lastCall, factorCalls, lentAfter, lastAnswer, elevens, CallsMade, LentEnough, EveryLastCall11}
+use Rattle.equivalence.specs.declared.Refusal.{Refusal}
+use Rattle.equivalence.specs.declared.Check.{Check}
+use Rattle.equivalence.specs.declared.Check.the-variants.{Passed, Failed}
+use Rattle.equivalence.specs.declared.Element.{Element}
+use Rattle.congruence.specs.declared.Divided.{Divided}
+use Rattle.congruence.specs.declared.Divided.the-variants.{Blocks, Refused as DivideRefused}
+use Rattle.congruence.specs.declared.Decomposed.{Decomposed}
+use Rattle.congruence.specs.declared.Decomposed.the-variants.{Factors, Irreducible, Refused as DecomposeRefused}
+use Rattle.claim.specs.declared.Drawn.{Drawn}
+
+-- ---- answers by cases
+
+-- all tests pass, or one declines
+passes : (c : Check) → (c ≡ Passed) ⊎ ((r : Refusal) × (c ≡ Failed r))
+passes Passed = inl refl
+passes (Failed r) = inr (r, refl)
+
+-- Quotient's answers differ where their blocks do, and a refusal is no number of blocks
+same-blocks : (b c : ℕ) → Blocks b ≡ Blocks c → b ≡ c
+same-blocks b c e = cc
+
+refused-blocks : (r : Refusal) (b : ℕ) → DivideRefused r ≡ Blocks b → ⊥
+refused-blocks r b e = let z : _≡_ {A = ℕ} 0 1 = cc in omega arith
+
+-- an answer that counts a factor is a list of factors
+counts-factors : (d : Decomposed) (i : ℕ) → i < factorCount d → d ≡ Factors (factorCount d)
+unfolding factorCount
+counts-factors (Factors k) i l = refl
+counts-factors (Irreducible x y) i l = absurd (omega arith)
+counts-factors (DecomposeRefused r) i l = absurd (omega arith)
+
+pub eleven-few : (d : Decomposed) → eleven d ≤ 1
+unfolding eleven
+eleven-few (Factors k) = omega arith
+eleven-few (Irreducible x y) = omega arith
+eleven-few (DecomposeRefused r) = omega arith
+
+eleven-one : (d : Decomposed) (x y : Element) → d ≡ Irreducible x y → eleven d ≡ 1
+unfolding eleven
+eleven-one d x y e = rw e
+
+-- ---- Quotient
+
+module _ (a : Algebra) (m : Map) (tables : List ℕ) where
+  quotientTests : List Test
+  quotientTests = algebraTests a ++ (mapTest (a .size) m ∷ spaceTest (cellCount (blocks (a .size) m) (a .arities)) (length tables) ∷ congruenceTest a m ∷ [])
+
+  quotient-passed : lowest quotientTests ≡ Passed → quotientCall a m tables ≡ (Blocks (blocks (a .size) m), written (quotientCells a m) tables)
+  unfolding quotientCall quotientTests
+  quotient-passed e = serve-passed DivideRefused _ (Blocks (blocks (a .size) m)) (quotientCells a m) tables e
+
+  quotient-failed : (r : Refusal) → lowest quotientTests ≡ Failed r → quotientCall a m tables ≡ (DivideRefused r, tables)
+  unfolding quotientCall quotientTests
+  quotient-failed r e = serve-failed DivideRefused _ (Blocks (blocks (a .size) m)) (quotientCells a m) tables r e
+
+  of-tests : lowest quotientTests ≡ Passed → WellFormed a × (cellCount (blocks (a .size) m) (a .arities) ≤ length tables)
+  unfolding quotientTests
+  of-tests e = let t = of-quotientTests a (length tables) m (sym e) in (accepted-wellFormed a (t .0), t .2)
+
+  -- the lent tables keep their length
+  pub quotient-length : length (quotientCall a m tables .1) ≡ length tables
+  quotient-length =
+      elim (passes (lowest quotientTests)) [
+        | inl e ↦ rw (quotient-passed e) (written-length (quotientCells a m) tables (omega (arith, of-tests e .1, quotientCells-length a m)))
+        | inr e ↦ rw (quotient-failed (e .0) (e .1))
+      ]
+
+  -- where b blocks are given, the algebra is accepted, and the tables over b have room
+  pub quotient-given : {d : Divided} {after : List ℕ} {b : ℕ} → (d, after) ≡ quotientCall a m tables → d ≡ Blocks b
+      → (b ≤ 64) × ((length (a .arities) ≤ 16) × (((i : ℕ) → i < length (a .arities) → getD (a .arities) i 0 ≤ 3) × (cellCount b (a .arities) ≤ length after)))
+  quotient-given {d} {after} {b} g h =
+      let long : length after ≡ length tables = ap (λ (c : Divided × List ℕ). length (c .1)) g ∙ quotient-length in
+      let answer : quotientCall a m tables .0 ≡ Blocks b = sym (ap (λ (c : Divided × List ℕ). c .0) g) ∙ h in
+      elim (passes (lowest quotientTests)) [
+        | inl e ↦
+            let t = of-tests e in
+            let same : blocks (a .size) m ≡ b = same-blocks (blocks (a .size) m) b (sym (ap (λ (c : Divided × List ℕ). c .0) (quotient-passed e)) ∙ answer) in
+            let room : cellCount b (a .arities) ≤ length tables = subst (λ (c : ℕ). cellCount c (a .arities) ≤ length tables) same (t .1) in
+            (omega (arith, t .0 .most, blocks-le (a .size) m, same), (t .0 .operations, (t .0 .arity, omega (arith, room, long))))
+        | inr e ↦ absurd (refused-blocks (e .0) b (sym (ap (λ (c : Divided × List ℕ). c .0) (quotient-failed (e .0) (e .1))) ∙ answer))
+      ]
+
+-- ---- Decompose
+
+module _ (a : Algebra) (lent : List ℕ) where
+  decomposeTests : List Test
+  decomposeTests = algebraTests a ++ (spaceTest ((a .size - 1) * a .size) (length lent) ∷ [])
+
+  decompose-passed : lowest decomposeTests ≡ Passed → decomposeCall a lent ≡ (decomposed a, written (factorBytes a) lent)
+  unfolding decomposeCall decomposeTests
+  decompose-passed e = serve-passed DecomposeRefused _ (decomposed a) (factorBytes a) lent e
+
+  decompose-failed : (r : Refusal) → lowest decomposeTests ≡ Failed r → decomposeCall a lent ≡ (DecomposeRefused r, lent)
+  unfolding decomposeCall decomposeTests
+  decompose-failed r e = serve-failed DecomposeRefused _ (decomposed a) (factorBytes a) lent r e
+
+  of-tests′ : lowest decomposeTests ≡ Passed → Accepted a × ((a .size - 1) * a .size ≤ length lent)
+  unfolding decomposeTests
+  of-tests′ e = of-decomposeTests a (length lent) (sym e)
+
+  -- the factors that are counted stand in the lent list
+  factors-fit : factorCount (decomposeCall a lent .0) * a .size ≤ length lent
+  unfolding factorCount
+  factors-fit =
+      elim (passes (lowest decomposeTests)) [
+        | inl e ↦
+            let t = of-tests′ e in
+            let w = accepted-wellFormed a (t .0) in
+            rw (decompose-passed e)
+            elim (T? (reducible a)) [
+              | yes r ↦ rw (decomposed-yes a w r) (omega (arith, t .1, mul-le-mul-right (a .size) (listed-right a (t .0) r .few)))
+              | no r ↦ rw (decomposed-no a w r) (omega arith)
+            ]
+        | inr e ↦ rw (decompose-failed (e .0) (e .1)) (omega arith)
+      ]
+
+  -- 11 leaves the lent bytes as they were
+  eleven-keeps : (x y : Element) → decomposeCall a lent .0 ≡ Irreducible x y → decomposeCall a lent .1 ≡ lent
+  unfolding factorBytes written
+  eleven-keeps x y g =
+      elim (passes (lowest decomposeTests)) [
+        | inl e ↦
+            let w = accepted-wellFormed a (of-tests′ e .0) in
+            let p = decompose-passed e in
+            elim (T? (reducible a)) [
+              | yes r ↦ let d = decomposed-yes a w r in let z : _≡_ {A = ℕ} 0 1 = cc in absurd (omega arith)
+              | no r ↦ rw (p, pick-no (reducible a) (concat (listed a)) [] r)
+            ]
+        | inr e ↦ rw (decompose-failed (e .0) (e .1))
+      ]
+
+-- ---- the calls for one factor
+
+module _ (a : Algebra) (m : Map) (lent : List ℕ × List ℕ) where
+  -- Quotient gives b blocks
+  pub calls-given : {d : Divided} {tables : List ℕ} {b : ℕ} {r : Decomposed} {again : List ℕ} → (d, tables) ≡ quotientCall a m (lent .0) → d ≡ Blocks b
+      → (r, again) ≡ decomposeCall (algebraOf b (a .arities) (take (cellCount b (a .arities)) tables)) (lent .1) → (r, (tables, again)) ≡ factorCalls a m lent
+  unfolding factorCalls lastCall
+  calls-given e f g = rw (← e, f, ← g)
+
+  -- Quotient declines
+  pub calls-declined : {d : Divided} {tables : List ℕ} {r : Refusal} → (d, tables) ≡ quotientCall a m (lent .0) → d ≡ DivideRefused r → (DecomposeRefused r, (tables, lent .1)) ≡ factorCalls a m lent
+  unfolding factorCalls lastCall
+  calls-declined e f = rw (← e, f)
+
+  -- Quotient is given and draws 11: the last answer is 11, the tables keep their length, and nothing else changes
+  factor-drawn : QuotientDraws11 a m → cellCount (blocks (a .size) m) (a .arities) ≤ length (lent .0) → (blocks (a .size) m - 1) * blocks (a .size) m ≤ length (lent .1)
+      → ((x : Element) × (y : Element) × (factorCalls a m lent .0 ≡ Irreducible x y)) × (length (factorCalls a m lent .1 .0) ≡ length (lent .0)) × (factorCalls a m lent .1 .1 ≡ lent .1)
+  factor-drawn q room wide =
+      let b : ℕ = blocks (a .size) m in
+      let tables : List ℕ = quotientCall a m (lent .0) .1 in
+      let given : quotientCall a m (lent .0) .0 ≡ Blocks b = q .given (lent .0) room in
+      let last : Decomposed × List ℕ = decomposeCall (algebraOf b (a .arities) (take (cellCount b (a .arities)) tables)) (lent .1) in
+      let calls : (last .0, (tables, last .1)) ≡ factorCalls a m lent = calls-given refl given refl in
+      let d = q .draws11 (lent .0) room b given (lent .1) wide in
+      rw (← calls) ((d .0, d .1, d .2), quotient-length a m (lent .0), eleven-keeps (algebraOf b (a .arities) (take (cellCount b (a .arities)) tables)) (lent .1) (d .0) (d .1) (d .2))
+
+-- ---- the loop over the factors
+
+-- the calls for the factors below number i were made
+pub record Calling (a : Algebra) (list : List ℕ) (before : List ℕ × List ℕ) (i place drawn : ℕ) (after : List ℕ × List ℕ) : Type 0 where
+  pub start : place ≡ i * a .size
+  pub few : drawn ≤ i
+  pub counted : drawn ≡ elevens a list before i
+  pub lent : after ≡ lentAfter a list before i
+
+pub calling-start : (a : Algebra) (list : List ℕ) (before : List ℕ × List ℕ) → Calling a list before 0 0 0 before
+unfolding elevens lentAfter
+calling-start a list before = record { start = omega arith; few = omega arith; counted = refl; lent = refl }
+
+module _ {a : Algebra} {list : List ℕ} {before : List ℕ × List ℕ} {i place drawn : ℕ} {after : List ℕ × List ℕ} (p : Calling a list before i place drawn after) where
+  -- the next factor's map stands in the list
+  pub calling-part : (count : ℕ) → i < count → count * a .size ≤ length list → place + a .size ≤ length list
+  calling-part count l room = omega (arith, p .start, suc-mul i (a .size), mul-le-mul-right (a .size) l)
+
+  pub calling-more : {r : Decomposed} {new : List ℕ × List ℕ} {one : ℕ} → (r, new) ≡ factorCalls a (take (place + a .size - place) (drop place list)) after → one ≡ eleven r
+      → Calling a list before (i + 1) (place + a .size) (drawn + one) new
+  unfolding elevens lentAfter lastAnswer stretch
+  calling-more {r} {new} {one} e g =
+      let wide : place + a .size - place ≡ a .size = omega arith in
+      let f : (r, new) ≡ factorCalls a (take (a .size) (drop (i * a .size) list)) (lentAfter a list before i) =
+      e ∙ ap (λ (w : ℕ). factorCalls a (take w (drop place list)) after) wide ∙ ap (λ (s : ℕ). factorCalls a (take (a .size) (drop s list)) after) (p .start)
+      ∙ ap (factorCalls a (take (a .size) (drop (i * a .size) list))) (p .lent) in
+      let answer : r ≡ lastAnswer a list before i = ap (λ (c : Decomposed × (List ℕ × List ℕ)). c .0) f in
+      let more : new ≡ lentAfter a list before (suc i) = ap (λ (c : Decomposed × (List ℕ × List ℕ)). c .1) f in
+      let count : drawn + one ≡ elevens a list before (suc i) = ap (λ (k : ℕ). drawn + k) (g ∙ ap eleven answer) ∙ ap (λ (d : ℕ). d + eleven (lastAnswer a list before i)) (p .counted) in
+      record {
+        start = omega (arith, p .start, suc-mul i (a .size));
+        few = omega (arith, p .few, eleven-few r, g);
+        counted = rw add-one count;
+        lent = rw add-one more;
+      }
+
+  -- the calls for all of them were made
+  pub calling-all : {count : ℕ} → i ≡ count → (drawn ≡ elevens a list before count) × (after ≡ lentAfter a list before count)
+  calling-all e = rw (← e) (p .counted, p .lent)
+
+-- ---- all calls
+
+module _ (a : Algebra) (list : List ℕ) (lent : List ℕ × List ℕ) {first : Decomposed} {list′ : List ℕ} {count : ℕ} (e : (first, list′) ≡ decomposeCall a list) (f : count ≡ factorCount first) where
+  -- the factors that are counted stand in the list
+  pub counted-fit : length list′ ≡ length list → count * a .size ≤ length list′
+  counted-fit long = rw (f, long, ap (λ (c : Decomposed × List ℕ). c .0) e) (factors-fit a list)
+
+  pub calls-made : {drawn : ℕ} {lent′ : List ℕ × List ℕ} → drawn ≡ elevens a list′ lent count → lent′ ≡ lentAfter a list′ lent count
+      → CallsMade a list lent (record { first = first; elevens = drawn }) list′ lent′
+  calls-made g h = record { first = e; counted = rw (← f) g; after = rw (← f) h }
+
+-- ---- the claim
+
+module _ (a : Algebra) (accepted : Accepted a) (list : List ℕ) (lent : List ℕ × List ℕ) (enough : LentEnough a list lent) where
+  abbrev after : List ℕ
+  after = decomposeCall a list .1
+
+  calls : FactorCalls a list
+  calls = factor-calls a accepted list (enough .listing)
+
+  draws : (i : ℕ) → i < factorCount (decomposed a) → QuotientDraws11 a (stretch (a .size) after i)
+  draws i l = calls .quotients (factorCount (decomposed a)) i (calls .answer ∙ counts-factors (decomposed a) i l) l
+
+  -- before the calls for factor i the tables have their length, and the bytes of the last call are as they were
+  abbrev Kept : ℕ → Type 0
+  Kept i = (length (lentAfter a after lent i .0) ≡ length (lent .0)) × (lentAfter a after lent i .1 ≡ lent .1)
+
+  drawn : (i : ℕ) → i < factorCount (decomposed a) → Kept i → ((x : Element) × (y : Element) × (lastAnswer a after lent i ≡ Irreducible x y)) × Kept (suc i)
+  unfolding lentAfter lastAnswer
+  drawn i l k =
+      let d = factor-drawn a (stretch (a .size) after i) (lentAfter a after lent i) (draws i l) (omega (arith, k .0, enough .tables i l)) (rw (k .1) (enough .again i l)) in
+      (d .0, (d .1 ∙ k .0, d .2 ∙ k .1))
+
+  kept : (i : ℕ) → i ≤ factorCount (decomposed a) → Kept i
+  unfolding lentAfter
+  kept zero l = (refl, refl)
+  kept (suc i) l = drawn i (omega arith) (kept i (omega arith)) .1
+
+  all-eleven : (i : ℕ) → i ≤ factorCount (decomposed a) → elevens a after lent i ≡ i
+  unfolding elevens
+  all-eleven zero l = refl
+  all-eleven (suc i) l =
+      let d = drawn i (omega arith) (kept i (omega arith)) .0 in
+      omega (arith, all-eleven i (omega arith), eleven-one (lastAnswer a after lent i) (d .0) (d .1) (d .2))
+
+  -- demand 3: every last call answers 11
+  pub every-last-call-11 : {r : Drawn} {list′ : List ℕ} {lent′ : List ℕ × List ℕ} → CallsMade a list lent r list′ lent′ → EveryLastCall11 a list lent r
+  every-last-call-11 {r} {list′} {lent′} made =
+      let first : r .first ≡ decomposed a = ap (λ (c : Decomposed × List ℕ). c .0) (made .first) ∙ calls .answer in
+      let listing : list′ ≡ after = ap (λ (c : Decomposed × List ℕ). c .1) (made .first) in
+      let few : factorCount (r .first) ≡ factorCount (decomposed a) = ap factorCount first in
+      record {
+        first = first;
+        each = λ i l. drawn i (omega (arith, few)) (kept i (omega (arith, few))) .0;
+        all = made .counted ∙ ap (λ (l : List ℕ). elevens a l lent (factorCount (r .first))) listing ∙ all-eleven (factorCount (r .first)) (omega (arith, few));
+      }

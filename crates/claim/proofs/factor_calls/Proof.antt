@@ -1,0 +1,51 @@
+-- `factor_calls`: Quotient gives blocks, and the last call is made; or it declines.
+use Rattle.algebra.specs.Algebra.{algebraOf}
+use Rattle.claim.proofs.Claims.{quotient-given, calls-given, calls-declined}
+use borrow.Author.Needs.{needs}
+use Rattle.claim.proofs.factor_calls.Statement.{statement}
+use Rattle.claim.proofs.factor_calls.Tie as tie
+
+quotient-requires : tie.Need-quotient-requires
+quotient-requires c κs = search needs
+
+enum-known-divided : tie.Need-enum-known-divided
+enum-known-divided c = search needs
+
+cast-decompose-front : tie.Need-cast-decompose-front
+cast-decompose-front c = search needs
+
+decompose-front-requires : tie.Need-decompose-front-requires
+decompose-front-requires c κs = let k = c .before .before .before .before .before .before .before .before .before .before .before .before .before .before in quotient-given (algebraOf (k .args .n) (k .args .arities .now) (k .args .cells .now)) (k .args .map .now) (k .args .tables .now) (c .before .before .before .before .before .before .before .quotient .ensures) (c .before .before .before .divided .given .1)
+
+enum-known-divided-2 : tie.Need-enum-known-divided-2
+enum-known-divided-2 c = search needs
+
+same-length : tie.Need-same-length
+same-length c = search needs
+
+same-length-2 : tie.Need-same-length-2
+same-length-2 c = search needs
+
+returns : tie.Need-returns
+returns c = let k = c .before .before .before .before .before .before .before .before .before .before .before .before .before .before .before .before .before in calls-given (algebraOf (k .args .n) (k .args .arities .now) (k .args .cells .now)) (k .args .map .now) (k .args .tables .now, k .args .again .now) (c .before .before .before .before .before .before .before .before .before .before .quotient .ensures) (c .before .before .before .before .before .before .divided .given .1) (c .before .before .decompose-front .ensures)
+
+same-length-3 : tie.Need-same-length-3
+same-length-3 c = search needs
+
+returns-2 : tie.Need-returns-2
+returns-2 c = let k = c .before .before .before .before .before .before .before .before .before .before .before .before in calls-declined (algebraOf (k .args .n) (k .args .arities .now) (k .args .cells .now)) (k .args .map .now) (k .args .tables .now, k .args .again .now) (c .before .before .before .before .before .quotient .ensures) (c .before .divided2 .given .1)
+
+pub factor-calls-spec : {M : Type 1} → statement M
+factor-calls-spec =
+    tie.close
+    (tie.spec
+    quotient-requires
+    enum-known-divided
+    cast-decompose-front
+    decompose-front-requires
+    enum-known-divided-2
+    same-length
+    same-length-2
+    returns
+    same-length-3
+    returns-2)

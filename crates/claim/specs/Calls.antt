@@ -1,0 +1,72 @@
+-- Demand 3 is a claim over calls together: Decompose; for every factor, Quotient of the same algebra by the factor's map as listed; and Decompose on
+-- the tables and b that this Quotient gave, with the arities as before. Here stand these calls, one after the other, and the claim.
+use Prim.Native.Nat.{ℕ, zero, suc, _+_, _-_, _*_, _≤_, _<_}
+use mathlib.Core.Path.{_≡_}
+use mathlib.Core.List.{List}
+use lib.ListN.{length, take}
+use Rattle.equivalence.specs.Equivalence.{Map, blocks}
+use Rattle.equivalence.specs.Lists.{stretch}
+use Rattle.equivalence.specs.declared.Element.{Element}
+use Rattle.algebra.specs.Algebra.{Algebra, algebraOf, cellCount}
+use Rattle.congruence.specs.Calls.{decomposed, decomposeCall, quotientCall}
+use Rattle.congruence.specs.declared.Divided.{Divided}
+use Rattle.congruence.specs.declared.Divided.the-variants.{Blocks, Refused as DivideRefused}
+use Rattle.congruence.specs.declared.Decomposed.{Decomposed}
+use Rattle.congruence.specs.declared.Decomposed.the-variants.{Factors, Irreducible, Refused as DecomposeRefused}
+use Rattle.claim.specs.declared.Drawn.{Drawn}
+
+-- how many factors an answer counts
+unfoldable pub factorCount : Decomposed → ℕ
+factorCount (Factors k) = k
+factorCount (Irreducible x y) = 0
+factorCount (DecomposeRefused r) = 0
+
+-- 1 for the answer 11, 0 for every other
+unfoldable pub eleven : Decomposed → ℕ
+eleven (Factors k) = 0
+eleven (Irreducible x y) = 1
+eleven (DecomposeRefused r) = 0
+
+-- Decompose on the tables and b that Quotient gave: its answer, the tables, and the bytes lent to it; a refusal of Quotient is passed on
+unfoldable pub lastCall : List ℕ → Divided → List ℕ → List ℕ → Decomposed × (List ℕ × List ℕ)
+lastCall arities (Blocks b) tables again =
+    let last : Decomposed × List ℕ = decomposeCall (algebraOf b arities (take (cellCount b arities) tables)) again in (last .0, (tables, last .1))
+lastCall arities (DivideRefused r) tables again = (DecomposeRefused r, (tables, again))
+
+-- the calls for one factor: Quotient of a by its map into the lent tables, and the last call; `lent` are the tables and the bytes of the last call
+unfoldable pub factorCalls : Algebra → Map → List ℕ × List ℕ → Decomposed × (List ℕ × List ℕ)
+factorCalls a m lent =
+    let divided : Divided × List ℕ = quotientCall a m (lent .0) in lastCall (a .arities) (divided .0) (divided .1) (lent .1)
+
+-- what is lent after the calls for the factors below number i, whose maps stand in `list` as Decompose wrote it, factor i from byte i × n
+unfoldable pub lentAfter : Algebra → List ℕ → List ℕ × List ℕ → ℕ → List ℕ × List ℕ
+lentAfter a list lent zero = lent
+lentAfter a list lent (suc i) = factorCalls a (stretch (a .size) list i) (lentAfter a list lent i) .1
+
+-- what the last call for factor i answers
+unfoldable pub lastAnswer : Algebra → List ℕ → List ℕ × List ℕ → ℕ → Decomposed
+lastAnswer a list lent i = factorCalls a (stretch (a .size) list i) (lentAfter a list lent i) .0
+
+-- how many of the last calls for the factors below number i answer 11
+unfoldable pub elevens : Algebra → List ℕ → List ℕ × List ℕ → ℕ → ℕ
+elevens a list lent zero = 0
+elevens a list lent (suc i) = elevens a list lent i + eleven (lastAnswer a list lent i)
+
+-- the calls were made: the first answer, how many last calls answered 11, and every lent byte afterwards
+pub record CallsMade (a : Algebra) (list : List ℕ) (lent : List ℕ × List ℕ) (r : Drawn) (list′ : List ℕ) (lent′ : List ℕ × List ℕ) : Type 0 where
+  pub first : (r .first, list′) ≡ decomposeCall a list
+  pub counted : r .elevens ≡ elevens a list′ lent (factorCount (r .first))
+  pub after : lent′ ≡ lentAfter a list′ lent (factorCount (r .first))
+
+-- each call is lent at least the space that its service wants
+pub record LentEnough (a : Algebra) (list : List ℕ) (lent : List ℕ × List ℕ) : Type 0 where
+  pub listing : (a .size - 1) * a .size ≤ length list
+  pub tables : (i : ℕ) → i < factorCount (decomposed a) → cellCount (blocks (a .size) (stretch (a .size) (decomposeCall a list .1) i)) (a .arities) ≤ length (lent .0)
+  pub again : (i : ℕ) → i < factorCount (decomposed a)
+      → (blocks (a .size) (stretch (a .size) (decomposeCall a list .1) i) - 1) * blocks (a .size) (stretch (a .size) (decomposeCall a list .1) i) ≤ length (lent .1)
+
+-- the claim, of an accepted algebra: Decompose finds the factors or 11, and every factor's last call answers 11
+pub record EveryLastCall11 (a : Algebra) (list : List ℕ) (lent : List ℕ × List ℕ) (r : Drawn) : Type 0 where
+  pub first : r .first ≡ decomposed a
+  pub each : (i : ℕ) → i < factorCount (r .first) → (x : Element) × (y : Element) × (lastAnswer a (decomposeCall a list .1) lent i ≡ Irreducible x y)
+  pub all : r .elevens ≡ factorCount (r .first)

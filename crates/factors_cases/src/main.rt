@@ -1,0 +1,176 @@
+// Decompose on cases that a reader can check by hand: each line is a call on the bytes n, arities and cells, its lent bytes before it all 9, and what came
+// of it. Then the calls of demand 3's claim together: the first answer, how many of the last calls answered 11, and the three lent slices.
+use congruence::Decomposed;
+use equivalence::Refusal;
+
+// The bytes, each after a space.
+fn print_bytes(m: &[u8]) {
+    let mut i = 0;
+    while i < m.len() {
+        io::write_all(1, b" ");
+        io::print_decimal(1, wide(m[i]));
+        i += 1;
+    }
+}
+
+fn wide(x: u8) -> u64 {
+    x as u64
+}
+
+// The call's name and the algebra.
+fn print_call(name: &[u8], n: usize, arities: &[u8], cells: &[u8]) {
+    io::write_all(1, name);
+    io::write_all(1, b" ");
+    io::print_decimal(1, n as u64);
+    io::write_all(1, b" |");
+    print_bytes(arities);
+    io::write_all(1, b" |");
+    print_bytes(cells);
+    io::write_all(1, b" | ->");
+}
+
+fn print_count(count: u8) {
+    io::write_all(1, b" ");
+    io::print_decimal(1, wide(count));
+}
+
+fn print_refused(reason: Refusal) {
+    io::write_all(1, b" refused");
+    print_count(equivalence::checks::number(reason));
+}
+
+fn print_decomposed(answer: Decomposed) {
+    match answer {
+        Decomposed::Factors(count) => print_count(count),
+        Decomposed::Irreducible(x, y) => {
+            io::write_all(1, b" refused 11");
+            print_count(x.0);
+            print_count(y.0);
+        }
+        Decomposed::Refused(reason) => print_refused(reason),
+    }
+}
+
+fn decompose_into(n: usize, arities: &[u8], cells: &[u8], lent: &mut [u8]) {
+    print_call(b"decompose", n, arities, cells);
+    print_decomposed(congruence::decompose(n, arities, cells, lent));
+    io::write_all(1, b" :");
+    print_bytes(lent);
+    io::write_all(1, b"\n");
+}
+
+fn decompose(n: usize, arities: &[u8], cells: &[u8]) {
+    let mut lent = [9u8; 13];
+    decompose_into(n, arities, cells, &mut lent);
+}
+
+// Just the room that four elements want.
+fn decompose_exact(n: usize, arities: &[u8], cells: &[u8]) {
+    let mut lent = [9u8; 12];
+    decompose_into(n, arities, cells, &mut lent);
+}
+
+// One byte less.
+fn decompose_short(n: usize, arities: &[u8], cells: &[u8]) {
+    let mut lent = [9u8; 11];
+    decompose_into(n, arities, cells, &mut lent);
+}
+
+// The three lent slices end the line.
+fn print_lent(list: &[u8], tables: &[u8], again: &[u8]) {
+    io::write_all(1, b" :");
+    print_bytes(list);
+    io::write_all(1, b" |");
+    print_bytes(tables);
+    io::write_all(1, b" |");
+    print_bytes(again);
+    io::write_all(1, b"\n");
+}
+
+fn claim_into(
+    n: usize,
+    arities: &[u8],
+    cells: &[u8],
+    list: &mut [u8],
+    tables: &mut [u8],
+    again: &mut [u8],
+) {
+    print_call(b"claim", n, arities, cells);
+    let drawn = claim::factors_draw_eleven(n, arities, cells, list, tables, again);
+    let first = drawn.first;
+    print_decomposed(first);
+    io::write_all(1, b" drew ");
+    io::print_decimal(1, drawn.elevens as u64);
+    print_lent(list, tables, again);
+}
+
+// The quotients have two elements here: two cells of a unary operation, four of a binary one.
+fn claim(n: usize, arities: &[u8], cells: &[u8]) {
+    let mut list = [9u8; 12];
+    let mut tables = [9u8; 5];
+    let mut again = [9u8; 3];
+    claim_into(n, arities, cells, &mut list, &mut tables, &mut again);
+}
+
+// Document 01's examples 6 to 11.
+fn examples() {
+    decompose(4, b"\x01", b"\x01\x00\x03\x02");
+    decompose(4, b"\x01", b"\x01\x02\x03\x00");
+    decompose(3, b"", b"");
+    decompose(2, b"", b"");
+    decompose(1, b"", b"");
+    decompose(3, b"\x02", b"\x00\x00\x00\x00\x01\x01\x00\x01\x02");
+}
+
+// No operations, n = 4; the minimum on a chain of four; the group of two bits under exclusive or; the cyclic group of four, which is irreducible; the minimum of
+// two bits; U with a constant, which imposes nothing.
+fn more() {
+    decompose(4, b"", b"");
+    decompose(
+        4,
+        b"\x02",
+        b"\x00\x00\x00\x00\x00\x01\x01\x01\x00\x01\x02\x02\x00\x01\x02\x03",
+    );
+    decompose(
+        4,
+        b"\x02",
+        b"\x00\x01\x02\x03\x01\x00\x03\x02\x02\x03\x00\x01\x03\x02\x01\x00",
+    );
+    decompose(
+        4,
+        b"\x02",
+        b"\x00\x01\x02\x03\x01\x02\x03\x00\x02\x03\x00\x01\x03\x00\x01\x02",
+    );
+    decompose(
+        4,
+        b"\x02",
+        b"\x00\x00\x00\x00\x00\x01\x00\x01\x00\x00\x02\x02\x00\x01\x02\x03",
+    );
+    decompose(4, b"\x00\x01", b"\x03\x01\x00\x03\x02");
+}
+
+// The room wanted is enough, and one byte less is 9, also where the algebra is irreducible; 1 and 6.
+fn refused() {
+    decompose_exact(4, b"\x01", b"\x01\x00\x03\x02");
+    decompose_short(4, b"\x01", b"\x01\x00\x03\x02");
+    decompose_short(4, b"\x01", b"\x01\x02\x03\x00");
+    decompose(65, b"", b"");
+    decompose(2, b"\x01", b"\x00\x02");
+}
+
+fn claims() {
+    claim(4, b"\x01", b"\x01\x00\x03\x02");
+    claim(
+        4,
+        b"\x02",
+        b"\x00\x00\x00\x00\x00\x01\x01\x01\x00\x01\x02\x02\x00\x01\x02\x03",
+    );
+    claim(4, b"\x01", b"\x01\x02\x03\x00");
+}
+
+fn main() {
+    examples();
+    more();
+    refused();
+    claims();
+}
