@@ -126,3 +126,11 @@ module _ (text lent : List ℕ) where
   pub begin-begins : 14 ≤ length lent → (out : List ℕ) (r : Stepped)
       → ((arities room : List ℕ) → Stepping text 0 (firstStep text) lent arities room out r) → Begun text lent out r
   begin-begins h out r q = record { begins = λ l. q; idles = λ l. absurd (omega arith) }
+
+-- from a sound standing, with enough lent, a run that goes on can step
+pub sound-able : (text : List ℕ) (s : Standing) (arities room lent : List ℕ) → not (s .goes) ≡ false → Sound text s → Lent text arities room lent
+    → T (canStep (length text) s (length arities) (length room) (length lent))
+sound-able text s arities room lent g w l =
+    subst T
+    (sym (le-leb 16384 (length lent) (l .line))
+    ∙ last-test (length text) s (length arities) (length room) (length lent) g (w .within) (w .some) (w .most) (w .few) (w .paced) (l .sixteen) (l .storage)) tt
