@@ -95,9 +95,18 @@ grown-more {t = t} h a b = record {
   rest = λ x l. b .rest x l ∙ a .rest x l;
 }
 
--- growth by steps of which the later ones know more
-pub grown-first : {n : ℕ} {Good More : (ℕ → ℕ) → Type 0} {s t : State} → ((g : ℕ → ℕ) → Good g → Within n (s .map) g → More g) → Queued n s → Grown n More s t → Grown n Good s t
-grown-first {Good = Good} h q d = grown-more h (grown-none Good q) d
+-- growth that more functions are known to make
+pub grown-first : {n : ℕ} {Good More : (ℕ → ℕ) → Type 0} {s t : State} → ((g : ℕ → ℕ) → Good g → Within n (s .map) g → More g) → Grown n More s t → Grown n Good s t
+grown-first h d = record {
+  queued = d .queued;
+  within = d .within;
+  blocks = d .blocks;
+  longer = d .longer;
+  kept = d .kept;
+  pushed = d .pushed;
+  sound = λ g good w. d .sound g (h g good w) w;
+  rest = d .rest;
+}
 
 -- a merge of two elements apart, with the larger name put behind the queue
 module _ {n a b k r : ℕ} {f′ : ℕ → ℕ} (m q : List ℕ) (la : a < n) (lb : b < n) (s : Ready n k m q) (h : byte m a ≡ byte m b → ⊥) (larger : Larger (byte m a) (byte m b) r)

@@ -1,5 +1,5 @@
--- The laws of the passes: what was joined stays joined, one index more, the stop at one block, and the cells of a table against the
--- results of its operation.
+-- The laws of the passes: what was joined stays joined, one index more, the stop at one block, marked pairs, and the cells of a table
+-- against the results of its operation.
 use Prim.Native.Nat.{ℕ, zero, suc, _+_, _-_, _*_, _^_, _≤_, _<_}
 use mathlib.Core.List.{List}
 use mathlib.Core.Logic.{inl, inr}
@@ -12,8 +12,8 @@ use borrow.Author.Tests.{eq-eqb}
 use Rattle.equivalence.specs.Equivalence.{byte, inside}
 use Rattle.equivalence.specs.Kernel.{Canonical, Within, bit, names}
 use Rattle.equivalence.proofs.Kernels.{names-positive}
-use Rattle.closure.specs.Contexts.{OnLine, OnPlane, Contexts, LineFits, PlaneFits, TableFits, Joined, Unless, Halts, Bounded}
-use Rattle.closure.specs.Queue.{State, Grown}
+use Rattle.closure.specs.Contexts.{OnLine, OnPlane, Contexts, LineFits, PlaneFits, TableFits, Joined, Unless, Halts, Bounded, Marked, Heeds, Meets}
+use Rattle.closure.specs.Queue.{State, Ready, Grown}
 use Rattle.closure.proofs.Queues.{Since}
 
 -- what a loop has shown of each index passed stays so under f′, and holds at one more
@@ -98,6 +98,19 @@ bounded-grown b d = record { left = b .left; right = b .right; blocks = d .block
 
 pub bounded-since : {n limit v w k₀ k : ℕ} {Good : (ℕ → ℕ) → Type 0} {m₀ q₀ m q : List ℕ} → Bounded n limit k₀ v w (byte m₀) → Since n Good m₀ q₀ k₀ m q k → Bounded n limit k v w (byte m)
 bounded-since b s = bounded-grown b (s .grown)
+
+-- ---- marks
+
+-- the last of the queue and the name in its place
+pub meets-last : {n len : ℕ} {m q : List ℕ} (table : List ℕ) → Ready n len m q → 0 < len → Marked table (byte m (byte q (len - 1))) (byte q (len - 1)) → Meets n table (byte m)
+meets-last {n} {len} {m} {q} table r l h =
+    let y = byte q (len - 1) in
+    let s : y < n = r .queued .small (len - 1) (omega arith) in
+    record { first = byte m y; second = y; first-below = omega (arith, r .queued .canonical .below y s); second-below = s; marked = h; one = r .queued .canonical .root y s }
+
+-- whatever heeds the marks and holds a map that joins a marked pair joins v and w
+pub meets-joins : {n v w : ℕ} {table : List ℕ} {f g : ℕ → ℕ} → Meets n table f → Heeds n table v w g → Within n f g → g v ≡ g w
+meets-joins x h d = h (x .first) (x .second) (x .first-below) (x .second-below) (x .marked) (d (x .first) (x .second) (x .first-below) (x .second-below) (x .one))
 
 -- ---- tables
 

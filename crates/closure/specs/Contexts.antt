@@ -85,3 +85,20 @@ pub record Bounded (n limit len v w : ℕ) (f : ℕ → ℕ) : Type 0 where
   pub left : v < n
   pub right : w < n
   pub blocks : len + names n f ≡ limit + 1
+
+-- the pair p, q is marked in a table with rows of 64
+abbrev pub Marked : List ℕ → ℕ → ℕ → Type 0
+Marked table p q = byte table (p * 64 + q) ≡ 0 → ⊥
+
+-- g joins v and w where it joins a marked pair
+abbrev pub Heeds : ℕ → List ℕ → ℕ → ℕ → (ℕ → ℕ) → Type 0
+Heeds n table v w g = (p q : ℕ) → p < n → q < n → Marked table p q → g p ≡ g q → g v ≡ g w
+
+-- f joins a marked pair
+pub record Meets (n : ℕ) (table : List ℕ) (f : ℕ → ℕ) : Type 0 where
+  pub first : ℕ
+  pub second : ℕ
+  pub first-below : first < n
+  pub second-below : second < n
+  pub marked : Marked table first second
+  pub one : f first ≡ f second

@@ -8,7 +8,7 @@ use Rattle.equivalence.specs.Equivalence.{byte}
 use Rattle.equivalence.specs.Kernel.{Canonical, Within, bit, names}
 use Rattle.algebra.specs.Algebra.{Algebra}
 use Rattle.algebra.specs.Translations.{Compatible, Closed}
-use Rattle.closure.specs.Contexts.{Unless}
+use Rattle.closure.specs.Contexts.{Unless, Heeds}
 
 -- g joins the pairs of a flat list
 abbrev pub JoinsPairs : List ℕ → (ℕ → ℕ) → Type 0
@@ -17,6 +17,10 @@ JoinsPairs ps g = (j : ℕ) → 2 * j + 1 < length ps → g (byte ps (2 * j)) �
 -- g joins what f joins, and x and y
 abbrev pub Extends : ℕ → (ℕ → ℕ) → ℕ → ℕ → (ℕ → ℕ) → Type 0
 Extends n f x y g = Within n f g × (g x ≡ g y)
+
+-- every congruence above f joins v and w where it joins a marked pair
+abbrev pub Heeded : Algebra → List ℕ → ℕ → ℕ → (ℕ → ℕ) → Type 0
+Heeded a table v w f = (g : ℕ → ℕ) → Compatible a g → Within (a .size) f g → Heeds (a .size) table v w g
 
 -- x is put behind the first k of a list where it is wanted
 pub record Pushed (x : ℕ) (wanted : Bool) (p : ℕ → ℕ) (k : ℕ) (p′ : ℕ → ℕ) (k′ : ℕ) : Type 0 where

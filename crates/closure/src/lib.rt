@@ -11,7 +11,7 @@ ghost use Rattle.equivalence.specs.Kernel.{Canonical, names};
 ghost use Rattle.algebra.specs.Algebra.{algebraOf};
 ghost use Rattle.algebra.specs.Accepted.{Accepted};
 ghost use Rattle.algebra.specs.Translations.{Compatible, Closed};
-ghost use Rattle.closure.specs.Starts.{JoinsPairs, Extends, Apart, Tried};
+ghost use Rattle.closure.specs.Starts.{JoinsPairs, Extends, Heeded, Apart, Tried};
 
 pub mod queue;
 pub mod rounds;
@@ -40,7 +40,20 @@ fn generate_in(
     equivalence::blocks::identity(m, n);
     equivalence::blocks::identity(live, n);
     let len = start::seed(m, n, queue, pairs);
-    rounds::close(m, n, queue, len, n - 1, arities, cells, live, n, 0, 0)
+    rounds::close(
+        m,
+        n,
+        queue,
+        len,
+        n - 1,
+        arities,
+        cells,
+        live,
+        n,
+        arities,
+        0,
+        0,
+    )
 }
 
 // The first n bytes of m become the least congruence that joins the pairs of a flat list. How many merges made it.
@@ -82,7 +95,20 @@ fn extend_in(
     equivalence::blocks::identity(live, n);
     let old = start::others(m, n, queue);
     let len = crate::queue::join(m, n, queue, old, x as u8, y as u8);
-    let all = rounds::close(m, n, queue, len, n - 1, arities, cells, live, n, 0, 0);
+    let all = rounds::close(
+        m,
+        n,
+        queue,
+        len,
+        n - 1,
+        arities,
+        cells,
+        live,
+        n,
+        arities,
+        0,
+        0,
+    );
     all - old
 }
 
@@ -102,7 +128,8 @@ pub fn extend(m: &mut [u8], n: usize, arities: &[u8], cells: &[u8], x: usize, y:
     extend_in(m, n, arities, cells, x, y, &mut queue, &mut live)
 }
 
-// A congruence m is made to join x and y, unless that joins v and w, if they are two: then the work stops. How many blocks it cost.
+// A congruence m is made to join x and y, unless that joins v and w, if they are two: then the work stops. It stops as well where a pair
+// is joined that is marked in the table of refused pairs: whatever joins such a pair joins v and w. How many blocks it cost.
 fn try_in(
     m: &mut [u8],
     n: usize,
@@ -110,6 +137,7 @@ fn try_in(
     cells: &[u8],
     x: usize,
     y: usize,
+    refused: &[u8],
     v: usize,
     w: usize,
     queue: &mut [u8],
@@ -125,6 +153,7 @@ fn try_in(
     requires { ⌜ y < n ⌝ }
     requires { ⌜ v < n ⌝ }
     requires { ⌜ w < n ⌝ }
+    requires { ⌜ Heeded (algebraOf n (now arities) (now cells)) (now refused) v w (byte (now m)) ⌝ }
     ensures { λ r. ⌜ Tried (algebraOf n (now (arities .entry)) (now (cells .entry))) x y v w (byte (now (m .entry))) (byte (now (m .exit))) r ⌝ }
 {
     let count = start::names(m, n, live);
@@ -139,6 +168,7 @@ fn try_in(
         cells,
         live,
         count,
+        refused,
         v,
         w,
     )
@@ -165,7 +195,19 @@ pub fn extend_congruence(
 {
     let mut queue = [0u8; 64];
     let mut live = [0u8; 64];
-    try_in(m, n, arities, cells, x, y, 0, 0, &mut queue, &mut live)
+    try_in(
+        m,
+        n,
+        arities,
+        cells,
+        x,
+        y,
+        arities,
+        0,
+        0,
+        &mut queue,
+        &mut live,
+    )
 }
 
 // As `extend_congruence` where that holds v and w apart. Where it does not, the answer is false, and m is some map above the old one.
@@ -176,6 +218,7 @@ pub fn extend_apart(
     cells: &[u8],
     x: usize,
     y: usize,
+    refused: &[u8],
     v: usize,
     w: usize,
 ) -> bool
@@ -187,11 +230,24 @@ pub fn extend_apart(
     requires { ⌜ y < n ⌝ }
     requires { ⌜ v < n ⌝ }
     requires { ⌜ w < n ⌝ }
+    requires { ⌜ Heeded (algebraOf n (now arities) (now cells)) (now refused) v w (byte (now m)) ⌝ }
     ensures { λ r. ⌜ Apart (algebraOf n (now (arities .entry)) (now (cells .entry))) x y v w (byte (now (m .entry))) (byte (now (m .exit))) r ⌝ }
     ensures { λ _. ⌜ ((z : ℕ) → n ≤ z → byte (now (m .exit)) z ≡ byte (now (m .entry)) z) ⌝ }
 {
     let mut queue = [0u8; 64];
     let mut live = [0u8; 64];
-    let lost = try_in(m, n, arities, cells, x, y, v, w, &mut queue, &mut live);
+    let lost = try_in(
+        m,
+        n,
+        arities,
+        cells,
+        x,
+        y,
+        refused,
+        v,
+        w,
+        &mut queue,
+        &mut live,
+    );
     m[v] != m[w]
 }

@@ -7,7 +7,7 @@ ghost use Rattle.algebra.specs.Algebra.{algebraOf};
 ghost use Rattle.algebra.specs.Accepted.{Accepted};
 ghost use Rattle.algebra.specs.Translations.{Compatible};
 ghost use Rattle.closure.specs.Queue.{state, Ready, Grown};
-ghost use Rattle.closure.specs.Contexts.{Contexts, Unless, Bounded};
+ghost use Rattle.closure.specs.Contexts.{Contexts, Unless, Bounded, Heeds};
 ghost use Rattle.closure.specs.Closing.{Begun, Retired, Found};
 
 // Where b stands among the first `count` elements, or `count`.
@@ -50,6 +50,7 @@ pub fn close(
     cells: &[u8],
     live: &mut [u8],
     used: usize,
+    refused: &[u8],
     v: usize,
     w: usize,
 ) -> usize
@@ -58,7 +59,7 @@ pub fn close(
     requires { ⌜ Contexts n (now cells) (now live) used ⌝ }
     requires { ⌜ Accepted (algebraOf n (now arities) (now cells)) ⌝ }
     requires { ⌜ Begun (algebraOf n (now arities) (now cells)) (state (now m) (now queue) start) (now live) used ⌝ }
-    ensures { λ r. ⌜ Grown n (Compatible (algebraOf n (now (arities .entry)) (now (cells .entry)))) (state (now (m .entry)) (now (queue .entry)) start) (state (now (m .exit)) (now (queue .exit)) r) ⌝ }
+    ensures { λ r. ⌜ Grown n (λ g. Compatible (algebraOf n (now (arities .entry)) (now (cells .entry))) g × Heeds n (now (refused .entry)) v w g) (state (now (m .entry)) (now (queue .entry)) start) (state (now (m .exit)) (now (queue .exit)) r) ⌝ }
     ensures { λ _. ⌜ Unless v w (Compatible (algebraOf n (now (arities .entry)) (now (cells .entry)))) (byte (now (m .exit))) ⌝ }
 {
     let mut len = start;
@@ -83,6 +84,7 @@ pub fn close(
             count,
             x,
             y,
+            refused,
             v,
             w,
         );

@@ -1,5 +1,6 @@
 // The images of two elements x and y under translations, joined in the map. The other arguments run through the first `count` elements
-// of `live`. A pass ends early where a single block is left, or where v and w, if they are two, have been joined.
+// of `live`. A pass ends early where a single block is left, or where v and w, if they are two, have been joined. Where a merge joins a
+// marked pair, v and w are joined with it.
 ghost use mathlib.Core.Path.{_≡_};
 ghost use mathlib.Core.Bool.{true};
 ghost use Prim.Native.Nat.{ℕ, _+_, _*_, _<_, _≤_};
@@ -8,7 +9,7 @@ ghost use Rattle.equivalence.specs.Equivalence.{byte};
 ghost use Rattle.closure.specs.Queue.{state, Ready, Grown};
 ghost use Rattle.algebra.specs.Algebra.{algebraOf};
 ghost use Rattle.algebra.specs.Accepted.{Accepted};
-ghost use Rattle.closure.specs.Contexts.{Listed, OperationsIn, OnLine, OnPlane, OnTable, Contexts, LineFits, PlaneFits, TableFits, Unless, Halts, Bounded};
+ghost use Rattle.closure.specs.Contexts.{Listed, OperationsIn, OnLine, OnPlane, OnTable, Contexts, LineFits, PlaneFits, TableFits, Unless, Halts, Bounded, Heeds, Meets};
 
 // Is nothing more to be done?
 pub fn halted(m: &[u8], len: usize, limit: usize, v: usize, w: usize) -> bool
@@ -25,31 +26,112 @@ pub fn halted(m: &[u8], len: usize, limit: usize, v: usize, w: usize) -> bool
     m[v] == m[w]
 }
 
-// One other argument, which moves the cells by `step`.
+// Is nothing more to be done, after a step that may have merged?
+fn over(m: &[u8], before: usize, len: usize, limit: usize, v: usize, w: usize) -> bool
+    requires { ⌜ v < length (now m) ⌝ }
+    requires { ⌜ w < length (now m) ⌝ }
+    ensures { λ r. ⌜ (r ≡ true → Halts limit len v w (byte (now (m .entry)))) ⌝ }
+{
+    if before == len {
+        return false;
+    }
+    halted(m, len, limit, v, w)
+}
+
+// Has the last merge joined a marked pair? Only the name that it took away and the name that took its place are looked at.
+fn marked(m: &[u8], n: usize, queue: &[u8], len: usize, refused: &[u8]) -> bool
+    requires { ⌜ Ready n len (now m) (now queue) ⌝ }
+    requires { ⌜ n ≤ 64 ⌝ }
+    requires { ⌜ 0 < len ⌝ }
+    ensures { λ r. ⌜ (r ≡ true → Meets n (now (refused .entry)) (byte (now (m .entry)))) ⌝ }
+{
+    let y = queue[len - 1] as usize;
+    let x = m[y] as usize;
+    let place = x * 64 + y;
+    if refused.len() <= place {
+        return false;
+    }
+    refused[place] != 0
+}
+
+// Joins a and b, and where that joins a marked pair, v and w as well.
+fn step(
+    m: &mut [u8],
+    n: usize,
+    queue: &mut [u8],
+    start: usize,
+    a: u8,
+    b: u8,
+    refused: &[u8],
+    v: usize,
+    w: usize,
+) -> usize
+    requires { ⌜ Ready n start (now m) (now queue) ⌝ }
+    requires { ⌜ n ≤ 64 ⌝ }
+    requires { ⌜ a < n ⌝ }
+    requires { ⌜ b < n ⌝ }
+    requires { ⌜ v < n ⌝ }
+    requires { ⌜ w < n ⌝ }
+    ensures { λ r. ⌜ Grown n (λ g. (g a ≡ g b) × Heeds n (now (refused .entry)) v w g) (state (now (m .entry)) (now (queue .entry)) start) (state (now (m .exit)) (now (queue .exit)) r) ⌝ }
+    ensures { λ _. ⌜ byte (now (m .exit)) a ≡ byte (now (m .exit)) b ⌝ }
+{
+    let len = crate::queue::join(m, n, queue, start, a, b);
+    if len == start {
+        return len;
+    }
+    if v == w {
+        return len;
+    }
+    if !marked(m, n, queue, len, refused) {
+        return len;
+    }
+    crate::queue::join(m, n, queue, len, v as u8, w as u8)
+}
+
+// One other argument, which moves the cells by `stride`.
 fn line(
     m: &mut [u8],
     n: usize,
     queue: &mut [u8],
     start: usize,
+    limit: usize,
     cells: &[u8],
     live: &[u8],
     count: usize,
-    step: usize,
+    stride: usize,
     p: usize,
     q: usize,
+    refused: &[u8],
+    v: usize,
+    w: usize,
 ) -> usize
     requires { ⌜ Ready n start (now m) (now queue) ⌝ }
+    requires { ⌜ Bounded n limit start v w (byte (now m)) ⌝ }
     requires { ⌜ Contexts n (now cells) (now live) count ⌝ }
-    requires { ⌜ LineFits n (now cells) step p ⌝ }
-    requires { ⌜ LineFits n (now cells) step q ⌝ }
-    ensures { λ r. ⌜ Grown n (OnLine (now (cells .entry)) (now (live .entry)) count step p q) (state (now (m .entry)) (now (queue .entry)) start) (state (now (m .exit)) (now (queue .exit)) r) ⌝ }
-    ensures { λ _. ⌜ OnLine (now (cells .entry)) (now (live .entry)) count step p q (byte (now (m .exit))) ⌝ }
+    requires { ⌜ LineFits n (now cells) stride p ⌝ }
+    requires { ⌜ LineFits n (now cells) stride q ⌝ }
+    ensures { λ r. ⌜ Grown n (λ g. OnLine (now (cells .entry)) (now (live .entry)) count stride p q g × Heeds n (now (refused .entry)) v w g) (state (now (m .entry)) (now (queue .entry)) start) (state (now (m .exit)) (now (queue .exit)) r) ⌝ }
+    ensures { λ _. ⌜ Unless v w (OnLine (now (cells .entry)) (now (live .entry)) count stride p q) (byte (now (m .exit))) ⌝ }
 {
     let mut len = start;
     let mut i = 0;
     while i < count {
-        let shift = live[i] as usize * step;
-        len = crate::queue::join(m, n, queue, len, cells[p + shift], cells[q + shift]);
+        let before = len;
+        let shift = live[i] as usize * stride;
+        len = step(
+            m,
+            n,
+            queue,
+            len,
+            cells[p + shift],
+            cells[q + shift],
+            refused,
+            v,
+            w,
+        );
+        if over(m, before, len, limit, v, w) {
+            return len;
+        }
         i += 1;
     }
     len
@@ -69,6 +151,7 @@ fn plane(
     step: usize,
     p: usize,
     q: usize,
+    refused: &[u8],
     v: usize,
     w: usize,
 ) -> usize
@@ -77,7 +160,7 @@ fn plane(
     requires { ⌜ Contexts n (now cells) (now live) count ⌝ }
     requires { ⌜ PlaneFits n (now cells) row step p ⌝ }
     requires { ⌜ PlaneFits n (now cells) row step q ⌝ }
-    ensures { λ r. ⌜ Grown n (OnPlane (now (cells .entry)) (now (live .entry)) count row step p q) (state (now (m .entry)) (now (queue .entry)) start) (state (now (m .exit)) (now (queue .exit)) r) ⌝ }
+    ensures { λ r. ⌜ Grown n (λ g. OnPlane (now (cells .entry)) (now (live .entry)) count row step p q g × Heeds n (now (refused .entry)) v w g) (state (now (m .entry)) (now (queue .entry)) start) (state (now (m .exit)) (now (queue .exit)) r) ⌝ }
     ensures { λ _. ⌜ Unless v w (OnPlane (now (cells .entry)) (now (live .entry)) count row step p q) (byte (now (m .exit))) ⌝ }
 {
     let mut len = start;
@@ -92,12 +175,16 @@ fn plane(
             n,
             queue,
             len,
+            limit,
             cells,
             live,
             count,
             step,
             p + shift,
             q + shift,
+            refused,
+            v,
+            w,
         );
         i += 1;
     }
@@ -110,31 +197,60 @@ fn binary(
     n: usize,
     queue: &mut [u8],
     start: usize,
+    limit: usize,
     cells: &[u8],
     live: &[u8],
     count: usize,
     o: usize,
     x: usize,
     y: usize,
+    refused: &[u8],
+    v: usize,
+    w: usize,
 ) -> usize
     requires { ⌜ Ready n start (now m) (now queue) ⌝ }
+    requires { ⌜ Bounded n limit start v w (byte (now m)) ⌝ }
     requires { ⌜ Contexts n (now cells) (now live) count ⌝ }
     requires { ⌜ TableFits n (now cells) o 2 x y ⌝ }
-    ensures { λ r. ⌜ Grown n (OnTable n (now (cells .entry)) (now (live .entry)) count o 2 x y) (state (now (m .entry)) (now (queue .entry)) start) (state (now (m .exit)) (now (queue .exit)) r) ⌝ }
-    ensures { λ _. ⌜ OnTable n (now (cells .entry)) (now (live .entry)) count o 2 x y (byte (now (m .exit))) ⌝ }
+    ensures { λ r. ⌜ Grown n (λ g. OnTable n (now (cells .entry)) (now (live .entry)) count o 2 x y g × Heeds n (now (refused .entry)) v w g) (state (now (m .entry)) (now (queue .entry)) start) (state (now (m .exit)) (now (queue .exit)) r) ⌝ }
+    ensures { λ _. ⌜ Unless v w (OnTable n (now (cells .entry)) (now (live .entry)) count o 2 x y) (byte (now (m .exit))) ⌝ }
 {
-    let len = line(m, n, queue, start, cells, live, count, n, o + x, o + y);
+    let p = o + x;
+    let q = o + y;
+    let len = line(
+        m,
+        n,
+        queue,
+        start,
+        limit,
+        cells,
+        live,
+        count,
+        n,
+        p,
+        q,
+        refused,
+        v,
+        w,
+    );
+    if halted(m, len, limit, v, w) {
+        return len;
+    }
     line(
         m,
         n,
         queue,
         len,
+        limit,
         cells,
         live,
         count,
         1,
         o + x * n,
         o + y * n,
+        refused,
+        v,
+        w,
     )
 }
 
@@ -151,6 +267,7 @@ fn ternary(
     o: usize,
     x: usize,
     y: usize,
+    refused: &[u8],
     v: usize,
     w: usize,
 ) -> usize
@@ -158,7 +275,7 @@ fn ternary(
     requires { ⌜ Bounded n limit start v w (byte (now m)) ⌝ }
     requires { ⌜ Contexts n (now cells) (now live) count ⌝ }
     requires { ⌜ TableFits n (now cells) o 3 x y ⌝ }
-    ensures { λ r. ⌜ Grown n (OnTable n (now (cells .entry)) (now (live .entry)) count o 3 x y) (state (now (m .entry)) (now (queue .entry)) start) (state (now (m .exit)) (now (queue .exit)) r) ⌝ }
+    ensures { λ r. ⌜ Grown n (λ g. OnTable n (now (cells .entry)) (now (live .entry)) count o 3 x y g × Heeds n (now (refused .entry)) v w g) (state (now (m .entry)) (now (queue .entry)) start) (state (now (m .exit)) (now (queue .exit)) r) ⌝ }
     ensures { λ _. ⌜ Unless v w (OnTable n (now (cells .entry)) (now (live .entry)) count o 3 x y) (byte (now (m .exit))) ⌝ }
 {
     let area = n * n;
@@ -175,6 +292,7 @@ fn ternary(
         n,
         o + x,
         o + y,
+        refused,
         v,
         w,
     );
@@ -191,6 +309,7 @@ fn ternary(
         1,
         o + x * n,
         o + y * n,
+        refused,
         v,
         w,
     );
@@ -207,6 +326,7 @@ fn ternary(
         1,
         o + x * area,
         o + y * area,
+        refused,
         v,
         w,
     )
@@ -226,6 +346,7 @@ fn table(
     s: usize,
     x: usize,
     y: usize,
+    refused: &[u8],
     v: usize,
     w: usize,
 ) -> usize
@@ -234,17 +355,57 @@ fn table(
     requires { ⌜ Contexts n (now cells) (now live) count ⌝ }
     requires { ⌜ s ≤ 3 ⌝ }
     requires { ⌜ TableFits n (now cells) o s x y ⌝ }
-    ensures { λ r. ⌜ Grown n (OnTable n (now (cells .entry)) (now (live .entry)) count o s x y) (state (now (m .entry)) (now (queue .entry)) start) (state (now (m .exit)) (now (queue .exit)) r) ⌝ }
+    ensures { λ r. ⌜ Grown n (λ g. OnTable n (now (cells .entry)) (now (live .entry)) count o s x y g × Heeds n (now (refused .entry)) v w g) (state (now (m .entry)) (now (queue .entry)) start) (state (now (m .exit)) (now (queue .exit)) r) ⌝ }
     ensures { λ _. ⌜ Unless v w (OnTable n (now (cells .entry)) (now (live .entry)) count o s x y) (byte (now (m .exit))) ⌝ }
 {
     if s == 3 {
-        return ternary(m, n, queue, start, limit, cells, live, count, o, x, y, v, w);
+        return ternary(
+            m,
+            n,
+            queue,
+            start,
+            limit,
+            cells,
+            live,
+            count,
+            o,
+            x,
+            y,
+            refused,
+            v,
+            w,
+        );
     }
     if s == 2 {
-        return binary(m, n, queue, start, cells, live, count, o, x, y);
+        return binary(
+            m,
+            n,
+            queue,
+            start,
+            limit,
+            cells,
+            live,
+            count,
+            o,
+            x,
+            y,
+            refused,
+            v,
+            w,
+        );
     }
     if s == 1 {
-        return crate::queue::join(m, n, queue, start, cells[o + x], cells[o + y]);
+        return step(
+            m,
+            n,
+            queue,
+            start,
+            cells[o + x],
+            cells[o + y],
+            refused,
+            v,
+            w,
+        );
     }
     start
 }
@@ -262,6 +423,7 @@ pub fn operations(
     count: usize,
     x: usize,
     y: usize,
+    refused: &[u8],
     v: usize,
     w: usize,
 ) -> usize
@@ -271,7 +433,7 @@ pub fn operations(
     requires { ⌜ Accepted (algebraOf n (now arities) (now cells)) ⌝ }
     requires { ⌜ x < n ⌝ }
     requires { ⌜ y < n ⌝ }
-    ensures { λ r. ⌜ Grown n (OperationsIn (algebraOf n (now (arities .entry)) (now (cells .entry))) (length (now (arities .entry))) (Listed (now (live .entry)) count) x y) (state (now (m .entry)) (now (queue .entry)) start) (state (now (m .exit)) (now (queue .exit)) r) ⌝ }
+    ensures { λ r. ⌜ Grown n (λ g. OperationsIn (algebraOf n (now (arities .entry)) (now (cells .entry))) (length (now (arities .entry))) (Listed (now (live .entry)) count) x y g × Heeds n (now (refused .entry)) v w g) (state (now (m .entry)) (now (queue .entry)) start) (state (now (m .exit)) (now (queue .exit)) r) ⌝ }
     ensures { λ _. ⌜ Unless v w (OperationsIn (algebraOf n (now (arities .entry)) (now (cells .entry))) (length (now (arities .entry))) (Listed (now (live .entry)) count) x y) (byte (now (m .exit))) ⌝ }
 {
     let mut len = start;
@@ -295,6 +457,7 @@ pub fn operations(
             s,
             x,
             y,
+            refused,
             v,
             w,
         );

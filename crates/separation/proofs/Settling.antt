@@ -1,19 +1,20 @@
 -- The search's steps: it starts at the identity, settles a pair (held, taken, passed, or skipped since one of its elements is no first member), and ends,
 -- once every row up to v is settled, with the greatest congruence inside "v's block and the rest" (004, Lemma 10).
-use Prim.Native.Nat.{ℕ, _+_, _≤_, _<_}
+use Prim.Native.Nat.{ℕ, _+_, _*_, _≤_, _<_}
 use mathlib.Core.List.{List, _∷_, _++_}
 use mathlib.Core.Logic.{_⊎_, inl, inr}
 use mathlib.Core.Path.{_≡_, refl, sym, ap, _∙_}
 use native.Mathlib.Decide.{decLt, ℕ-discrete}
 use native.Mathlib.Omega.{arith}
-use lib.ListN.{length}
-use lib.Seq.{ext-getD}
+use lib.ListN.{length, set}
+use lib.Seq.{ext-getD, getD-set-other}
 use Rattle.equivalence.specs.Equivalence.{byte}
 use Rattle.equivalence.specs.Kernel.{Within, Filled}
 use Rattle.equivalence.specs.Lists.{first}
 use Rattle.equivalence.proofs.Kernels.{identity-canonical, identity-within}
 use Rattle.algebra.specs.Algebra.{Algebra}
 use Rattle.algebra.specs.Translations.{result, Compatible, Closed, Refined}
+use Rattle.closure.specs.Starts.{Heeded}
 use Rattle.separation.specs.Search.{Keeps, Before, Refused, Settled, TwoBlocks, Earliest}
 
 module _ (a : Algebra) (v w : ℕ) where
@@ -181,6 +182,26 @@ module _ (a : Algebra) (v w : ℕ) (lv : v < a .size) (lw : w < a .size) (f : �
 pub earliest-swap : (a : Algebra) (v w : ℕ) (f : ℕ → ℕ) → Earliest a v w f → Earliest a w v f
 earliest-swap a v w f e =
     record { canonical = e .canonical; compatible = e .compatible; apart = λ q. e .apart (sym q); first = λ g c n. e .first g c (λ q. n (sym q)) }
+
+-- ---- the marks
+
+module _ (a : Algebra) (v w : ℕ) (f : ℕ → ℕ) where
+  -- nothing is marked at first
+  pub heeded-none : (table : List ℕ) → a .size ≤ 64 → ((i : ℕ) → i < 4096 → byte table i ≡ 0) → Heeded a table v w f
+  heeded-none table most z g c k p q lp lq mark e = absurd (mark (z (p * 64 + q) (omega arith)))
+
+  -- marks are heeded by what is above a larger map
+  pub heeded-up : (f′ : ℕ → ℕ) (table : List ℕ) → Within (a .size) f f′ → Heeded a table v w f → Heeded a table v w f′
+  heeded-up f′ table up h g c k = h g c (λ x y lx ly e. k x y lx ly (up x y lx ly e))
+
+  -- a refused pair is marked
+  pub heeded-mark : (table : List ℕ) (x y : ℕ) → a .size ≤ 64 → y < a .size → Refused a v w f x y → Heeded a table v w f → Heeded a (set table (x * 64 + y) 1) v w f
+  heeded-mark table x y most ly r h g c k p q lp lq mark e = elim (ℕ-discrete (p * 64 + q) (x * 64 + y)) [
+    | yes i ↦ let ep : p ≡ x = omega arith in
+        let eq : q ≡ y = omega arith in
+        r g c k (sym (ap g ep) ∙ e ∙ ap g eq)
+    | no i ↦ h g c k p q lp lq (λ z. mark (getD-set-other table (x * 64 + y) (p * 64 + q) 1 0 i ∙ z)) e
+  ]
 
 -- ---- the slices of the search
 

@@ -8,6 +8,7 @@ use Rattle.equivalence.specs.Kernel.{Canonical, Within}
 use Rattle.algebra.specs.Algebra.{Algebra, algebraOf}
 use Rattle.algebra.specs.Accepted.{Accepted}
 use Rattle.algebra.specs.Translations.{Compatible}
+use Rattle.closure.specs.Starts.{Heeded}
 
 -- (p, q) comes before (x, y): by the first element, then by the second
 abbrev pub Before : ℕ → ℕ → ℕ → ℕ → Type 0
@@ -30,6 +31,10 @@ pub record Settled (a : Algebra) (v w x y : ℕ) (f : ℕ → ℕ) : Type 0 wher
   pub refused : (p q : ℕ) → p < q → q < a .size → Before p q x y → ¬ (f p ≡ f q)
       → (g : ℕ → ℕ) → Compatible a g → Keeps (a .size) f g p q → g p ≡ g q → g v ≡ g w
 
+-- where the search stands: the pairs before (x, y) are settled, and every congruence above f joins v and w where it joins a marked pair
+abbrev pub Standing : Algebra → ℕ → ℕ → ℕ → ℕ → List ℕ → (ℕ → ℕ) → Type 0
+Standing a v w x y table f = Settled a v w x y f × Heeded a table v w f
+
 -- e has two blocks: the block of v in f, and the rest
 pub record TwoBlocks (n v : ℕ) (f e : ℕ → ℕ) : Type 0 where
   pub same : (x y : ℕ) → x < n → y < n → f x ≡ f v → f y ≡ f v → e x ≡ e y
@@ -44,10 +49,11 @@ pub record Earliest (a : Algebra) (v w : ℕ) (f : ℕ → ℕ) : Type 0 where
   pub first : (g : ℕ → ℕ) → Compatible a g → ¬ (g v ≡ g w) → (x y : ℕ) → x < y → y < a .size
       → Keeps (a .size) f g x y → Keeps (a .size) g f x y → g x ≡ g y → f x ≡ f y
 
--- what every function of the search asks: an accepted algebra, two elements, and room for n bytes in the map and in the spare one
-pub record Rooms (n : ℕ) (arities cells m spare : List ℕ) (v w : ℕ) : Type 0 where
+-- what every function of the search asks: an accepted algebra, two elements, room for n bytes in the map and in the spare one, and for 64 rows of marks
+pub record Rooms (n : ℕ) (arities cells m spare table : List ℕ) (v w : ℕ) : Type 0 where
   pub accepted : Accepted (algebraOf n arities cells)
   pub map-room : n ≤ length m
   pub spare-room : n ≤ length spare
+  pub table-room : length table ≡ 4096
   pub left : v < n
   pub right : w < n

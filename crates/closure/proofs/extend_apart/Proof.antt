@@ -15,21 +15,21 @@ slice-aggregate-try-in-2 c = search needs
 
 try-in-requires : tie.Need-try-in-requires
 try-in-requires c κs =
-    let w = accepted-wellFormed (algebraOf (c .before .before .before .before .before .before .args .n) (c .before .before .before .before .before .before .args .arities .now) (c .before .before .before .before .before .before .args .cells .now)) (c .before .before .before .before .before .before .pre .0) in
-    let q = c .before .before .before .before .before .before .pre .1 .1 in
-    (c .before .before .before .before .before .before .pre .0, (c .before .before .before .before .before .before .pre .1 .0, (omega (arith, w .most), (omega (arith, w .most), q))))
+    let w = accepted-wellFormed (algebraOf (c .before .before .before .before .before .before .before .args .n) (c .before .before .before .before .before .before .before .args .arities .now) (c .before .before .before .before .before .before .before .args .cells .now)) (c .before .before .before .before .before .before .before .pre .0) in
+    let q = c .before .before .before .before .before .before .before .pre .1 .1 in
+    (c .before .before .before .before .before .before .before .pre .0, (c .before .before .before .before .before .before .before .pre .1 .0, (omega (arith, w .most), (omega (arith, w .most), q))))
 
 slice-read-result : tie.Need-slice-read-result
-slice-read-result c = omega (arith, c .before .before .before .before .before .try-in .kept .0, c .before .before .before .before .before .before .before .before .before .before .before .before .pre .1 .0, c .before .before .before .before .before .before .before .before .before .before .before .before .pre .1 .1 .1 .1 .1 .1 .0)
+slice-read-result c = omega (arith, c .before .before .before .before .before .try-in .kept .0, c .before .before .before .before .before .before .before .before .before .before .before .before .before .pre .1 .0, c .before .before .before .before .before .before .before .before .before .before .before .before .before .pre .1 .1 .1 .1 .1 .1 .0)
 
 slice-read-result-2 : tie.Need-slice-read-result-2
-slice-read-result-2 c = omega (arith, c .before .before .before .before .before .before .try-in .kept .0, c .before .before .before .before .before .before .before .before .before .before .before .before .before .pre .1 .0, c .before .before .before .before .before .before .before .before .before .before .before .before .before .pre .1 .1 .1 .1 .1 .1 .1)
+slice-read-result-2 c = omega (arith, c .before .before .before .before .before .before .try-in .kept .0, c .before .before .before .before .before .before .before .before .before .before .before .before .before .before .pre .1 .0, c .before .before .before .before .before .before .before .before .before .before .before .before .before .before .pre .1 .1 .1 .1 .1 .1 .1 .0)
 
 same-length : tie.Need-same-length
 same-length c = search needs
 
 returns : tie.Need-returns
-returns c = let q = c .before .before .before .before .before .before .before .before .before .before .before .before .before .pre .1 .1 .1 .1 .1 .1 in (tried-apart (q .0) (q .1) (c .before .before .before .before .before .before .try-in .ensures), c .before .before .before .before .before .before .try-in .ensures .rest)
+returns c = let q = c .before .before .before .before .before .before .before .before .before .before .before .before .before .before .pre .1 .1 .1 .1 .1 .1 in (tried-apart (q .0) (q .1 .0) (c .before .before .before .before .before .before .try-in .ensures), c .before .before .before .before .before .before .try-in .ensures .rest)
 
 pub extend-apart-spec : {M : Type 1} → statement M
 extend-apart-spec =

@@ -18,7 +18,7 @@ try-in-requires : tie.Need-try-in-requires
 try-in-requires c κs =
     let w = accepted-wellFormed (algebraOf (c .before .before .before .before .before .before .args .n) (c .before .before .before .before .before .before .args .arities .now) (c .before .before .before .before .before .before .args .cells .now)) (c .before .before .before .before .before .before .pre .0) in
     let q = c .before .before .before .before .before .before .pre .1 .1 in
-    (c .before .before .before .before .before .before .pre .0, (c .before .before .before .before .before .before .pre .1 .0, (omega (arith, w .most), (omega (arith, w .most), (q .0, (q .1 .0, (q .1 .1 .0, (q .1 .1 .1, (w .some, w .some)))))))))
+    (c .before .before .before .before .before .before .pre .0, (c .before .before .before .before .before .before .pre .1 .0, (omega (arith, w .most), (omega (arith, w .most), (q .0, (q .1 .0, (q .1 .1 .0, (q .1 .1 .1, (w .some, (w .some, λ g k h a b la lb i j. refl))))))))))
 
 same-length : tie.Need-same-length
 same-length c = search needs

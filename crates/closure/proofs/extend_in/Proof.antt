@@ -8,6 +8,7 @@ use Rattle.algebra.specs.Algebra.{algebraOf}
 use Rattle.closure.proofs.Collections.{others-total}
 use Rattle.closure.proofs.Queues.{in-queue-kept}
 use Rattle.closure.proofs.Starting.{accepted-contexts, others-ready, others-lost, identity-begun, bounded-start, grown-closed}
+use Rattle.closure.proofs.Queues.{grown-first}
 use Rattle.equivalence.specs.Equivalence.{byte, blocks, identity, join}
 use Rattle.equivalence.specs.Lists.{first}
 use Rattle.closure.proofs.extend_in.Statement.{statement}
@@ -76,7 +77,7 @@ returns c =
     let d = c .before .before .before .before .before .before .before .before .before .before .before .before .before .before .join .ensures .0 in
     let e = c .before .before .before .before .before .before .close .ensures .0 in
     let p = c .before .before .before .before .before .before .before .before .before .before .before .before .before .before .before .before .before .before .before .before .before .before .before .before .before .before .before .before .before .before .before .pre .1 .1 .1 .1 .1 in (
-      grown-closed a (λ g good. good) d e (c .before .before .before .before .before .before .close .ensures .1 (λ j. j .two refl))
+      grown-closed a (λ g good. good) d (grown-first (λ g good h. (good, λ p q lp lq k i. refl)) e) (c .before .before .before .before .before .before .close .ensures .1 (λ j. j .two refl))
           (λ b h lb lh z. e .within b h lb lh (d .within b h lb lh z), e .within (c .before .before .before .before .before .before .before .before .before .before .before .before .before .before .before .before .before .before .before .before .before .before .before .before .before .before .before .before .before .before .before .args .x) (c .before .before .before .before .before .before .before .before .before .before .before .before .before .before .before .before .before .before .before .before .before .before .before .before .before .before .before .before .before .before .before .args .y) (p .0) (p .1) (c .before .before .before .before .before .before .before .before .before .before .before .before .before .before .join .ensures .1)),
       (omega (arith, e .blocks, d .blocks, d .longer, e .longer), λ z l. e .rest z l ∙ d .rest z l),
     )

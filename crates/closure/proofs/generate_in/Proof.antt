@@ -7,6 +7,7 @@ use Rattle.algebra.proofs.Accepted.{accepted-wellFormed}
 use Rattle.algebra.specs.Algebra.{algebraOf}
 use Rattle.closure.proofs.Starting.{accepted-contexts, identity-total, identity-ready, identity-begun, bounded-start, grown-closed}
 use Rattle.equivalence.proofs.Kernels.{identity-within}
+use Rattle.closure.proofs.Queues.{grown-first}
 use Rattle.equivalence.specs.Equivalence.{byte, blocks, identity}
 use Rattle.equivalence.specs.Lists.{first}
 use Rattle.equivalence.specs.Order.{pairs}
@@ -65,7 +66,7 @@ returns c =
     let p = c .before .before .before .before .before .before .before .before .before .before .before .before .before .before .before .before .before .before .before .before .before .before .before .before .before .before .before .before .before .before .before .pre .1 .1 .1 .1 in
     let d = c .before .before .before .before .before .before .before .before .before .before .before .before .before .before .seed .ensures .0 in
     let e = c .before .before .before .before .before .before .close .ensures .0 in (
-      grown-closed a (λ g good. (identity-within n _ g f, good)) d e (c .before .before .before .before .before .before .close .ensures .1 (λ j. j .two refl))
+      grown-closed a (λ g good. (identity-within n _ g f, good)) d (grown-first (λ g good h. (good, λ p q lp lq k i. refl)) e) (c .before .before .before .before .before .before .close .ensures .1 (λ j. j .two refl))
           (λ j l. e .within (byte (c .before .before .before .before .before .before .before .before .before .before .before .before .before .before .before .before .before .before .before .before .before .before .before .before .before .before .before .before .before .before .before .args .pairs .now) (2 * j)) (byte (c .before .before .before .before .before .before .before .before .before .before .before .before .before .before .before .before .before .before .before .before .before .before .before .before .before .before .before .before .before .before .before .args .pairs .now) (2 * j + 1)) (p (2 * j) (omega arith)) (p (2 * j + 1) l) (c .before .before .before .before .before .before .before .before .before .before .before .before .before .before .seed .ensures .1 j l)),
       (e .blocks ∙ d .blocks ∙ identity-total n _ f, λ z l. e .rest z l ∙ d .rest z l ∙ c .before .before .before .before .before .before .before .before .before .before .before .before .before .before .before .before .before .before .before .before .before .before .before .identity .ensures .rest z l),
     )

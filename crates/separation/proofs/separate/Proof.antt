@@ -1,4 +1,6 @@
+use Prim.Native.Nat.{ℕ}
 use mathlib.Core.Path.{sym}
+use lib.ListN.{length-replicate, getD-replicate}
 use native.Mathlib.Omega.{arith}
 use Rattle.algebra.proofs.Accepted.{accepted-wellFormed}
 use Rattle.separation.proofs.Settling.{earliest-swap}
@@ -12,23 +14,29 @@ slice-aggregate-separate-in c = search needs
 slice-aggregate-separate-in-2 : tie.Need-slice-aggregate-separate-in-2
 slice-aggregate-separate-in-2 c = search needs
 
-separate-in-requires : tie.Need-separate-in-requires
-separate-in-requires c κs = 
-    let p = c .before .before .before .before .before .before .before .pre in
-    let n = accepted-wellFormed _ (p .0) .most in
-    (record { accepted = p .0; map-room = omega arith; spare-room = omega arith; left = p .1 .0; right = p .1 .1 .0 }, (p .1 .1 .1 .1, p .1 .1 .1 .0))
-
 slice-aggregate-separate-in-3 : tie.Need-slice-aggregate-separate-in-3
 slice-aggregate-separate-in-3 c = search needs
+
+separate-in-requires : tie.Need-separate-in-requires
+separate-in-requires c κs =
+    let p = c .before .before .before .before .before .before .before .before .pre in
+    let n = accepted-wellFormed _ (p .0) .most in
+    (record { accepted = p .0; map-room = omega arith; spare-room = omega arith; table-room = length-replicate {A = ℕ} 4096 0; left = p .1 .0; right = p .1 .1 .0 }, (λ i l. getD-replicate 4096 i 0 0 l, (p .1 .1 .1 .1, p .1 .1 .1 .0)))
 
 slice-aggregate-separate-in-4 : tie.Need-slice-aggregate-separate-in-4
 slice-aggregate-separate-in-4 c = search needs
 
+slice-aggregate-separate-in-5 : tie.Need-slice-aggregate-separate-in-5
+slice-aggregate-separate-in-5 c = search needs
+
+slice-aggregate-separate-in-6 : tie.Need-slice-aggregate-separate-in-6
+slice-aggregate-separate-in-6 c = search needs
+
 separate-in-requires-2 : tie.Need-separate-in-requires-2
-separate-in-requires-2 c κs = 
-    let p = c .before .before .before .before .before .before .before .pre in
+separate-in-requires-2 c κs =
+    let p = c .before .before .before .before .before .before .before .before .pre in
     let n = accepted-wellFormed _ (p .0) .most in
-    (record { accepted = p .0; map-room = omega arith; spare-room = omega arith; left = p .1 .1 .0; right = p .1 .0 }, (p .1 .1 .1 .1, λ e. p .1 .1 .1 .0 (sym e)))
+    (record { accepted = p .0; map-room = omega arith; spare-room = omega arith; table-room = length-replicate {A = ℕ} 4096 0; left = p .1 .1 .0; right = p .1 .0 }, (λ i l. getD-replicate 4096 i 0 0 l, (p .1 .1 .1 .1, λ e. p .1 .1 .1 .0 (sym e))))
 
 same-length : tie.Need-same-length
 same-length c = search needs
@@ -40,8 +48,8 @@ same-length-2 : tie.Need-same-length-2
 same-length-2 c = search needs
 
 returns-2 : tie.Need-returns-2
-returns-2 c = 
-    let e = c .before .before .before .before .separate-in2 .ensures in
+returns-2 c =
+    let e = c .before .before .before .before .before .separate-in2 .ensures in
     (earliest-swap _ _ _ _ (e .0), e .1)
 
 pub separate-spec : {M : Type 1} → statement M
@@ -50,9 +58,11 @@ separate-spec =
     (tie.spec
     slice-aggregate-separate-in
     slice-aggregate-separate-in-2
-    separate-in-requires
     slice-aggregate-separate-in-3
+    separate-in-requires
     slice-aggregate-separate-in-4
+    slice-aggregate-separate-in-5
+    slice-aggregate-separate-in-6
     separate-in-requires-2
     same-length
     returns

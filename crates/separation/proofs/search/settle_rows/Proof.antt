@@ -4,26 +4,27 @@ use native.Mathlib.Omega.{arith}
 use lib.ListN.{length}
 use Rattle.equivalence.specs.Equivalence.{byte}
 use Rattle.algebra.specs.Algebra.{algebraOf}
-use Rattle.separation.specs.Search.{Settled}
+use Rattle.separation.specs.Search.{Standing}
 use borrow.Author.Needs.{needs}
 use Rattle.separation.proofs.search.settle_rows.Statement.{statement}
 use Rattle.separation.proofs.search.settle_rows.Tie as tie
 
 abbrev Inv-loop : tie.InvT-loop
-Inv-loop m₀ spare₀ n arities cells v w x₀ m spare x = (x ≤ v + 1) × (length m ≡ length m₀) × (length spare ≡ length spare₀) × Settled (algebraOf n arities cells) v w x (x + 1) (byte m)
+Inv-loop m₀ spare₀ n arities cells refused₀ v w x₀ m spare refused x =
+    (x ≤ v + 1) × (length m ≡ length m₀) × (length spare ≡ length spare₀) × (length refused ≡ length refused₀) × Standing (algebraOf n arities cells) v w x (x + 1) refused (byte m)
 
 abbrev μ-loop : tie.MeasureT-loop
-μ-loop m₀ spare₀ n arities cells v w x₀ m spare x = v + 1 - x
+μ-loop m₀ spare₀ n arities cells refused₀ v w x₀ m spare refused x = v + 1 - x
 
 loop-holds : tie.Need-loop-holds Inv-loop μ-loop
-loop-holds c = (omega arith, refl, refl, c .before .before .before .before .pre .1)
+loop-holds c = (omega arith, refl, refl, refl, c .before .before .before .before .before .pre .1)
 
 settle-row-requires : tie.Need-settle-row-requires Inv-loop μ-loop
 settle-row-requires c κs =
-    let s = c .before .before .before .before .before .before .before .before in
+    let s = c .before .before .before .before .before .before .before .before .before .before in
     let r = s .pre .0 in
-    let i = c .before .before .before .loop .inv in
-    (record { accepted = r .accepted; map-room = omega (arith, i .1, r .map-room); spare-room = omega (arith, i .2, r .spare-room); left = r .left; right = r .right }, (omega (arith, r .left), i .3))
+    let i = c .before .before .before .before .loop .inv in
+    (record { accepted = r .accepted; map-room = omega (arith, i .1, r .map-room); spare-room = omega (arith, i .2, r .spare-room); table-room = omega (arith, i .3, r .table-room); left = r .left; right = r .right }, (omega (arith, r .left), i .4))
 
 add-x : tie.Need-add-x Inv-loop μ-loop
 add-x c = search needs
@@ -33,9 +34,9 @@ loop-less c = search needs
 
 loop-again : tie.Need-loop-again Inv-loop μ-loop
 loop-again c =
-    let l = c .before .before .before .before .before .before .before .before .loop in
+    let l = c .before .before .before .before .before .before .before .before .before .before .before .loop in
     let e : l .x + 2 ≡ l .x + 1 + 1 = omega arith in
-    (omega arith, omega arith, omega arith, rw e at (c .before .before .before .before .settle-row .ensures))
+    (omega arith, omega arith, omega arith, omega arith, rw e at (c .before .before .before .before .before .before .settle-row .ensures))
 
 same-length : tie.Need-same-length Inv-loop μ-loop
 same-length c = search needs
@@ -43,13 +44,16 @@ same-length c = search needs
 same-length-2 : tie.Need-same-length-2 Inv-loop μ-loop
 same-length-2 c = search needs
 
+same-length-3 : tie.Need-same-length-3 Inv-loop μ-loop
+same-length-3 c = search needs
+
 returns : tie.Need-returns Inv-loop μ-loop
 returns c =
     let i = c .before .loop .inv in
-    let v = c .before .before .before .before .before .before .args .v in
+    let v = c .before .before .before .before .before .before .before .args .v in
     let e : c .before .loop .x ≡ v + 1 = omega arith in
     let f : v + 1 + 1 ≡ v + 2 = omega arith in
-    rw (e, f) at (i .3)
+    rw (e, f) at (i .4)
 
 pub settle-rows-spec : {M : Type 1} → statement M
 settle-rows-spec =
@@ -64,4 +68,5 @@ settle-rows-spec =
     loop-again
     same-length
     same-length-2
+    same-length-3
     returns)
