@@ -50,7 +50,7 @@ module _ (text : List ℕ) (at s n : ℕ) (lent : List ℕ) (put : ℕ) (w : Roo
       record {
         value = λ arities. ap (afterTable (algebraOf n arities (take put lent)) s) e;
         reached = omega arith;
-        paced = omega arith
+        paced = omega arith;
       }
 
   pub table-faulty : not (t .ok) ≡ true → TableRead text at s n lent put after (refusal Text s at put)
@@ -87,7 +87,7 @@ module _ (text : List ℕ) (at s n : ℕ) (lent : List ℕ) (put : ℕ) (w : Roo
           record {
             value = λ arities. rw (table-read, cell-above n (st .new) (below ∙ not-true b f));
             reached = omega arith;
-            paced = omega arith
+            paced = omega arith;
           }
 
       pub table-defined : not b ≡ false
@@ -97,7 +97,7 @@ module _ (text : List ℕ) (at s n : ℕ) (lent : List ℕ) (put : ℕ) (w : Roo
           record {
             value = λ arities. rw (table-read, cells-below n (st .new) (below ∙ not-false b f), laid-before (st .laid));
             reached = omega (arith, begins-within text (ascii "]\n") (t .at) tt (st .reached .within) (sym eq ∙ not-false q g), st .reached .past);
-            paced = omega (arith, st .paced)
+            paced = omega (arith, st .paced);
           }
 
 -- its arity, and the tests after that
@@ -130,5 +130,5 @@ module _ (text : List ℕ) (at n operations : ℕ) (lent : List ℕ) (put : ℕ)
         record {
           value = λ arities l. arity-known arities l ∙ rw e (q .value arities);
           reached = omega (arith, q .reached, r .past);
-          paced = omega (arith, q .paced, r .past)
+          paced = omega (arith, q .paced, r .past);
         }

@@ -54,16 +54,18 @@ module _ (text : List ℕ) (at a : ℕ) (ea : a ≡ digitAt text at) where
       unfolding number
       two-digits l =
           record {
-            within = omega (arith, digit-within text (at + 1) (omega arith)); past = omega arith;
-            value = simp (number, ← ea, ← eb, ← ec, le-ltb 9 a h, ne-eqb a 0 z, le-ltb 9 b k, lt-ltb 9 c l)
+            within = omega (arith, digit-within text (at + 1) (omega arith));
+            past = omega arith;
+            value = simp (number, ← ea, ← eb, ← ec, le-ltb 9 a h, ne-eqb a 0 z, le-ltb 9 b k, lt-ltb 9 c l);
           }
 
       pub too-large : at ≤ length text → c ≤ 9 → 255 < 10 * (10 * a + b) + c → NumberRead text at (number text at) (record { ok = false; value = 0; next = at })
       unfolding number
       too-large w l m =
           record {
-            within = omega arith; past = omega arith;
-            value = simp (number, ← ea, ← eb, ← ec, le-ltb 9 a h, ne-eqb a 0 z, le-ltb 9 b k, le-ltb 9 c l, lt-ltb 255 (100 * a + 10 * b + c) (omega arith))
+            within = omega arith;
+            past = omega arith;
+            value = simp (number, ← ea, ← eb, ← ec, le-ltb 9 a h, ne-eqb a 0 z, le-ltb 9 b k, le-ltb 9 c l, lt-ltb 255 (100 * a + 10 * b + c) (omega arith));
           }
 
       pub three-digits : c ≤ 9 → 10 * (10 * a + b) + c ≤ 255 → NumberRead text at (number text at) (record { ok = true; value = 10 * (10 * a + b) + c; next = at + 3 })
@@ -71,6 +73,7 @@ module _ (text : List ℕ) (at a : ℕ) (ea : a ≡ digitAt text at) where
       three-digits l m =
           let e : 100 * a + 10 * b + c ≡ 10 * (10 * a + b) + c = omega arith in
           record {
-            within = omega (arith, digit-within text (at + 2) (omega arith)); past = omega arith;
-            value = simp (number, ← ea, ← eb, ← ec, le-ltb 9 a h, ne-eqb a 0 z, le-ltb 9 b k, le-ltb 9 c l, e, le-ltb 255 (10 * (10 * a + b) + c) m)
+            within = omega (arith, digit-within text (at + 2) (omega arith));
+            past = omega arith;
+            value = simp (number, ← ea, ← eb, ← ec, le-ltb 9 a h, ne-eqb a 0 z, le-ltb 9 b k, le-ltb 9 c l, e, le-ltb 255 (10 * (10 * a + b) + c) m);
           }

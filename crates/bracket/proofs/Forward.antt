@@ -94,7 +94,7 @@ parted-forward item p (suc zero) = p
 parted-forward item p (suc (suc k)) =
     both-forward item (λ xs. _>>_ (mark " ") (_>>=_ (parted item (suc k)) (λ ys. done (xs ++ ys)))) p
     (λ xs. marked-forward " " (_>>=_ (parted item (suc k)) (λ ys. done (xs ++ ys)))
-      (both-forward (parted item (suc k)) (λ ys. done (xs ++ ys)) (parted-forward item p (suc k)) (λ ys. done-forward (xs ++ ys))))
+    (both-forward (parted item (suc k)) (λ ys. done (xs ++ ys)) (parted-forward item p (suc k)) (λ ys. done-forward (xs ++ ys))))
 
 bracket-forward : (item : Reader (List ℕ)) → Forward 0 item → (k : ℕ) → Forward 0 (bracket item k)
 unfolding bracket
@@ -169,7 +169,7 @@ unfolding twoNumbers
 two-numbers-forward =
     both-forward spacedNumber (λ v. _>>=_ spacedNumber (λ w. _>>_ close (done (separate v w)))) spaced-number-forward
     (λ v. both-forward spacedNumber (λ w. _>>_ close (done (separate v w))) spaced-number-forward
-      (λ w. closed-forward (done (separate v w)) (done-forward (separate v w))))
+    (λ w. closed-forward (done (separate v w)) (done-forward (separate v w))))
 
 -- a request goes forward
 request-forward : Forward 1 request

@@ -49,10 +49,10 @@ laid-more lent put a mid at b after end p q =
       within = omega (arith, q .within, p .long);
       long = q .long ∙ p .long;
       bytes =
-        q .bytes
-        ∙ rw (p .place, p .bytes, take-laid lent put a h, drop-laid lent put a (length b) h, l)
-        (append-assoc (take put lent) a (b ++ drop (put + length a + length b) lent)
-        ∙ ap (λ (x : List ℕ). take put lent ++ x) (sym (append-assoc a b (drop (put + length a + length b) lent))))
+          q .bytes
+          ∙ rw (p .place, p .bytes, take-laid lent put a h, drop-laid lent put a (length b) h, l)
+          (append-assoc (take put lent) a (b ++ drop (put + length a + length b) lent)
+          ∙ ap (λ (x : List ℕ). take put lent ++ x) (sym (append-assoc a b (drop (put + length a + length b) lent))));
     }
 
 -- the first i bytes of a word are laid
@@ -70,9 +70,9 @@ module _ (lent : List ℕ) (put : ℕ) (word : List ℕ) (room : put + length wo
       record {
         passed = omega arith;
         laid =
-          rw (add-one i, take-suc word i 0 h, ← e)
-          (laid-more lent put (take i word) out (put + i) (getD word i 0 ∷ []) (set out (put + i) (getD word i 0)) (put + i + 1) (p .laid)
-          (laid-one out (put + i) (getD word i 0) (omega (arith, p .laid .long))))
+            rw (add-one i, take-suc word i 0 h, ← e)
+            (laid-more lent put (take i word) out (put + i) (getD word i 0 ∷ []) (set out (put + i) (getD word i 0)) (put + i + 1) (p .laid)
+            (laid-one out (put + i) (getD word i 0) (omega (arith, p .laid .long))));
       }
 
   pub lettered-all : (out : List ℕ) (i : ℕ) → Lettered lent put word out i → length word ≤ i → Laid lent put word out (put + i)

@@ -72,8 +72,8 @@ module _ (lent : List ℕ) (put : ℕ) (m : List ℕ) (room : put + 4 * length m
         passed = omega arith;
         short = omega (arith, p .short, q .place, spaced-one-length (getD m i 0));
         laid =
-          rw (add-one i, take-suc m i 0 h, spaced-append (take i m) (getD m i 0 ∷ []))
-          (laid-more lent put (spaced (take i m)) out at (spaced (getD m i 0 ∷ [])) out′ at′ (p .laid) q)
+            rw (add-one i, take-suc m i 0 h, spaced-append (take i m) (getD m i 0 ∷ []))
+            (laid-more lent put (spaced (take i m)) out at (spaced (getD m i 0 ∷ [])) out′ at′ (p .laid) q);
       }
 
   pub spaced-all : (out : List ℕ) (at i : ℕ) → Spaced lent put m out at i → length m ≤ i → Laid lent put (spaced m) out at
@@ -193,8 +193,8 @@ module _ (lent : List ℕ) (put n : ℕ) (maps : List ℕ) where
           place = rw (add-one i, suc-mul i n) (omega (arith, p .place));
           short = rw (add-one i, suc-mul i (4 * n + 2)) (omega (arith, p .short, simp (e, length-take) at s));
           laid =
-            rw (brackets-next n maps i, ← p .place)
-            (laid-more lent put (bracketsUpTo n maps i) out at (spacedBrackets (take n (drop from maps) ∷ [])) out′ at′ (p .laid) (rw e at q))
+              rw (brackets-next n maps i, ← p .place)
+              (laid-more lent put (bracketsUpTo n maps i) out at (spacedBrackets (take n (drop from maps) ∷ [])) out′ at′ (p .laid) (rw e at q));
         }
 
     pub factored-all : (count : ℕ) → i ≤ count → count ≤ i → Laid lent put (spacedBrackets (map (stretch n maps) (upTo count))) out at

@@ -88,7 +88,7 @@ module _ (text lent out : List ℕ) (n : Number) (r : NumberRead text 0 (sizeLin
           value = rw (found-number r h, size-fails (n .value) b e k);
           laid = l;
           sound = omega arith;
-          past = omega arith
+          past = omega arith;
         }
 
   pub first-begun : not (n .ok) ≡ false → (b : Bool) → b ≡ not (sizeTest (n .value) .applies) → not b ≡ false
@@ -101,7 +101,7 @@ module _ (text lent out : List ℕ) (n : Number) (r : NumberRead text 0 (sizeLin
         value = rw (found-number r h, size-passes (n .value) b e k);
         laid = laid-none lent 0 (omega arith);
         sound = omega (arith, size-known (n .value) b e k, r .within);
-        past = p
+        past = p;
       }
 
 -- an operation line that was refused, or gave one operation more
@@ -134,7 +134,7 @@ module _ (text : List ℕ) (s : Standing) (arities room lent out : List ℕ) (so
         value = rw (known, e, add-one (s .operations), take-suc-set arities (s .operations) (l .arity) (operation-place f e));
         laid = laid-none lent 0 (omega arith);
         sound = omega (arith, r .reached, r .paced);
-        past = omega (arith, r .reached)
+        past = omega (arith, r .reached);
       }
 
 -- a request, by what it asks
@@ -164,7 +164,7 @@ request-stepped text s arities room lent sound w after l r p out wrote a g eg =
       value = rw (r .value, front, eg) (after-asked x (r .new) (l .next) (l .asked));
       laid = rw (sub-zero (s .operations), sub-zero (s .cells), laid-part (r .laid), front) at a;
       sound = omega (arith, r .reached);
-      past = rw eg p
+      past = rw eg p;
     }
 
 -- which step a line takes

@@ -91,7 +91,7 @@ afterTable a s (found cells at) = tested (lowest (cellTest (a .size) cells ∷ [
 -- the arity and the space after it are read: 14, then 2, 3 or 4, then the table
 unfoldable pub afterArity : Algebra → List ℕ → Read ℕ → Progress
 afterArity a text fault = refused Text
-afterArity a text (found s at) = 
+afterArity a text (found s at) =
     tested (lowest (operationTests (a .size) (length (a .arities)) (length (a .cells)) s)) (afterTable a s (lastTable (a .size) s text at))
 
 -- the rest of an operation line behind `[op`

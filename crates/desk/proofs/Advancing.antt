@@ -41,7 +41,7 @@ module _ (text : List ℕ) (s : Standing) (arities room out : List ℕ) (put : �
         sixteen = omega (arith, w .sixteen);
         storage = omega (arith, w .storage);
         long = omega (arith, w .long);
-        gathered = omega (arith, w .long, gathered-fits)
+        gathered = omega (arith, w .long, gathered-fits);
       }
 
 -- the first step

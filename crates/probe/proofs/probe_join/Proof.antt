@@ -17,7 +17,7 @@ same-length : tie.Need-same-length
 same-length c = search needs
 
 returns : tie.Need-returns
-returns c = 
+returns c =
     let e = c .before .before .before .join .ensures in
     (c .written-number .ensures ∙ ap (λ (r : Written × List ℕ). packed (writtenOutcome (r .0))) e, ap (λ (r : Written × List ℕ). r .1) e)
 

@@ -17,7 +17,7 @@ same-length : tie.Need-same-length
 same-length c = search needs
 
 returns : tie.Need-returns
-returns c = 
+returns c =
     let e = c .before .before .before .quotient .ensures in
     (c .divided-number .ensures ∙ ap (λ (r : Divided × List ℕ). packed (dividedOutcome (r .0))) e, ap (λ (r : Divided × List ℕ). r .1) e)
 

@@ -17,7 +17,7 @@ same-length : tie.Need-same-length
 same-length c = search needs
 
 returns : tie.Need-returns
-returns c = 
+returns c =
     let e = c .before .before .before .decompose .ensures in
     (c .decomposed-number .ensures ∙ ap (λ (r : Decomposed × List ℕ). packed (decomposedOutcome (r .0))) e, ap (λ (r : Decomposed × List ℕ). r .1) e)
 

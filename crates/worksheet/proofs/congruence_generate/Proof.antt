@@ -18,7 +18,7 @@ same-length : tie.Need-same-length
 same-length c = search needs
 
 returns : tie.Need-returns
-returns c = 
+returns c =
     let e = c .before .before .before .generate .ensures in
     (c .generated-number .ensures ∙ ap (λ (r : Generated × List ℕ). packed (generatedOutcome (r .0))) e, ap (λ (r : Generated × List ℕ). r .1) e)
 

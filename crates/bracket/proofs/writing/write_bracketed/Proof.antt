@@ -48,11 +48,10 @@ same-length c = search needs
 
 -- src/writing.rt:73:1
 returns : tie.Need-returns
-returns c =
-    (
-      search numbers-in-bracket,
-      omega (arith, simp (length-take, length-drop) at (c .before .before .before .before .before .before .write-spaced .ensures .1)),
-    )
+returns c = (
+  search numbers-in-bracket,
+  omega (arith, simp (length-take, length-drop) at (c .before .before .before .before .before .before .write-spaced .ensures .1)),
+)
 
 pub write-bracketed-spec : {M : Type 1} → statement M
 write-bracketed-spec =
