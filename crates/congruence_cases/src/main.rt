@@ -1,5 +1,6 @@
-// Generate, Contained, Separate and Quotient on cases that a reader can check by hand: each line is a call on the bytes n, arities, cells and the
-// service's own input, its lent bytes before it all 9, and what came of it.
+// Generate, Contained, Separate, Quotient and Certify on cases that a reader can check by hand: each line is a call on the bytes n, arities, cells and
+// the service's own input, its lent bytes before it all 9, and what came of it.
+use congruence::Certified;
 use congruence::Divided;
 use congruence::Generated;
 use equivalence::Refusal;
@@ -130,6 +131,26 @@ fn quotient_short(n: usize, arities: &[u8], cells: &[u8], map: &[u8]) {
     quotient_into(n, arities, cells, map, &mut lent);
 }
 
+fn print_certified(answer: Certified) {
+    match answer {
+        Certified::Yes => print_word(b" yes"),
+        Certified::No => print_word(b" no"),
+        Certified::Refused(reason) => print_refused(reason),
+    }
+}
+
+fn print_word(word: &[u8]) {
+    io::write_all(1, word);
+}
+
+fn certify(n: usize, arities: &[u8], cells: &[u8], maps: &[u8]) {
+    print_call(b"certify", n, arities, cells);
+    print_bytes(maps);
+    io::write_all(1, b" ->");
+    print_certified(congruence::certify(n, arities, cells, maps));
+    io::write_all(1, b"\n");
+}
+
 // Document 01's examples 1 to 5, and C with (0, 1), whose pairs are found in more than one round.
 fn examples() {
     generate(4, b"\x01", b"\x01\x00\x03\x02", b"\x00\x02");
@@ -200,10 +221,66 @@ fn refused_calls() {
     quotient_short(4, b"\x01", b"\x01\x00\x03\x02", b"\x00\x01\x00\x03");
 }
 
+// U's factors, the identity of an irreducible algebra, and no map at all over one element.
+fn certified() {
+    certify(
+        4,
+        b"\x01",
+        b"\x01\x00\x03\x02",
+        b"\x00\x01\x00\x01\x00\x00\x02\x02",
+    );
+    certify(4, b"\x01", b"\x01\x02\x03\x00", b"\x00\x01\x02\x03");
+    certify(1, b"", b"", b"");
+}
+
+// What each condition says no to: a map that is no congruence; a list, and no map at all, that does not meet in the identity; a map repeated, and
+// one that is the identity beside another; the identity of a reducible algebra, and the map with one block.
+fn not_certified() {
+    certify(
+        4,
+        b"\x01",
+        b"\x01\x00\x03\x02",
+        b"\x00\x01\x00\x03\x00\x00\x02\x02",
+    );
+    certify(4, b"\x01", b"\x01\x00\x03\x02", b"\x00\x01\x00\x01");
+    certify(4, b"\x01", b"\x01\x00\x03\x02", b"");
+    certify(
+        4,
+        b"\x01",
+        b"\x01\x00\x03\x02",
+        b"\x00\x01\x00\x01\x00\x00\x02\x02\x00\x01\x00\x01",
+    );
+    certify(2, b"", b"", b"\x00\x01\x00\x00");
+    certify(4, b"\x01", b"\x01\x00\x03\x02", b"\x00\x01\x02\x03");
+    certify(1, b"", b"", b"\x00");
+}
+
+// 63 maps are a list, 64 are not; a length that is no multiple of n, and a second member that is no map; and 5 before 8.
+fn refused_lists() {
+    certify(
+        1,
+        b"",
+        b"",
+        b"\x00\x00\x00\x00\x00\x00\x00\x00\x00\x00\x00\x00\x00\x00\x00\x00\x00\x00\x00\x00\x00\x00\x00\x00\x00\x00\x00\x00\x00\x00\x00\x00\x00\x00\x00\x00\x00\x00\x00\x00\x00\x00\x00\x00\x00\x00\x00\x00\x00\x00\x00\x00\x00\x00\x00\x00\x00\x00\x00\x00\x00\x00\x00",
+    );
+    certify(
+        1,
+        b"",
+        b"",
+        b"\x00\x00\x00\x00\x00\x00\x00\x00\x00\x00\x00\x00\x00\x00\x00\x00\x00\x00\x00\x00\x00\x00\x00\x00\x00\x00\x00\x00\x00\x00\x00\x00\x00\x00\x00\x00\x00\x00\x00\x00\x00\x00\x00\x00\x00\x00\x00\x00\x00\x00\x00\x00\x00\x00\x00\x00\x00\x00\x00\x00\x00\x00\x00\x00",
+    );
+    certify(2, b"", b"", b"\x00\x01\x00");
+    certify(2, b"", b"", b"\x00\x01\x00\x02");
+    certify(2, b"\x01", b"\x00", b"\x00\x02");
+}
+
 fn main() {
     examples();
     edges();
     quotients();
     refused_algebras();
     refused_calls();
+    certified();
+    not_certified();
+    refused_lists();
 }
