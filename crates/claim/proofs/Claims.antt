@@ -27,7 +27,7 @@ use Rattle.congruence.proofs.Factors.{decomposed-yes, decomposed-no}
 use Rattle.congruence.proofs.Quotients.{quotientCells-length}
 use Rattle.congruence.proofs.Serving.{of-quotientTests}
 use Rattle.division.specs.Quotient.{quotientCells}
-use Rattle.claim.specs.Calls.{factorCount, eleven, lastCall, factorCalls, lentAfter, lastAnswer, elevens, CallsMade, LentEnough, EveryLastCall11}
+use Rattle.claim.specs.Calls.{factorCount, eleven, lastCall, factorCalls, lentAt, lastAnswer, elevens, CallsMade, LentEnough, EveryLastCall11}
 use Rattle.equivalence.specs.declared.Refusal.{Refusal}
 use Rattle.equivalence.specs.declared.Check.{Check}
 use Rattle.equivalence.specs.declared.Check.the-variants.{Passed, Failed}
@@ -192,10 +192,10 @@ pub record Calling (a : Algebra) (list : List ℕ) (before : List ℕ × List �
   pub start : place ≡ i * a .size
   pub few : drawn ≤ i
   pub counted : drawn ≡ elevens a list before i
-  pub lent : after ≡ lentAfter a list before i
+  pub lent : after ≡ lentAt a list before i
 
 pub calling-start : (a : Algebra) (list : List ℕ) (before : List ℕ × List ℕ) → Calling a list before 0 0 0 before
-unfolding elevens lentAfter
+unfolding elevens lentAt
 calling-start a list before = record { start = omega arith; few = omega arith; counted = refl; lent = refl }
 
 module _ {a : Algebra} {list : List ℕ} {before : List ℕ × List ℕ} {i place drawn : ℕ} {after : List ℕ × List ℕ} (p : Calling a list before i place drawn after) where
@@ -205,14 +205,14 @@ module _ {a : Algebra} {list : List ℕ} {before : List ℕ × List ℕ} {i plac
 
   pub calling-more : {r : Decomposed} {new : List ℕ × List ℕ} {one : ℕ} → (r, new) ≡ factorCalls a (take (place + a .size - place) (drop place list)) after → one ≡ eleven r
       → Calling a list before (i + 1) (place + a .size) (drawn + one) new
-  unfolding elevens lentAfter lastAnswer stretch
+  unfolding elevens lentAt lastAnswer stretch
   calling-more {r} {new} {one} e g =
       let wide : place + a .size - place ≡ a .size = omega arith in
-      let f : (r, new) ≡ factorCalls a (take (a .size) (drop (i * a .size) list)) (lentAfter a list before i) =
+      let f : (r, new) ≡ factorCalls a (take (a .size) (drop (i * a .size) list)) (lentAt a list before i) =
       e ∙ ap (λ (w : ℕ). factorCalls a (take w (drop place list)) after) wide ∙ ap (λ (s : ℕ). factorCalls a (take (a .size) (drop s list)) after) (p .start)
       ∙ ap (factorCalls a (take (a .size) (drop (i * a .size) list))) (p .lent) in
       let answer : r ≡ lastAnswer a list before i = ap (λ (c : Decomposed × (List ℕ × List ℕ)). c .0) f in
-      let more : new ≡ lentAfter a list before (suc i) = ap (λ (c : Decomposed × (List ℕ × List ℕ)). c .1) f in
+      let more : new ≡ lentAt a list before (suc i) = ap (λ (c : Decomposed × (List ℕ × List ℕ)). c .1) f in
       let count : drawn + one ≡ elevens a list before (suc i) = ap (λ (k : ℕ). drawn + k) (g ∙ ap eleven answer) ∙ ap (λ (d : ℕ). d + eleven (lastAnswer a list before i)) (p .counted) in
       record {
         start = omega (arith, p .start, suc-mul i (a .size));
@@ -222,7 +222,7 @@ module _ {a : Algebra} {list : List ℕ} {before : List ℕ × List ℕ} {i plac
       }
 
   -- the calls for all of them were made
-  pub calling-all : {count : ℕ} → i ≡ count → (drawn ≡ elevens a list before count) × (after ≡ lentAfter a list before count)
+  pub calling-all : {count : ℕ} → i ≡ count → (drawn ≡ elevens a list before count) × (after ≡ lentAt a list before count)
   calling-all e = rw (← e) (p .counted, p .lent)
 
 -- ---- all calls
@@ -232,7 +232,7 @@ module _ (a : Algebra) (list : List ℕ) (lent : List ℕ × List ℕ) {first : 
   pub counted-fit : length list′ ≡ length list → count * a .size ≤ length list′
   counted-fit long = rw (f, long, ap (λ (c : Decomposed × List ℕ). c .0) e) (factors-fit a list)
 
-  pub calls-made : {drawn : ℕ} {lent′ : List ℕ × List ℕ} → drawn ≡ elevens a list′ lent count → lent′ ≡ lentAfter a list′ lent count
+  pub calls-made : {drawn : ℕ} {lent′ : List ℕ × List ℕ} → drawn ≡ elevens a list′ lent count → lent′ ≡ lentAt a list′ lent count
       → CallsMade a list lent (record { first = first; elevens = drawn }) list′ lent′
   calls-made g h = record { first = e; counted = rw (← f) g; after = rw (← f) h }
 
@@ -250,16 +250,16 @@ module _ (a : Algebra) (accepted : Accepted a) (list : List ℕ) (lent : List �
 
   -- before the calls for factor i the tables have their length, and the bytes of the last call are as they were
   abbrev Kept : ℕ → Type 0
-  Kept i = (length (lentAfter a after lent i .0) ≡ length (lent .0)) × (lentAfter a after lent i .1 ≡ lent .1)
+  Kept i = (length (lentAt a after lent i .0) ≡ length (lent .0)) × (lentAt a after lent i .1 ≡ lent .1)
 
   drawn : (i : ℕ) → i < factorCount (decomposed a) → Kept i → ((x : Element) × (y : Element) × (lastAnswer a after lent i ≡ Irreducible x y)) × Kept (suc i)
-  unfolding lentAfter lastAnswer
+  unfolding lentAt lastAnswer
   drawn i l k =
-      let d = factor-drawn a (stretch (a .size) after i) (lentAfter a after lent i) (draws i l) (omega (arith, k .0, enough .tables i l)) (rw (k .1) (enough .again i l)) in
+      let d = factor-drawn a (stretch (a .size) after i) (lentAt a after lent i) (draws i l) (omega (arith, k .0, enough .tables i l)) (rw (k .1) (enough .again i l)) in
       (d .0, (d .1 ∙ k .0, d .2 ∙ k .1))
 
   kept : (i : ℕ) → i ≤ factorCount (decomposed a) → Kept i
-  unfolding lentAfter
+  unfolding lentAt
   kept zero l = (refl, refl)
   kept (suc i) l = drawn i (omega arith) (kept i (omega arith)) .1
 

@@ -38,14 +38,14 @@ unfoldable pub factorCalls : Algebra → Map → List ℕ × List ℕ → Decomp
 factorCalls a m lent =
     let divided : Divided × List ℕ = quotientCall a m (lent .0) in lastCall (a .arities) (divided .0) (divided .1) (lent .1)
 
--- what is lent after the calls for the factors below number i, whose maps stand in `list` as Decompose wrote it, factor i from byte i × n
-unfoldable pub lentAfter : Algebra → List ℕ → List ℕ × List ℕ → ℕ → List ℕ × List ℕ
-lentAfter a list lent zero = lent
-lentAfter a list lent (suc i) = factorCalls a (stretch (a .size) list i) (lentAfter a list lent i) .1
+-- what is lent when the calls for factor i begin: those for the factors below are made; `list` is as Decompose wrote it, factor i from byte i × n
+unfoldable pub lentAt : Algebra → List ℕ → List ℕ × List ℕ → ℕ → List ℕ × List ℕ
+lentAt a list lent zero = lent
+lentAt a list lent (suc i) = factorCalls a (stretch (a .size) list i) (lentAt a list lent i) .1
 
 -- what the last call for factor i answers
 unfoldable pub lastAnswer : Algebra → List ℕ → List ℕ × List ℕ → ℕ → Decomposed
-lastAnswer a list lent i = factorCalls a (stretch (a .size) list i) (lentAfter a list lent i) .0
+lastAnswer a list lent i = factorCalls a (stretch (a .size) list i) (lentAt a list lent i) .0
 
 -- how many of the last calls for the factors below number i answer 11
 unfoldable pub elevens : Algebra → List ℕ → List ℕ × List ℕ → ℕ → ℕ
@@ -56,7 +56,7 @@ elevens a list lent (suc i) = elevens a list lent i + eleven (lastAnswer a list 
 pub record CallsMade (a : Algebra) (list : List ℕ) (lent : List ℕ × List ℕ) (r : Drawn) (list′ : List ℕ) (lent′ : List ℕ × List ℕ) : Type 0 where
   pub first : (r .first, list′) ≡ decomposeCall a list
   pub counted : r .elevens ≡ elevens a list′ lent (factorCount (r .first))
-  pub after : lent′ ≡ lentAfter a list′ lent (factorCount (r .first))
+  pub after : lent′ ≡ lentAt a list′ lent (factorCount (r .first))
 
 -- each call is lent at least the space that its service wants
 pub record LentEnough (a : Algebra) (list : List ℕ) (lent : List ℕ × List ℕ) : Type 0 where

@@ -6,7 +6,7 @@ ghost use lib.ListN.{length, getD, take};
 ghost use Rattle.algebra.specs.Algebra.{algebraOf, cellCount};
 ghost use Rattle.algebra.specs.Accepted.{Accepted};
 ghost use Rattle.congruence.specs.Calls.{decomposeCall};
-ghost use Rattle.claim.specs.Calls.{factorCount, eleven, factorCalls, lentAfter, elevens, CallsMade, LentEnough, EveryLastCall11};
+ghost use Rattle.claim.specs.Calls.{factorCount, eleven, factorCalls, lentAt, elevens, CallsMade, LentEnough, EveryLastCall11};
 use congruence::Decomposed;
 use congruence::Divided;
 
@@ -80,7 +80,7 @@ fn elevens_among(
 ) -> usize
     requires { ⌜ count * n ≤ length (now list) ⌝ }
     ensures { λ r. ⌜ r ≡ elevens (algebraOf n (now (arities .entry)) (now (cells .entry))) (now (list .entry)) (now (tables .entry), now (again .entry)) count ⌝ }
-    ensures { λ _. ⌜ (now (tables .exit), now (again .exit)) ≡ lentAfter (algebraOf n (now (arities .entry)) (now (cells .entry))) (now (list .entry)) (now (tables .entry), now (again .entry)) count ⌝ }
+    ensures { λ _. ⌜ (now (tables .exit), now (again .exit)) ≡ lentAt (algebraOf n (now (arities .entry)) (now (cells .entry))) (now (list .entry)) (now (tables .entry), now (again .entry)) count ⌝ }
 {
     let mut drawn = 0;
     let mut i = 0;

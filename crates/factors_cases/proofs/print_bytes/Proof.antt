@@ -1,3 +1,4 @@
+-- `print_bytes`: the index stays within the slice.
 use Prim.Native.Nat.{_-_, _≤_}
 use lib.ListN.{length}
 use borrow.Author.Needs.{needs}
