@@ -24,7 +24,7 @@ cast-shift : tie.Need-cast-shift Inv-loop μ-loop
 cast-shift c = omega (arith, c .shared-slice-known .given (c .before .before .loop .i))
 
 mul-shift : tie.Need-mul-shift Inv-loop μ-loop
-mul-shift c = 
+mul-shift c =
     let s = c .before .before .before in
     let l = c .before .before .loop in
     let k = c .before .loop-test .taken in
@@ -32,7 +32,7 @@ mul-shift c =
     omega (arith, x .cells-most, s .pre .1 .1 .0 .inside (byte (s .args .live .now) (l .i)) (x .live-below (l .i) k))
 
 add-a : tie.Need-add-a Inv-loop μ-loop
-add-a c = 
+add-a c =
     let s = c .before .before .before in
     let l = c .before .before .loop in
     let k = c .before .loop-test .taken in
@@ -40,7 +40,7 @@ add-a c =
     omega (arith, x .cells-most, s .pre .1 .1 .0 .inside (byte (s .args .live .now) (l .i)) (x .live-below (l .i) k))
 
 shared-slice-read-a : tie.Need-shared-slice-read-a Inv-loop μ-loop
-shared-slice-read-a c = 
+shared-slice-read-a c =
     let s = c .before .before .before .before in
     let l = c .before .before .before .loop in
     let k = c .before .before .loop-test .taken in
@@ -48,7 +48,7 @@ shared-slice-read-a c =
     omega (arith, s .pre .1 .1 .0 .inside (byte (s .args .live .now) (l .i)) (x .live-below (l .i) k))
 
 cast-a : tie.Need-cast-a Inv-loop μ-loop
-cast-a c = 
+cast-a c =
     let s = c .before .before .before .before in
     let l = c .before .before .before .loop in
     let k = c .before .before .loop-test .taken in
@@ -56,7 +56,7 @@ cast-a c =
     omega (arith, x .size, line-cell x (s .pre .1 .1 .0) (l .i) k)
 
 add-b : tie.Need-add-b Inv-loop μ-loop
-add-b c = 
+add-b c =
     let s = c .before .before .before .before in
     let l = c .before .before .before .loop in
     let k = c .before .before .loop-test .taken in
@@ -64,7 +64,7 @@ add-b c =
     omega (arith, x .cells-most, s .pre .1 .1 .1 .0 .inside (byte (s .args .live .now) (l .i)) (x .live-below (l .i) k))
 
 shared-slice-read-b : tie.Need-shared-slice-read-b Inv-loop μ-loop
-shared-slice-read-b c = 
+shared-slice-read-b c =
     let s = c .before .before .before .before .before in
     let l = c .before .before .before .before .loop in
     let k = c .before .before .before .loop-test .taken in
@@ -72,7 +72,7 @@ shared-slice-read-b c =
     omega (arith, s .pre .1 .1 .1 .0 .inside (byte (s .args .live .now) (l .i)) (x .live-below (l .i) k))
 
 cast-b : tie.Need-cast-b Inv-loop μ-loop
-cast-b c = 
+cast-b c =
     let s = c .before .before .before .before .before in
     let l = c .before .before .before .before .loop in
     let k = c .before .before .before .loop-test .taken in
@@ -80,7 +80,7 @@ cast-b c =
     omega (arith, x .size, line-cell x (s .pre .1 .1 .1 .0) (l .i) k)
 
 shared-slice-read-if1 : tie.Need-shared-slice-read-if1 Inv-loop μ-loop
-shared-slice-read-if1 c = 
+shared-slice-read-if1 c =
     let s = c .before .before .before .before .before .before in
     let l = c .before .before .before .before .before .loop in
     let k = c .before .before .before .before .loop-test .taken in
@@ -88,7 +88,7 @@ shared-slice-read-if1 c =
     omega (arith, s .pre .0, line-cell x (s .pre .1 .1 .0) (l .i) k)
 
 shared-slice-read-if1-2 : tie.Need-shared-slice-read-if1-2 Inv-loop μ-loop
-shared-slice-read-if1-2 c = 
+shared-slice-read-if1-2 c =
     let s = c .before .before .before .before .before .before .before in
     let l = c .before .before .before .before .before .before .loop in
     let k = c .before .before .before .before .before .loop-test .taken in

@@ -20,7 +20,7 @@ loop-holds : tie.Need-loop-holds Inv-loop μ-loop
 loop-holds c = (omega arith, since-none _ _ _ (c .before .before .before .before .before .pre .0), λ j l. absurd (omega arith))
 
 apart-from-requires : tie.Need-apart-from-requires Inv-loop μ-loop
-apart-from-requires c κs = 
+apart-from-requires c κs =
     let s = c .before .before .before .before .before .before .before .before in
     (since-ready (s .pre .0) (c .before .before .loop .inv .1) .map-room, (s .pre .1 .1 .0, (s .pre .1 .1 .1 .0, (s .pre .1 .1 .1 .1, c .before .before .loop .inv .0))))
 
@@ -40,7 +40,7 @@ cast-shift : tie.Need-cast-shift Inv-loop μ-loop
 cast-shift c = omega (arith, c .shared-slice-known4 .given (c .before .before .apart-from .result))
 
 mul-shift : tie.Need-mul-shift Inv-loop μ-loop
-mul-shift c = 
+mul-shift c =
     let s = c .before .before .before .before .before .before .before .before .before .before .before in
     let j = c .before .before .apart-from .result in
     let k = c .before .if1 .left in
@@ -48,7 +48,7 @@ mul-shift c =
     omega (arith, x .cells-most, s .pre .1 .1 .1 .0 .inside (byte (s .args .live .now) j) (x .live-below j k))
 
 add-step : tie.Need-add-step Inv-loop μ-loop
-add-step c = 
+add-step c =
     let s = c .before .before .before .before .before .before .before .before .before .before .before .before .before in
     let j = c .before .before .before .before .apart-from .result in
     let k = c .before .before .before .if1 .left in
@@ -56,7 +56,7 @@ add-step c =
     omega (arith, x .cells-most, s .pre .1 .1 .1 .0 .inside (byte (s .args .live .now) j) (x .live-below j k))
 
 shared-slice-read-step : tie.Need-shared-slice-read-step Inv-loop μ-loop
-shared-slice-read-step c = 
+shared-slice-read-step c =
     let s = c .before .before .before .before .before .before .before .before .before .before .before .before .before .before in
     let j = c .before .before .before .before .before .apart-from .result in
     let k = c .before .before .before .before .if1 .left in
@@ -64,7 +64,7 @@ shared-slice-read-step c =
     omega (arith, s .pre .1 .1 .1 .0 .inside (byte (s .args .live .now) j) (x .live-below j k))
 
 add-step-2 : tie.Need-add-step-2 Inv-loop μ-loop
-add-step-2 c = 
+add-step-2 c =
     let s = c .before .before .before .before .before .before .before .before .before .before .before .before .before .before in
     let j = c .before .before .before .before .before .apart-from .result in
     let k = c .before .before .before .before .if1 .left in
@@ -72,7 +72,7 @@ add-step-2 c =
     omega (arith, x .cells-most, s .pre .1 .1 .1 .1 .inside (byte (s .args .live .now) j) (x .live-below j k))
 
 shared-slice-read-step-2 : tie.Need-shared-slice-read-step-2 Inv-loop μ-loop
-shared-slice-read-step-2 c = 
+shared-slice-read-step-2 c =
     let s = c .before .before .before .before .before .before .before .before .before .before .before .before .before .before .before in
     let j = c .before .before .before .before .before .before .apart-from .result in
     let k = c .before .before .before .before .before .if1 .left in
@@ -80,7 +80,7 @@ shared-slice-read-step-2 c =
     omega (arith, s .pre .1 .1 .1 .1 .inside (byte (s .args .live .now) j) (x .live-below j k))
 
 step-requires : tie.Need-step-requires Inv-loop μ-loop
-step-requires c κs = 
+step-requires c κs =
     let s = c .before .before .before .before .before .before .before .before .before .before .before .before .before .before .before in
     let j = c .before .before .before .before .before .before .apart-from .result in
     let k = c .before .before .before .before .before .if1 .left in
@@ -89,7 +89,7 @@ step-requires c κs =
     (since-ready (s .pre .0) (c .before .before .before .before .before .before .before .before .before .loop .inv .1), (x .size, (line-cell x (s .pre .1 .1 .1 .0) j k, (line-cell x (s .pre .1 .1 .1 .1) j k, (b .left, b .right)))))
 
 halted-requires : tie.Need-halted-requires Inv-loop μ-loop
-halted-requires c κs = 
+halted-requires c κs =
     let b = c .before .before .before .before .before .before .before .before .before .before .before .before .before .before .before .before .before .before .before .before .before .pre .1 .0 in
     let r = since-ready (c .before .before .before .before .before .before .before .before .before .before .before .before .before .before .before .before .before .before .before .before .before .pre .0) (c .before .before .before .before .before .before .before .before .before .before .before .before .before .before .before .loop .inv .1) in
     (omega (arith, b .left, r .map-room, c .before .before .before .before .before .step .kept .0), omega (arith, b .right, r .map-room, c .before .before .before .before .before .step .kept .0))
@@ -101,7 +101,7 @@ same-length-4 : tie.Need-same-length-4 Inv-loop μ-loop
 same-length-4 c = omega arith
 
 returns-2 : tie.Need-returns-2 Inv-loop μ-loop
-returns-2 c = 
+returns-2 c =
     let s = c .before .before .before .before .before .before .before .before .before .before .before .before .before .before .before .before .before .before .before .before .before .before .before in
     let l = c .before .before .before .before .before .before .before .before .before .before .before .before .before .before .before .before .before .loop in
     let j = c .before .before .before .before .before .before .before .before .before .before .before .before .before .before .apart-from .result in
@@ -120,7 +120,7 @@ loop-less : tie.Need-loop-less Inv-loop μ-loop
 loop-less c = omega (arith, c .before .before .before .before .before .before .before .before .before .before .before .before .before .if1 .left, c .before .before .before .before .before .before .before .before .before .before .before .before .before .before .apart-from .ensures .after)
 
 loop-again : tie.Need-loop-again Inv-loop μ-loop
-loop-again c = 
+loop-again c =
     let s = c .before .before .before .before .before .before .before .before .before .before .before .before .before .before .before .before .before .before .before .before .before .before .before in
     let l = c .before .before .before .before .before .before .before .before .before .before .before .before .before .before .before .before .before .loop in
     let j = c .before .before .before .before .before .before .before .before .before .before .before .before .before .before .apart-from .result in
