@@ -12,7 +12,7 @@ use borrow.Author.Tests.{eq-eqb}
 use Rattle.equivalence.specs.Equivalence.{byte, inside}
 use Rattle.equivalence.specs.Kernel.{Canonical, Within, bit, names}
 use Rattle.equivalence.proofs.Kernels.{names-positive}
-use Rattle.closure.specs.Contexts.{OnLine, OnPlane, Contexts, LineFits, PlaneFits, TableFits, Joined, Unless, Halts, Bounded, Marked, Heeds, Meets}
+use Rattle.closure.specs.Contexts.{OnLine, OnPlane, Contexts, LineFits, PlaneFits, TableFits, Joined, Unless, Halts, Bounded, Marked, Heeds, Meets, Passed}
 use Rattle.closure.specs.Queue.{State, Ready, Grown}
 use Rattle.closure.proofs.Queues.{Since}
 
@@ -23,6 +23,24 @@ each-more J f f′ {i} w h e j l = elim (ℕ-discrete j i) [
   | yes p ↦ subst (λ (k : ℕ). J k f′) (sym p) e
   | no p ↦ w j (omega arith) (h j (omega arith))
 ]
+
+pub passed-none : {cells live : List ℕ} {count step p q i : ℕ} {f : ℕ → ℕ} → i ≤ count → Passed cells live count step p q i i f
+passed-none l = record { after = omega arith; most = l; joined = λ k a b. absurd (omega arith) }
+
+pub passed-more : {cells live : List ℕ} {count step p q i r : ℕ} {f : ℕ → ℕ} → Passed cells live count step p q i r f → r < count
+    → f (byte cells (p + byte live r * step)) ≡ f (byte cells (q + byte live r * step)) → Passed cells live count step p q i (r + 1) f
+passed-more {cells} {live} {step = step} {p} {q} {r = r} {f} s l e = record {
+  after = omega (arith, s .after);
+  most = omega arith;
+  joined = λ k a b. elim (ℕ-discrete k r) [
+    | yes h ↦ subst (λ (z : ℕ). f (byte cells (p + byte live z * step)) ≡ f (byte cells (q + byte live z * step))) (sym h) e
+    | no h ↦ s .joined k a (omega arith)
+  ];
+}
+
+-- a line joined up to i, and from there to r
+pub line-passed : {cells live : List ℕ} {count step p q i r : ℕ} {f : ℕ → ℕ} → OnLine cells live i step p q f → Passed cells live count step p q i r f → OnLine cells live r step p q f
+line-passed {i = i} o s k l = elim (decLt k i) [ yes h ↦ o k h | no h ↦ s .joined k (omega arith) l ]
 
 module _ {n : ℕ} {cells live : List ℕ} {count : ℕ} (x : Contexts n cells live count) where
   pub line-cell : {step p : ℕ} → LineFits n cells step p → (i : ℕ) → i < count → byte cells (p + byte live i * step) < n

@@ -36,6 +36,12 @@ OnLine cells live count step p q g = (i : ℕ) → i < count → g (byte cells (
 abbrev pub OnPlane : List ℕ → List ℕ → ℕ → ℕ → ℕ → ℕ → ℕ → (ℕ → ℕ) → Type 0
 OnPlane cells live count row step p q g = (i : ℕ) → i < count → OnLine cells live count step (p + byte live i * row) (q + byte live i * row) g
 
+-- from index i on, up to r, f joins the cells of a line
+pub record Passed (cells live : List ℕ) (count step p q i r : ℕ) (f : ℕ → ℕ) : Type 0 where
+  pub after : i ≤ r
+  pub most : r ≤ count
+  pub joined : (k : ℕ) → i ≤ k → k < r → f (byte cells (p + byte live k * step)) ≡ f (byte cells (q + byte live k * step))
+
 -- the cells of an operation of arity s whose table is at o
 abbrev pub OnTable : ℕ → List ℕ → List ℕ → ℕ → ℕ → ℕ → ℕ → ℕ → (ℕ → ℕ) → Type 0
 OnTable n cells live count o zero x y g = Unit {0}

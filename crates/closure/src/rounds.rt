@@ -39,7 +39,7 @@ fn retire(live: &mut [u8], count: usize, b: u8) -> usize
 }
 
 // Each queued element goes, with the name of its block, through all translations whose other arguments are in use, and is in use no
-// more after that. How many elements were queued in all.
+// more after that. How many elements were queued in all. Where v and w are one, the table `refused` is not looked at, and any will do.
 pub fn close(
     m: &mut [u8],
     n: usize,

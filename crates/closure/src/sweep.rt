@@ -9,7 +9,7 @@ ghost use Rattle.equivalence.specs.Equivalence.{byte};
 ghost use Rattle.closure.specs.Queue.{state, Ready, Grown};
 ghost use Rattle.algebra.specs.Algebra.{algebraOf};
 ghost use Rattle.algebra.specs.Accepted.{Accepted};
-ghost use Rattle.closure.specs.Contexts.{Listed, OperationsIn, OnLine, OnPlane, OnTable, Contexts, LineFits, PlaneFits, TableFits, Unless, Halts, Bounded, Heeds, Meets};
+ghost use Rattle.closure.specs.Contexts.{Listed, OperationsIn, OnLine, OnPlane, OnTable, Contexts, LineFits, PlaneFits, TableFits, Unless, Halts, Bounded, Heeds, Meets, Passed};
 
 // Is nothing more to be done?
 pub fn halted(m: &[u8], len: usize, limit: usize, v: usize, w: usize) -> bool
@@ -24,18 +24,6 @@ pub fn halted(m: &[u8], len: usize, limit: usize, v: usize, w: usize) -> bool
         return false;
     }
     m[v] == m[w]
-}
-
-// Is nothing more to be done, after a step that may have merged?
-fn over(m: &[u8], before: usize, len: usize, limit: usize, v: usize, w: usize) -> bool
-    requires { ⌜ v < length (now m) ⌝ }
-    requires { ⌜ w < length (now m) ⌝ }
-    ensures { λ r. ⌜ (r ≡ true → Halts limit len v w (byte (now (m .entry)))) ⌝ }
-{
-    if before == len {
-        return false;
-    }
-    halted(m, len, limit, v, w)
 }
 
 // Has the last merge joined a marked pair? Only the name that it took away and the name that took its place are looked at.
@@ -88,6 +76,38 @@ fn step(
     crate::queue::join(m, n, queue, len, v as u8, w as u8)
 }
 
+// The first index from `start` on at which the cells of a line are apart in m, or `count`.
+fn apart_from(
+    m: &[u8],
+    n: usize,
+    cells: &[u8],
+    live: &[u8],
+    count: usize,
+    stride: usize,
+    p: usize,
+    q: usize,
+    start: usize,
+) -> usize
+    requires { ⌜ n ≤ length (now m) ⌝ }
+    requires { ⌜ Contexts n (now cells) (now live) count ⌝ }
+    requires { ⌜ LineFits n (now cells) stride p ⌝ }
+    requires { ⌜ LineFits n (now cells) stride q ⌝ }
+    requires { ⌜ start ≤ count ⌝ }
+    ensures { λ r. ⌜ Passed (now (cells .entry)) (now (live .entry)) count stride p q start r (byte (now (m .entry))) ⌝ }
+{
+    let mut i = start;
+    while i < count {
+        let shift = live[i] as usize * stride;
+        let a = cells[p + shift] as usize;
+        let b = cells[q + shift] as usize;
+        if m[a] != m[b] {
+            return i;
+        }
+        i += 1;
+    }
+    count
+}
+
 // One other argument, which moves the cells by `stride`.
 fn line(
     m: &mut [u8],
@@ -116,8 +136,11 @@ fn line(
     let mut len = start;
     let mut i = 0;
     while i < count {
-        let before = len;
-        let shift = live[i] as usize * stride;
+        let j = apart_from(m, n, cells, live, count, stride, p, q, i);
+        if j >= count {
+            return len;
+        }
+        let shift = live[j] as usize * stride;
         len = step(
             m,
             n,
@@ -129,10 +152,10 @@ fn line(
             v,
             w,
         );
-        if over(m, before, len, limit, v, w) {
+        if halted(m, len, limit, v, w) {
             return len;
         }
-        i += 1;
+        i = j + 1;
     }
     len
 }
