@@ -136,7 +136,7 @@ factors-fit n arities cells before factors out d z e g =
     record {
       fits = z .fits;
       list = e ∙ ap length (z .zeros) ∙ length-replicate ((n - 1) * n) 0;
-      few = λ k h. factors-few (algebraOf n arities cells) before factors d g k h
+      few = λ k h. factors-few (algebraOf n arities cells) before factors d g k h;
     }
 
 pub decompose-answered : (n : ℕ) (arities cells before factors lent out : List ℕ) (end : ℕ) (d : Decomposed) → ZeroFactors n before lent

@@ -1,7 +1,7 @@
 -- Requests: each way their lines come to an end.
-use Prim.Native.Nat.{ℕ, _+_, _-_, _≤_, _<_}
+use Prim.Native.Nat.{ℕ, _+_, _≤_}
 use mathlib.Core.Bool.{Bool, true, false, not}
-use mathlib.Core.List.{List, [], _∷_}
+use mathlib.Core.List.{List, []}
 use mathlib.Core.Path.{_≡_, refl, ap, sym, _∙_}
 use native.Mathlib.Omega.{arith}
 use borrow.Author.Tests.{not-true, not-false}
@@ -11,7 +11,7 @@ use Rattle.equivalence.specs.Lists.{every}
 use Rattle.bracket.specs.Reading.{ascii, Read, found, fault, Reader, _>>=_, _>>_, done, failed, begins, opened}
 use Rattle.bracket.specs.Tables.{cell, table, pair, items}
 use Rattle.bracket.specs.Lines.{close, spacedNumber, Request, generate, contained, separate, decompose, listing, generating, containing, twoNumbers, request}
-use Rattle.bracket.specs.Promises.{readOf, NumberRead, Laid, Roomy, Stored, bit, requestOf, Requested, RequestRead}
+use Rattle.bracket.specs.Promises.{readOf, NumberRead, Roomy, Stored, bit, requestOf, Requested, RequestRead}
 use Rattle.bracket.specs.declared.reading.Number.{Number}
 use Rattle.bracket.specs.declared.reading.Spot.{Spot}
 use Rattle.bracket.specs.declared.requests.Asked.{Asked}
@@ -61,11 +61,11 @@ module _ (text : List ℕ) (at : ℕ) (lent : List ℕ) (put : ℕ) (item : Read
         record {
           new = s .new;
           value =
-            listing-found
-            ∙ then-found close (λ _. done (s .new)) text (r .at) tt (r .at + 2) (close-found text (r .at) (sym eq ∙ not-false q g));
+              listing-found
+              ∙ then-found close (λ _. done (s .new)) text (r .at) tt (r .at + 2) (close-found text (r .at) (sym eq ∙ not-false q g));
           laid = s .laid;
           reached = omega (arith, begins-within text (ascii "]\n") (r .at) tt (s .reached .within) (sym eq ∙ not-false q g), s .reached .past);
-          paced = omega (arith, s .paced)
+          paced = omega (arith, s .paced);
         }
 
 -- a request of a list that was read and stored
@@ -133,11 +133,11 @@ module _ (text : List ℕ) (at : ℕ) (put : ℕ) (w : at ≤ length text) (v : 
       separate-read g =
           record {
             value =
-              two
-              ∙ then-found close (λ _. done (separate (v .value) (u .value))) text (u .next) tt (u .next + 2)
-              (close-found text (u .next) (sym eq ∙ not-false q g));
+                two
+                ∙ then-found close (λ _. done (separate (v .value) (u .value))) text (u .next) tt (u .next + 2)
+                (close-found text (u .next) (sym eq ∙ not-false q g));
             end = refl;
-            reached = omega (arith, begins-within text (ascii "]\n") (u .next) tt (ru .within) (sym eq ∙ not-false q g), rv .past, ru .past)
+            reached = omega (arith, begins-within text (ascii "]\n") (u .next) tt (ru .within) (sym eq ∙ not-false q g), rv .past, ru .past);
           }
 
 pub bit-small : (b : Bool) → bit b ≤ 1
@@ -175,7 +175,7 @@ module _ (text : List ℕ) (at : ℕ) (lent : List ℕ) (put : ℕ) (w : Roomy t
         new = [];
         value = e ∙ q .value;
         laid = rw (q .end) (laid-none lent put (omega arith));
-        reached = omega (arith, q .reached)
+        reached = omega (arith, q .reached);
       }
 
   module _ (a : Bool) (ea : a ≡ begins text at (ascii "[generate")) where
@@ -220,7 +220,7 @@ module _ (text : List ℕ) (at : ℕ) (lent : List ℕ) (put : ℕ) (w : Roomy t
               (record {
                 value = refl;
                 end = refl;
-                reached = omega (arith, begins-within text (ascii "[decompose]\n") at tt (w .within) (sym ed ∙ h))
+                reached = omega (arith, begins-within text (ascii "[decompose]\n") at tt (w .within) (sym ed ∙ h));
               })
 
           pub ask-nothing : d ≡ false → Requested text at lent put (request text at) lent (asking Nothing at put)

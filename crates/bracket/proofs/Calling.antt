@@ -2,7 +2,7 @@
 use Prim.Native.Nat.{ℕ, _≤_, _<_}
 use mathlib.Core.Bool.{Bool, true, false, not, _&&_}
 use mathlib.Core.List.{List}
-use mathlib.Core.Path.{_≡_, refl, ap, sym, _∙_, subst}
+use mathlib.Core.Path.{_≡_, refl, sym, _∙_, subst}
 use native.Mathlib.Omega.{arith}
 use borrow.Author.Tests.{not-true, not-false, le-leb, lt-leb, leb-true}
 use lib.Dec.{T, leb}
@@ -86,19 +86,18 @@ module _ (text : List ℕ) (s : Standing) (arities room lent : List ℕ) where
       let t4 = and-right (leb (s .size) 64) few t3 in
       let t5 = and-right (leb (s .operations) 16) paced t4 in
       let t6 = and-right (leb (s .cells) (s .at)) sixteen t5 in
-      let t7 = and-right (leb 16 (length arities)) storage t6 in
-      (
+      let t7 = and-right (leb 16 (length arities)) storage t6 in (
         record {
           within = leb-true (s .at) (length text) (and-left (leb (s .at) (length text)) some t1);
           some = leb-true 1 (s .size) (and-left (leb 1 (s .size)) most t2);
           most = leb-true (s .size) 64 (and-left (leb (s .size) 64) few t3);
           few = leb-true (s .operations) 16 (and-left (leb (s .operations) 16) paced t4);
-          paced = leb-true (s .cells) (s .at) (and-left (leb (s .cells) (s .at)) sixteen t5)
+          paced = leb-true (s .cells) (s .at) (and-left (leb (s .cells) (s .at)) sixteen t5);
         },
         record {
           sixteen = leb-true 16 (length arities) (and-left (leb 16 (length arities)) storage t6);
           storage = leb-true (length text) (length room) (and-left (leb (length text) (length room)) line t7);
-          line = leb-true 16384 (length lent) (and-right (leb (length text) (length room)) line t7)
+          line = leb-true 16384 (length lent) (and-right (leb (length text) (length room)) line t7);
         },
       )
 

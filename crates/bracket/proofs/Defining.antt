@@ -1,8 +1,8 @@
 -- Operation lines: each way they come to an end.
-use Prim.Native.Nat.{ℕ, _+_, _-_, _≤_, _<_}
+use Prim.Native.Nat.{ℕ, _+_, _-_}
 use mathlib.Core.Bool.{Bool, true, false, not}
-use mathlib.Core.List.{List, [], _∷_, _++_}
-use mathlib.Core.Path.{_≡_, refl, ap, sym, _∙_}
+use mathlib.Core.List.{List, [], _∷_}
+use mathlib.Core.Path.{_≡_, ap, sym, _∙_}
 use native.Mathlib.Omega.{arith}
 use borrow.Author.Tests.{not-true, not-false}
 use lib.Dec.{ltb}
@@ -15,10 +15,10 @@ use Rattle.equivalence.specs.declared.Refusal.{Refusal}
 use Rattle.equivalence.specs.declared.Refusal.the-variants.{Cell, Text}
 use Rattle.equivalence.specs.declared.Check.{Check}
 use Rattle.equivalence.specs.declared.Check.the-variants.{Passed, Failed}
-use Rattle.algebra.specs.Algebra.{Algebra, algebraOf}
-use Rattle.bracket.specs.Reading.{ascii, found, fault, _>>=_, _>>_, done, begins}
+use Rattle.algebra.specs.Algebra.{algebraOf}
+use Rattle.bracket.specs.Reading.{ascii, found, fault, _>>_, done, begins}
 use Rattle.bracket.specs.Tables.{table}
-use Rattle.bracket.specs.Lines.{Progress, defined, refused, close, tested, arity, lastTable, operationTests, cellTest, withOperation, afterTable, afterArity, operation}
+use Rattle.bracket.specs.Lines.{refused, close, tested, arity, lastTable, operationTests, cellTest, withOperation, afterTable, afterArity, operation}
 use Rattle.bracket.specs.Promises.{readOf, NumberRead, Roomy, Stored, tableProgress, TableRead, operationProgress, OperationRead}
 use Rattle.bracket.specs.declared.lines.OperationLine.{OperationLine}
 use Rattle.bracket.specs.declared.reading.Number.{Number}
@@ -50,7 +50,7 @@ module _ (text : List ℕ) (at s n : ℕ) (lent : List ℕ) (put : ℕ) (w : Roo
       record {
         value = λ arities. ap (afterTable (algebraOf n arities (take put lent)) s) e;
         reached = omega arith;
-        paced = omega arith
+        paced = omega arith;
       }
 
   pub table-faulty : not (t .ok) ≡ true → TableRead text at s n lent put after (refusal Text s at put)
@@ -87,7 +87,7 @@ module _ (text : List ℕ) (at s n : ℕ) (lent : List ℕ) (put : ℕ) (w : Roo
           record {
             value = λ arities. rw (table-read, cell-above n (st .new) (below ∙ not-true b f));
             reached = omega arith;
-            paced = omega arith
+            paced = omega arith;
           }
 
       pub table-defined : not b ≡ false
@@ -97,7 +97,7 @@ module _ (text : List ℕ) (at s n : ℕ) (lent : List ℕ) (put : ℕ) (w : Roo
           record {
             value = λ arities. rw (table-read, cells-below n (st .new) (below ∙ not-false b f), laid-before (st .laid));
             reached = omega (arith, begins-within text (ascii "]\n") (t .at) tt (st .reached .within) (sym eq ∙ not-false q g), st .reached .past);
-            paced = omega (arith, st .paced)
+            paced = omega (arith, st .paced);
           }
 
 -- its arity, and the tests after that
@@ -130,5 +130,5 @@ module _ (text : List ℕ) (at n operations : ℕ) (lent : List ℕ) (put : ℕ)
         record {
           value = λ arities l. arity-known arities l ∙ rw e (q .value arities);
           reached = omega (arith, q .reached, r .past);
-          paced = omega (arith, q .paced, r .past)
+          paced = omega (arith, q .paced, r .past);
         }

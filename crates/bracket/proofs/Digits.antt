@@ -1,15 +1,14 @@
 -- Digits and numbers: what stands at a place decides what `number` finds there.
 use Prim.Native.Nat.{ℕ, _+_, _-_, _*_, _≤_, _<_}
-use mathlib.Core.Bool.{Bool, true, false, _&&_, _||_}
+use mathlib.Core.Bool.{true, false}
 use mathlib.Core.List.{List}
-use mathlib.Core.Path.{_≡_, refl, ap, sym, _∙_}
+use mathlib.Core.Path.{_≡_}
 use native.Mathlib.Decide.{decLt}
 use native.Mathlib.Omega.{arith}
 use borrow.Author.Tests.{lt-ltb, le-ltb, le-leb, lt-leb, eq-eqb, ne-eqb}
-use lib.Dec.{eqb, leb, ltb}
 use lib.ListN.{length}
-use Rattle.bracket.specs.Reading.{found, fault, byteAt}
-use Rattle.bracket.specs.Numbers.{digitAt, threeAt, number}
+use Rattle.bracket.specs.Reading.{byteAt}
+use Rattle.bracket.specs.Numbers.{digitAt, number}
 use Rattle.bracket.specs.Promises.{NumberRead}
 use Rattle.bracket.proofs.Readers.{within-text}
 
@@ -54,16 +53,18 @@ module _ (text : List ℕ) (at a : ℕ) (ea : a ≡ digitAt text at) where
       unfolding number
       two-digits l =
           record {
-            within = omega (arith, digit-within text (at + 1) (omega arith)); past = omega arith;
-            value = simp (number, ← ea, ← eb, ← ec, le-ltb 9 a h, ne-eqb a 0 z, le-ltb 9 b k, lt-ltb 9 c l)
+            within = omega (arith, digit-within text (at + 1) (omega arith));
+            past = omega arith;
+            value = simp (number, ← ea, ← eb, ← ec, le-ltb 9 a h, ne-eqb a 0 z, le-ltb 9 b k, lt-ltb 9 c l);
           }
 
       pub too-large : at ≤ length text → c ≤ 9 → 255 < 10 * (10 * a + b) + c → NumberRead text at (number text at) (record { ok = false; value = 0; next = at })
       unfolding number
       too-large w l m =
           record {
-            within = omega arith; past = omega arith;
-            value = simp (number, ← ea, ← eb, ← ec, le-ltb 9 a h, ne-eqb a 0 z, le-ltb 9 b k, le-ltb 9 c l, lt-ltb 255 (100 * a + 10 * b + c) (omega arith))
+            within = omega arith;
+            past = omega arith;
+            value = simp (number, ← ea, ← eb, ← ec, le-ltb 9 a h, ne-eqb a 0 z, le-ltb 9 b k, le-ltb 9 c l, lt-ltb 255 (100 * a + 10 * b + c) (omega arith));
           }
 
       pub three-digits : c ≤ 9 → 10 * (10 * a + b) + c ≤ 255 → NumberRead text at (number text at) (record { ok = true; value = 10 * (10 * a + b) + c; next = at + 3 })
@@ -71,6 +72,7 @@ module _ (text : List ℕ) (at a : ℕ) (ea : a ≡ digitAt text at) where
       three-digits l m =
           let e : 100 * a + 10 * b + c ≡ 10 * (10 * a + b) + c = omega arith in
           record {
-            within = omega (arith, digit-within text (at + 2) (omega arith)); past = omega arith;
-            value = simp (number, ← ea, ← eb, ← ec, le-ltb 9 a h, ne-eqb a 0 z, le-ltb 9 b k, le-ltb 9 c l, e, le-ltb 255 (10 * (10 * a + b) + c) m)
+            within = omega (arith, digit-within text (at + 2) (omega arith));
+            past = omega arith;
+            value = simp (number, ← ea, ← eb, ← ec, le-ltb 9 a h, ne-eqb a 0 z, le-ltb 9 b k, le-ltb 9 c l, e, le-ltb 255 (10 * (10 * a + b) + c) m);
           }

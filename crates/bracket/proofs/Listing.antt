@@ -1,7 +1,7 @@
 -- Any count of items, each after a space, read into storage one by one.
-use Prim.Native.Nat.{ℕ, zero, suc, _+_, _-_, _≤_, _<_}
-use mathlib.Core.Bool.{Bool, true, false, _&&_}
-use mathlib.Core.List.{List, [], _∷_, _++_, append-assoc, append-nil}
+use Prim.Native.Nat.{ℕ, zero, suc, _+_, _≤_}
+use mathlib.Core.Bool.{Bool, true, false}
+use mathlib.Core.List.{List, [], _++_, append-assoc, append-nil}
 use mathlib.Core.Path.{_≡_, refl, ap, sym, _∙_}
 use native.Mathlib.Omega.{arith}
 use borrow.Author.Tests.{eq-eqb, ne-eqb}
@@ -72,7 +72,7 @@ module _ (text : List ℕ) (at : ℕ) (lent : List ℕ) (put : ℕ) (item : Read
         value = before-none (itemsUpTo (length text) item text at);
         laid = laid-none lent put (omega arith);
         reached = omega arith;
-        paced = omega arith
+        paced = omega arith;
       }
 
   module _ (cells : List ℕ) (next so-far : ℕ) (l : Listed text at lent put item cells next so-far) (b : ℕ) (eb : b ≡ byteAt text next) where
@@ -82,11 +82,11 @@ module _ (text : List ℕ) (at : ℕ) (lent : List ℕ) (put : ℕ) (item : Read
         record {
           new = l .new;
           value =
-            l .value ∙ ap (before (l .new)) (items-end item text next (l .fuel) (λ g. h (eb ∙ g)))
-            ∙ ap (λ (x : List ℕ). found x next) (append-nil (l .new));
+              l .value ∙ ap (before (l .new)) (items-end item text next (l .fuel) (λ g. h (eb ∙ g)))
+              ∙ ap (λ (x : List ℕ). found x next) (append-nil (l .new));
           laid = l .laid;
           reached = l .reached;
-          paced = l .paced
+          paced = l .paced;
         }
 
     module _ (h : b ≡ 32) (after : List ℕ) (r : Spot) (s : Stored text (next + 1) cells so-far (item text (next + 1)) after r) where
@@ -104,13 +104,13 @@ module _ (text : List ℕ) (at : ℕ) (lent : List ℕ) (put : ℕ) (item : Read
           record {
             new = l .new ++ s .new;
             value =
-              l .value
-              ∙ ap (before (l .new))
-              (ap (λ (k : ℕ). itemsUpTo k item text next) (fuel-left .1)
-              ∙ items-fault item text next (sym eb ∙ h) (fuel-left .0) (s .value ∙ ap (λ (o : Bool). readOf o (s .new) (r .at)) e));
+                l .value
+                ∙ ap (before (l .new))
+                (ap (λ (k : ℕ). itemsUpTo k item text next) (fuel-left .1)
+                ∙ items-fault item text next (sym eb ∙ h) (fuel-left .0) (s .value ∙ ap (λ (o : Bool). readOf o (s .new) (r .at)) e));
             laid = laid-more lent put (l .new) cells so-far (s .new) after (r .put) (l .laid) (s .laid);
             reached = omega (arith, s .reached, l .reached);
-            paced = omega (arith, s .paced, l .paced)
+            paced = omega (arith, s .paced, l .paced);
           }
 
       pub listed-more : r .ok ≡ true → Listed text at lent put item after (r .at) (r .put)
@@ -120,12 +120,12 @@ module _ (text : List ℕ) (at : ℕ) (lent : List ℕ) (put : ℕ) (item : Read
             fuel = fuel-left .0;
             enough = omega (arith, l .enough, fuel-left .1, s .reached .past);
             value =
-              l .value
-              ∙ ap (before (l .new))
-              (ap (λ (k : ℕ). itemsUpTo k item text next) (fuel-left .1)
-              ∙ items-more item text next (sym eb ∙ h) (fuel-left .0) (s .new) (r .at) (s .value ∙ ap (λ (o : Bool). readOf o (s .new) (r .at)) e))
-              ∙ before-twice (l .new) (s .new) (itemsUpTo (fuel-left .0) item text (r .at));
+                l .value
+                ∙ ap (before (l .new))
+                (ap (λ (k : ℕ). itemsUpTo k item text next) (fuel-left .1)
+                ∙ items-more item text next (sym eb ∙ h) (fuel-left .0) (s .new) (r .at) (s .value ∙ ap (λ (o : Bool). readOf o (s .new) (r .at)) e))
+                ∙ before-twice (l .new) (s .new) (itemsUpTo (fuel-left .0) item text (r .at));
             laid = laid-more lent put (l .new) cells so-far (s .new) after (r .put) (l .laid) (s .laid);
             reached = omega (arith, s .reached, l .reached);
-            paced = omega (arith, s .paced, l .paced)
+            paced = omega (arith, s .paced, l .paced);
           }

@@ -1,15 +1,15 @@
 -- Numbers after spaces, the end of a line, the size line and the arity of an operation line.
-use Prim.Native.Nat.{ℕ, _+_, _≤_, _<_}
+use Prim.Native.Nat.{ℕ, _+_, _≤_}
 use mathlib.Core.Bool.{Bool, true, false, not, _&&_}
-use mathlib.Core.List.{List, [], _∷_}
-use mathlib.Core.Path.{_≡_, refl, ap, sym, _∙_}
+use mathlib.Core.List.{List}
+use mathlib.Core.Path.{_≡_, ap, sym, _∙_}
 use native.Mathlib.Omega.{arith}
 use native.Mathlib.Decide.{ℕ-discrete}
 use borrow.Author.Tests.{not-true, not-false, eqb-true, eq-eqb}
 use lib.Dec.{eqb}
 use lib.ListN.{length}
 use Rattle.equivalence.specs.Lists.{every}
-use Rattle.bracket.specs.Reading.{ascii, Read, found, fault, Reader, byteAt, _>>=_, _>>_, done, failed, mark, begins, opened}
+use Rattle.bracket.specs.Reading.{ascii, Read, found, fault, Reader, byteAt, _>>=_, _>>_, done, failed, mark, begins}
 use Rattle.bracket.specs.Numbers.{number}
 use Rattle.bracket.specs.Lines.{close, spacedNumber, sizeLine, arity}
 use Rattle.bracket.specs.Promises.{readOf, NumberRead}
@@ -31,8 +31,8 @@ module _ (text : List ℕ) (at : ℕ) where
   close-found e =
       let bracket : byteAt text at ≡ 93 = eqb-true (byteAt text at) 93 (and-left (eqb (byteAt text at) 93) (eqb (byteAt text (at + 1)) 10 && true) e) in
       let feed : byteAt text (at + 1) ≡ 10 =
-          eqb-true (byteAt text (at + 1)) 10
-          (and-left (eqb (byteAt text (at + 1)) 10) true (and-right (eqb (byteAt text at) 93) (eqb (byteAt text (at + 1)) 10 && true) e)) in
+      eqb-true (byteAt text (at + 1)) 10
+      (and-left (eqb (byteAt text (at + 1)) 10) true (and-right (eqb (byteAt text at) 93) (eqb (byteAt text (at + 1)) 10 && true) e)) in
       marked "]" text at (mark "\n") bracket ∙ mark-found "\n" text (at + 1) feed ∙ ap (λ (k : ℕ). found tt k) (omega arith)
 
   pub close-fault : begins text at (ascii "]\n") ≡ false → close text at ≡ fault
@@ -43,7 +43,7 @@ module _ (text : List ℕ) (at : ℕ) where
         | yes h ↦ marked "]" text at (mark "\n") h
             ∙ mark-fault "\n" text (at + 1)
             (λ g. let f : _≡_ {A = Bool} true false = sym (simp (eq-eqb (byteAt text at) 93 h, eq-eqb (byteAt text (at + 1)) 10 g)) ∙ e in
-              let z : _≡_ {A = ℕ} 0 1 = cc in omega arith)
+            let z : _≡_ {A = ℕ} 0 1 = cc in omega arith)
       ]
 
   module _ (b : ℕ) (eb : b ≡ byteAt text at) where
@@ -104,10 +104,10 @@ module _ (text : List ℕ) (at : ℕ) (w : at ≤ length text) (o : Bool) (eo : 
         size-closed g =
             record {
               value =
-                size-found
-                ∙ then-found close (λ _. done (n .value)) text (n .next) tt (n .next + 2) (close-found text (n .next) (sym eq ∙ not-false q g));
+                  size-found
+                  ∙ then-found close (λ _. done (n .value)) text (n .next) tt (n .next + 2) (close-found text (n .next) (sym eq ∙ not-false q g));
               within = begins-within text (ascii "]\n") (n .next) tt (r .within) (sym eq ∙ not-false q g);
-              past = omega (arith, r .past)
+              past = omega (arith, r .past);
             }
 
 -- the arity of an operation line
@@ -117,10 +117,10 @@ module _ (text : List ℕ) (at : ℕ) (s : Number) (r : NumberRead text at (spac
   arity-missing e =
       record {
         value =
-          then-fault spacedNumber (λ s. _>>_ (mark " ") (done s)) text at (missing-number r e)
-          ∙ ap (λ (b : Bool). readOf b (s .value) (s .next)) (sym (not-true (s .ok) e));
+            then-fault spacedNumber (λ s. _>>_ (mark " ") (done s)) text at (missing-number r e)
+            ∙ ap (λ (b : Bool). readOf b (s .value) (s .next)) (sym (not-true (s .ok) e));
         within = r .within;
-        past = r .past
+        past = r .past;
       }
 
   module _ (e : not (s .ok) ≡ false) (b : ℕ) (eb : b ≡ byteAt text (s .next)) where
@@ -136,5 +136,5 @@ module _ (text : List ℕ) (at : ℕ) (s : Number) (r : NumberRead text at (spac
         record {
           value = arity-found ∙ marked " " text (s .next) (done (s .value)) (sym eb ∙ h);
           within = omega (arith, within-text text (s .next) (omega arith));
-          past = omega (arith, r .past)
+          past = omega (arith, r .past);
         }

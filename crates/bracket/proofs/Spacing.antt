@@ -1,14 +1,14 @@
 -- What numbers look like: how long they are, numbers after spaces, in brackets, and one after the other.
-use Prim.Native.Nat.{ℕ, zero, suc, _+_, _-_, _*_, _/_, _%_, _≤_, _<_}
+use Prim.Native.Nat.{ℕ, _+_, _-_, _*_, _/_, _%_, _≤_, _<_}
 use mathlib.Core.List.{List, [], _∷_, _++_, map, append-assoc, append-nil, map-append}
-use mathlib.Core.Path.{_≡_, refl, ap, sym, _∙_}
+use mathlib.Core.Path.{_≡_, refl, ap, sym}
 use native.Mathlib.Decide.{decLt}
 use native.Mathlib.Nat.{zero-mul, suc-mul, mul-le-mul-right}
 use native.Mathlib.Numerals.{add-one}
 use native.Mathlib.Omega.{arith}
 use borrow.Author.Tests.{lt-ltb, le-ltb}
-use lib.ListN.{length, getD, take, drop, length-append, length-drop, length-take}
-use lib.Seq.{take-suc, take-all, length-take-le}
+use lib.ListN.{length, getD, take, drop, length-drop, length-take}
+use lib.Seq.{take-suc, take-all}
 use Rattle.equivalence.specs.Lists.{upTo, stretch}
 use Rattle.equivalence.specs.Refusal.{numberOf}
 use Rattle.equivalence.specs.declared.Refusal.{Refusal}
@@ -72,8 +72,8 @@ module _ (lent : List ℕ) (put : ℕ) (m : List ℕ) (room : put + 4 * length m
         passed = omega arith;
         short = omega (arith, p .short, q .place, spaced-one-length (getD m i 0));
         laid =
-          rw (add-one i, take-suc m i 0 h, spaced-append (take i m) (getD m i 0 ∷ []))
-          (laid-more lent put (spaced (take i m)) out at (spaced (getD m i 0 ∷ [])) out′ at′ (p .laid) q)
+            rw (add-one i, take-suc m i 0 h, spaced-append (take i m) (getD m i 0 ∷ []))
+            (laid-more lent put (spaced (take i m)) out at (spaced (getD m i 0 ∷ [])) out′ at′ (p .laid) q);
       }
 
   pub spaced-all : (out : List ℕ) (at i : ℕ) → Spaced lent put m out at i → length m ≤ i → Laid lent put (spaced m) out at
@@ -193,8 +193,8 @@ module _ (lent : List ℕ) (put n : ℕ) (maps : List ℕ) where
           place = rw (add-one i, suc-mul i n) (omega (arith, p .place));
           short = rw (add-one i, suc-mul i (4 * n + 2)) (omega (arith, p .short, simp (e, length-take) at s));
           laid =
-            rw (brackets-next n maps i, ← p .place)
-            (laid-more lent put (bracketsUpTo n maps i) out at (spacedBrackets (take n (drop from maps) ∷ [])) out′ at′ (p .laid) (rw e at q))
+              rw (brackets-next n maps i, ← p .place)
+              (laid-more lent put (bracketsUpTo n maps i) out at (spacedBrackets (take n (drop from maps) ∷ [])) out′ at′ (p .laid) (rw e at q));
         }
 
     pub factored-all : (count : ℕ) → i ≤ count → count ≤ i → Laid lent put (spacedBrackets (map (stretch n maps) (upTo count))) out at

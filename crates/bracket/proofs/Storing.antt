@@ -1,6 +1,5 @@
 -- Numbers, rows and tables read into storage: each way that the readers of tables come to an end.
 use Prim.Native.Nat.{ℕ, zero, suc, _+_, _-_, _*_, _≤_, _<_}
-use Prim.Native.Char.{Char, code}
 use mathlib.Core.Bool.{Bool, true, false}
 use mathlib.Core.List.{List, [], _∷_, _++_}
 use mathlib.Core.Path.{_≡_, refl, ap, sym, _∙_}
@@ -58,7 +57,7 @@ module _ (text : List ℕ) (at : ℕ) (lent : List ℕ) (put : ℕ) (w : Roomy t
         value = then-found number (λ v. done (v ∷ [])) text at (v .value) (v .next) (n .value ∙ ap (λ (b : Bool). readOf b (v .value) (v .next)) e);
         laid = laid-one lent put (v .value) (cell-room v n e);
         reached = omega (arith, n .within);
-        paced = omega arith
+        paced = omega arith;
       }
 
 -- items parted by one space
@@ -102,7 +101,7 @@ module _ (text : List ℕ) (at : ℕ) (lent : List ℕ) (put : ℕ) (item : Read
         value = parted-one item text at left l ∙ s .value ∙ ap (λ (b : Bool). readOf b (s .new) (r .at)) e;
         laid = s .laid;
         reached = s .reached;
-        paced = s .paced
+        paced = s .paced;
       }
 
   module _ (p : 0 < left) (h : left ≡ 1 → ⊥) (e : r .ok ≡ true) (b : ℕ) (eb : b ≡ byteAt text (r .at)) where
@@ -124,11 +123,11 @@ module _ (text : List ℕ) (at : ℕ) (lent : List ℕ) (put : ℕ) (item : Read
         record {
           new = s .new ++ z .new;
           value =
-            first ∙ marked " " text (r .at) (_>>=_ (parted item (left - 1)) (λ ys. done (s .new ++ ys))) (sym eb ∙ y)
-            ∙ onto (s .new) (z .new) (q .ok) (q .at) (parted item (left - 1) text (r .at + 1)) (z .value);
+              first ∙ marked " " text (r .at) (_>>=_ (parted item (left - 1)) (λ ys. done (s .new ++ ys))) (sym eb ∙ y)
+              ∙ onto (s .new) (z .new) (q .ok) (q .at) (parted item (left - 1) text (r .at + 1)) (z .value);
           laid = laid-more lent put (s .new) after (r .put) (z .new) last (q .put) (s .laid) (z .laid);
           reached = record { within = z .reached .within; past = omega (arith, z .reached .past, s .reached .past) };
-          paced = omega (arith, z .paced, s .paced)
+          paced = omega (arith, z .paced, s .paced);
         }
 
 -- a bracket: its opening byte, the items, its closing byte
@@ -198,5 +197,5 @@ module _ (text : List ℕ) (at : ℕ) (lent : List ℕ) (put n arity : ℕ) (h :
             value = rw (table-bracket n arity h) (bracket-closed (table n (arity - 1)) n text at (sym eb ∙ k) (s .new) (r .at) items (sym ec ∙ u));
             laid = s .laid;
             reached = omega (arith, within-text text (r .at) (omega arith), s .reached .past);
-            paced = omega (arith, s .paced)
+            paced = omega (arith, s .paced);
           }

@@ -1,6 +1,6 @@
 -- Lines: the size line, operation lines and the four requests, each ended by `]` and byte 10.
 use Prim.Native.Nat.{ℕ, _+_, _^_}
-use mathlib.Core.Bool.{Bool, true, false, not}
+use mathlib.Core.Bool.{not}
 use mathlib.Core.List.{List, [], _∷_, _++_}
 use lib.Dec.{ltb}
 use lib.ListN.{length}
@@ -91,7 +91,7 @@ afterTable a s (found cells at) = tested (lowest (cellTest (a .size) cells ∷ [
 -- the arity and the space after it are read: 14, then 2, 3 or 4, then the table
 unfoldable pub afterArity : Algebra → List ℕ → Read ℕ → Progress
 afterArity a text fault = refused Text
-afterArity a text (found s at) = 
+afterArity a text (found s at) =
     tested (lowest (operationTests (a .size) (length (a .arities)) (length (a .cells)) s)) (afterTable a s (lastTable (a .size) s text at))
 
 -- the rest of an operation line behind `[op`

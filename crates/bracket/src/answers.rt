@@ -1,11 +1,13 @@
 // The answers to requests: what a service answers, written as a line.
+use crate::requests::Asked;
+use crate::writing::write_factors;
+use crate::writing::write_generated;
+use crate::writing::write_irreducible;
+use crate::writing::write_map;
+use crate::writing::write_refused;
 use congruence::Decomposed;
 use congruence::Generated;
 use equivalence::Written;
-
-use crate::requests::Asked;
-use crate::writing::{write_factors, write_generated, write_irreducible, write_map, write_refused};
-
 ghost use Rattle.algebra.specs.Algebra.{algebraOf};
 ghost use Rattle.bracket.specs.Lines.{generate, contained, separate, decompose};
 ghost use Rattle.bracket.specs.Answers.{generatedLine, mapLine, factorsLine, answer};
@@ -95,7 +97,13 @@ fn separate_into(
 }
 
 // Generate.
-pub fn answer_generate(n: usize, arities: &[u8], cells: &[u8], pairs: &[u8], out: &mut [u8]) -> usize
+pub fn answer_generate(
+    n: usize,
+    arities: &[u8],
+    cells: &[u8],
+    pairs: &[u8],
+    out: &mut [u8],
+) -> usize
     requires { ⌜ LineFits n (now out) ⌝ }
     ensures { λ r. ⌜ Laid (now (out .entry)) 0 (answer (algebraOf n (now (arities .entry)) (now (cells .entry))) (generate (now (pairs .entry)))) (now (out .exit)) r ⌝ }
 {
@@ -104,7 +112,13 @@ pub fn answer_generate(n: usize, arities: &[u8], cells: &[u8], pairs: &[u8], out
 }
 
 // Contained.
-pub fn answer_contained(n: usize, arities: &[u8], cells: &[u8], given: &[u8], out: &mut [u8]) -> usize
+pub fn answer_contained(
+    n: usize,
+    arities: &[u8],
+    cells: &[u8],
+    given: &[u8],
+    out: &mut [u8],
+) -> usize
     requires { ⌜ LineFits n (now out) ⌝ }
     ensures { λ r. ⌜ Laid (now (out .entry)) 0 (answer (algebraOf n (now (arities .entry)) (now (cells .entry))) (contained (now (given .entry)))) (now (out .exit)) r ⌝ }
 {
@@ -113,7 +127,14 @@ pub fn answer_contained(n: usize, arities: &[u8], cells: &[u8], given: &[u8], ou
 }
 
 // Separate.
-pub fn answer_separate(n: usize, arities: &[u8], cells: &[u8], v: u8, w: u8, out: &mut [u8]) -> usize
+pub fn answer_separate(
+    n: usize,
+    arities: &[u8],
+    cells: &[u8],
+    v: u8,
+    w: u8,
+    out: &mut [u8],
+) -> usize
     requires { ⌜ LineFits n (now out) ⌝ }
     ensures { λ r. ⌜ Laid (now (out .entry)) 0 (answer (algebraOf n (now (arities .entry)) (now (cells .entry))) (separate v w)) (now (out .exit)) r ⌝ }
 {
@@ -122,7 +143,13 @@ pub fn answer_separate(n: usize, arities: &[u8], cells: &[u8], v: u8, w: u8, out
 }
 
 // Decompose, lent just the zero bytes that it wants.
-fn decompose_into(n: usize, arities: &[u8], cells: &[u8], factors: &mut [u8], out: &mut [u8]) -> usize
+fn decompose_into(
+    n: usize,
+    arities: &[u8],
+    cells: &[u8],
+    factors: &mut [u8],
+    out: &mut [u8],
+) -> usize
     requires { ⌜ ZeroFactors n (now factors) (now out) ⌝ }
     ensures { λ r. ⌜ Laid (now (out .entry)) 0 (answer (algebraOf n (now (arities .entry)) (now (cells .entry))) decompose) (now (out .exit)) r ⌝ }
 {
@@ -141,7 +168,14 @@ pub fn answer_decompose(n: usize, arities: &[u8], cells: &[u8], out: &mut [u8]) 
 }
 
 // The line for what a request asks, with the numbers that were stored for it.
-pub fn answer(asked: Asked, n: usize, arities: &[u8], cells: &[u8], numbers: &[u8], out: &mut [u8]) -> usize
+pub fn answer(
+    asked: Asked,
+    n: usize,
+    arities: &[u8],
+    cells: &[u8],
+    numbers: &[u8],
+    out: &mut [u8],
+) -> usize
     requires { ⌜ LineFits n (now out) ⌝ }
     ensures { λ r. ⌜ Laid (now (out .entry)) 0 (lineFor (algebraOf n (now (arities .entry)) (now (cells .entry))) (now (numbers .entry)) asked) (now (out .exit)) r ⌝ }
 {

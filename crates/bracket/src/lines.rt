@@ -1,6 +1,9 @@
 // Reading the lines of an algebra: its size line and its operation lines.
-use crate::reading::{begins_with, byte_at, read_number, read_table, Number};
-
+use crate::reading::Number;
+use crate::reading::begins_with;
+use crate::reading::byte_at;
+use crate::reading::read_number;
+use crate::reading::read_table;
 ghost use mathlib.Core.Path.{_≡_};
 ghost use Prim.Native.Nat.{ℕ, _+_, _^_, _≤_, _<_};
 ghost use lib.ListN.{length};
@@ -24,7 +27,11 @@ pub fn read_spaced_number(text: &[u8], at: usize) -> Number
     ensures { λ r. ⌜ NumberRead (now (text .entry)) at (spacedNumber (now (text .entry)) at) r ⌝ }
 {
     if byte_at(text, at) != b' ' {
-        return Number { ok: false, value: 0, next: at };
+        return Number {
+            ok: false,
+            value: 0,
+            next: at,
+        };
     }
     read_number(text, at + 1)
 }
@@ -34,7 +41,11 @@ pub fn read_size(text: &[u8], at: usize) -> Number
     requires { ⌜ at ≤ length (now text) ⌝ }
     ensures { λ r. ⌜ NumberRead (now (text .entry)) at (sizeLine (now (text .entry)) at) r ⌝ }
 {
-    let none = Number { ok: false, value: 0, next: at };
+    let none = Number {
+        ok: false,
+        value: 0,
+        next: at,
+    };
     if !begins_with(text, at, b"[size") {
         return none;
     }
@@ -46,7 +57,11 @@ pub fn read_size(text: &[u8], at: usize) -> Number
     if !begins_with(text, after, b"]\n") {
         return none;
     }
-    Number { ok: true, value: n.value, next: after + 2 }
+    Number {
+        ok: true,
+        value: n.value,
+        next: after + 2,
+    }
 }
 
 // The arity of an operation line and the space after it.
@@ -60,9 +75,17 @@ fn read_arity(text: &[u8], at: usize) -> Number
         return s;
     }
     if byte_at(text, after) != b' ' {
-        return Number { ok: false, value: 0, next: at };
+        return Number {
+            ok: false,
+            value: 0,
+            next: at,
+        };
     }
-    Number { ok: true, value: s.value, next: after + 1 }
+    Number {
+        ok: true,
+        value: s.value,
+        next: after + 1,
+    }
 }
 
 // Reasons 2, 3 and 4 for an operation of arity s behind so many operations with so many cells.
@@ -98,7 +121,14 @@ fn all_below(cells: &[u8], n: u8) -> bool
 }
 
 // The table of an operation line, to the line's end: 14, then 6.
-fn read_last_table(text: &[u8], at: usize, s: u8, n: u8, cells: &mut [u8], put: usize) -> OperationLine
+fn read_last_table(
+    text: &[u8],
+    at: usize,
+    s: u8,
+    n: u8,
+    cells: &mut [u8],
+    put: usize,
+) -> OperationLine
     requires { ⌜ Roomy (now text) at (now cells) put ⌝ }
     requires { ⌜ 0 < n ⌝ }
     ensures { λ r. ⌜ TableRead (now (text .entry)) at s n (now (cells .entry)) put (now (cells .exit)) r ⌝ }
@@ -107,19 +137,46 @@ fn read_last_table(text: &[u8], at: usize, s: u8, n: u8, cells: &mut [u8], put: 
     let next = table.at;
     let end = table.put;
     if !table.ok {
-        return OperationLine { check: equivalence::Check::Failed(equivalence::Refusal::Text), arity: s, next: at, cells: put };
+        return OperationLine {
+            check: equivalence::Check::Failed(equivalence::Refusal::Text),
+            arity: s,
+            next: at,
+            cells: put,
+        };
     }
     if !begins_with(text, next, b"]\n") {
-        return OperationLine { check: equivalence::Check::Failed(equivalence::Refusal::Text), arity: s, next: at, cells: put };
+        return OperationLine {
+            check: equivalence::Check::Failed(equivalence::Refusal::Text),
+            arity: s,
+            next: at,
+            cells: put,
+        };
     }
     if !all_below(&cells[put..end], n) {
-        return OperationLine { check: equivalence::Check::Failed(equivalence::Refusal::Cell), arity: s, next: at, cells: put };
+        return OperationLine {
+            check: equivalence::Check::Failed(equivalence::Refusal::Cell),
+            arity: s,
+            next: at,
+            cells: put,
+        };
     }
-    OperationLine { check: equivalence::Check::Passed, arity: s, next: next + 2, cells: end }
+    OperationLine {
+        check: equivalence::Check::Passed,
+        arity: s,
+        next: next + 2,
+        cells: end,
+    }
 }
 
 // The rest of an operation line behind `[op`: 14 in its arity, then 2, 3 or 4, then 14 and 6 in its table.
-pub fn read_operation(text: &[u8], at: usize, n: u8, operations: usize, cells: &mut [u8], put: usize) -> OperationLine
+pub fn read_operation(
+    text: &[u8],
+    at: usize,
+    n: u8,
+    operations: usize,
+    cells: &mut [u8],
+    put: usize,
+) -> OperationLine
     requires { ⌜ Roomy (now text) at (now cells) put ⌝ }
     requires { ⌜ (0 < n) × ((n ≤ 64) × (operations ≤ 16)) ⌝ }
     ensures { λ r. ⌜ OperationRead (now (text .entry)) at n operations (now (cells .entry)) put (now (cells .exit)) r ⌝ }
@@ -129,11 +186,21 @@ pub fn read_operation(text: &[u8], at: usize, n: u8, operations: usize, cells: &
     let arity = s.value;
     let after = s.next;
     if !s.ok {
-        return OperationLine { check: equivalence::Check::Failed(equivalence::Refusal::Text), arity, next: at, cells: put };
+        return OperationLine {
+            check: equivalence::Check::Failed(equivalence::Refusal::Text),
+            arity,
+            next: at,
+            cells: put,
+        };
     }
     let check = check_operation(n, operations, put, arity);
     if let equivalence::Check::Failed(r) = check {
-        return OperationLine { check: equivalence::Check::Failed(r), arity, next: at, cells: put };
+        return OperationLine {
+            check: equivalence::Check::Failed(r),
+            arity,
+            next: at,
+            cells: put,
+        };
     }
     read_last_table(text, after, arity, n, cells, put)
 }

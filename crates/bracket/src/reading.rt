@@ -62,28 +62,48 @@ pub fn read_number(text: &[u8], at: usize) -> Number
     requires { ⌜ at ≤ length (now text) ⌝ }
     ensures { λ r. ⌜ NumberRead (now (text .entry)) at (number (now (text .entry)) at) r ⌝ }
 {
-    let none = Number { ok: false, value: 0, next: at };
+    let none = Number {
+        ok: false,
+        value: 0,
+        next: at,
+    };
     let a = digit_at(text, at);
     if 9 < a {
         return none;
     }
     if a == 0 {
-        return Number { ok: true, value: 0, next: at + 1 };
+        return Number {
+            ok: true,
+            value: 0,
+            next: at + 1,
+        };
     }
     let b = digit_at(text, at + 1);
     if 9 < b {
-        return Number { ok: true, value: a, next: at + 1 };
+        return Number {
+            ok: true,
+            value: a,
+            next: at + 1,
+        };
     }
     let c = digit_at(text, at + 2);
     let two = 10 * a + b;
     if 9 < c {
-        return Number { ok: true, value: two, next: at + 2 };
+        return Number {
+            ok: true,
+            value: two,
+            next: at + 2,
+        };
     }
     let three = 10 * (two as u16) + c as u16;
     if 255 < three {
         return none;
     }
-    Number { ok: true, value: three as u8, next: at + 3 }
+    Number {
+        ok: true,
+        value: three as u8,
+        next: at + 3,
+    }
 }
 
 // A number, stored as one byte. The storage has room for as many bytes as the text has left.
@@ -97,7 +117,11 @@ fn read_cell(text: &[u8], at: usize, cells: &mut [u8], put: usize) -> Spot
         return Spot { ok: false, at, put };
     }
     cells[put] = v.value;
-    Spot { ok: true, at: next, put: put + 1 }
+    Spot {
+        ok: true,
+        at: next,
+        put: put + 1,
+    }
 }
 
 // A table of an arity: a number, or a bracket of n tables of the arity below.
@@ -116,16 +140,36 @@ pub fn read_table(text: &[u8], at: usize, arity: u8, n: u8, cells: &mut [u8], pu
     let next = rows.at;
     let so_far = rows.put;
     if !rows.ok {
-        return Spot { ok: false, at: next, put: so_far };
+        return Spot {
+            ok: false,
+            at: next,
+            put: so_far,
+        };
     }
     if byte_at(text, next) != b']' {
-        return Spot { ok: false, at: next, put: so_far };
+        return Spot {
+            ok: false,
+            at: next,
+            put: so_far,
+        };
     }
-    Spot { ok: true, at: next + 1, put: so_far }
+    Spot {
+        ok: true,
+        at: next + 1,
+        put: so_far,
+    }
 }
 
 // So many tables of the arity below, parted by one space.
-fn read_rows(text: &[u8], at: usize, arity: u8, n: u8, left: u8, cells: &mut [u8], put: usize) -> Spot
+fn read_rows(
+    text: &[u8],
+    at: usize,
+    arity: u8,
+    n: u8,
+    left: u8,
+    cells: &mut [u8],
+    put: usize,
+) -> Spot
     requires { ⌜ Roomy (now text) at (now cells) put ⌝ }
     requires { ⌜ (0 < n) × ((0 < arity) × (0 < left)) ⌝ }
     ensures { λ r. ⌜ Stored (now (text .entry)) at (now (cells .entry)) put (parted (table n (arity - 1)) left (now (text .entry)) at) (now (cells .exit)) r ⌝ }
@@ -134,13 +178,25 @@ fn read_rows(text: &[u8], at: usize, arity: u8, n: u8, left: u8, cells: &mut [u8
     let next = row.at;
     let so_far = row.put;
     if !row.ok {
-        return Spot { ok: false, at: next, put: so_far };
+        return Spot {
+            ok: false,
+            at: next,
+            put: so_far,
+        };
     }
     if left == 1 {
-        return Spot { ok: true, at: next, put: so_far };
+        return Spot {
+            ok: true,
+            at: next,
+            put: so_far,
+        };
     }
     if byte_at(text, next) != b' ' {
-        return Spot { ok: false, at: next, put: so_far };
+        return Spot {
+            ok: false,
+            at: next,
+            put: so_far,
+        };
     }
     read_rows(text, next + 1, arity, n, left - 1, cells, so_far)
 }
@@ -158,8 +214,16 @@ pub fn read_items(text: &[u8], at: usize, arity: u8, n: u8, cells: &mut [u8], pu
         next = item.at;
         so_far = item.put;
         if !item.ok {
-            return Spot { ok: false, at: next, put: so_far };
+            return Spot {
+                ok: false,
+                at: next,
+                put: so_far,
+            };
         }
     }
-    Spot { ok: true, at: next, put: so_far }
+    Spot {
+        ok: true,
+        at: next,
+        put: so_far,
+    }
 }

@@ -1,7 +1,8 @@
 // Reading request lines. The numbers that a request lists are stored as bytes.
 use crate::lines::read_spaced_number;
-use crate::reading::{begins_with, read_items, Spot};
-
+use crate::reading::Spot;
+use crate::reading::begins_with;
+use crate::reading::read_items;
 ghost use mathlib.Core.Path.{_≡_};
 ghost use Prim.Native.Nat.{ℕ, _+_, _≤_, _<_};
 ghost use lib.ListN.{length};
@@ -48,12 +49,24 @@ fn read_listing(text: &[u8], at: usize, arity: u8, n: u8, room: &mut [u8], put: 
     let next = items.at;
     let end = items.put;
     if !items.ok {
-        return Spot { ok: false, at: next, put: end };
+        return Spot {
+            ok: false,
+            at: next,
+            put: end,
+        };
     }
     if !begins_with(text, next, b"]\n") {
-        return Spot { ok: false, at: next, put: end };
+        return Spot {
+            ok: false,
+            at: next,
+            put: end,
+        };
     }
-    Spot { ok: true, at: next + 2, put: end }
+    Spot {
+        ok: true,
+        at: next + 2,
+        put: end,
+    }
 }
 
 // Pairs, to the line's end.
@@ -65,9 +78,17 @@ fn read_generate(text: &[u8], at: usize, room: &mut [u8], put: usize) -> Request
     let next = pairs.at;
     let end = pairs.put;
     if !pairs.ok {
-        return RequestLine { asked: Asked::Nothing, next, end };
+        return RequestLine {
+            asked: Asked::Nothing,
+            next,
+            end,
+        };
     }
-    RequestLine { asked: Asked::Generate, next, end }
+    RequestLine {
+        asked: Asked::Generate,
+        next,
+        end,
+    }
 }
 
 // The numbers of a map, to the line's end.
@@ -79,9 +100,17 @@ fn read_contained(text: &[u8], at: usize, room: &mut [u8], put: usize) -> Reques
     let next = map.at;
     let end = map.put;
     if !map.ok {
-        return RequestLine { asked: Asked::Nothing, next, end };
+        return RequestLine {
+            asked: Asked::Nothing,
+            next,
+            end,
+        };
     }
-    RequestLine { asked: Asked::Contained, next, end }
+    RequestLine {
+        asked: Asked::Contained,
+        next,
+        end,
+    }
 }
 
 // Two numbers, to the line's end.
@@ -89,7 +118,11 @@ fn read_separate(text: &[u8], at: usize, put: usize) -> RequestLine
     requires { ⌜ at ≤ length (now text) ⌝ }
     ensures { λ r. ⌜ RequestRead (now (text .entry)) at put (twoNumbers (now (text .entry)) at) r ⌝ }
 {
-    let nothing = RequestLine { asked: Asked::Nothing, next: at, end: put };
+    let nothing = RequestLine {
+        asked: Asked::Nothing,
+        next: at,
+        end: put,
+    };
     let v = read_spaced_number(text, at);
     let after = v.next;
     if !v.ok {
@@ -103,7 +136,11 @@ fn read_separate(text: &[u8], at: usize, put: usize) -> RequestLine
     if !begins_with(text, next, b"]\n") {
         return nothing;
     }
-    RequestLine { asked: Asked::Separate(v.value, w.value), next: next + 2, end: put }
+    RequestLine {
+        asked: Asked::Separate(v.value, w.value),
+        next: next + 2,
+        end: put,
+    }
 }
 
 // A request line.
@@ -122,7 +159,15 @@ pub fn read_request(text: &[u8], at: usize, room: &mut [u8], put: usize) -> Requ
         return read_separate(text, at + 9, put);
     }
     if begins_with(text, at, b"[decompose]\n") {
-        return RequestLine { asked: Asked::Decompose, next: at + 12, end: put };
+        return RequestLine {
+            asked: Asked::Decompose,
+            next: at + 12,
+            end: put,
+        };
     }
-    RequestLine { asked: Asked::Nothing, next: at, end: put }
+    RequestLine {
+        asked: Asked::Nothing,
+        next: at,
+        end: put,
+    }
 }

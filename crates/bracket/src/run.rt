@@ -1,10 +1,11 @@
 // A run over a text, line by line: where it stands, and what each line writes.
 use crate::answers::answer;
-use crate::lines::{read_operation, read_size};
+use crate::lines::read_operation;
+use crate::lines::read_size;
 use crate::reading::begins_with;
-use crate::requests::{goes_on, read_request};
+use crate::requests::goes_on;
+use crate::requests::read_request;
 use crate::writing::write_refused;
-
 ghost use mathlib.Core.Path.{_≡_};
 ghost use mathlib.Core.List.{List};
 ghost use Prim.Native.Nat.{ℕ, _+_, _≤_, _<_};
@@ -34,24 +35,53 @@ fn first_step(text: &[u8], out: &mut [u8]) -> Stepped
     requires { ⌜ 14 ≤ length (now out) ⌝ }
     ensures { λ r. ⌜ ((arities room : List ℕ) → Stepping (now (text .entry)) 0 (firstStep (now (text .entry))) (now (out .entry)) arities room (now (out .exit)) r) ⌝ }
 {
-    let ended = Standing { goes: false, at: 0, size: 1, operations: 0, cells: 0, asked: false };
+    let ended = Standing {
+        goes: false,
+        at: 0,
+        size: 1,
+        operations: 0,
+        cells: 0,
+        asked: false,
+    };
     let size = read_size(text, 0);
     let n = size.value;
     let next = size.next;
     if !size.ok {
         let wrote = write_refused(out, equivalence::Refusal::Text);
-        return Stepped { standing: ended, wrote };
+        return Stepped {
+            standing: ended,
+            wrote,
+        };
     }
     if !equivalence::checks::is_size(n as usize) {
         let wrote = write_refused(out, equivalence::Refusal::Size);
-        return Stepped { standing: ended, wrote };
+        return Stepped {
+            standing: ended,
+            wrote,
+        };
     }
-    let begun = Standing { goes: true, at: next, size: n, operations: 0, cells: 0, asked: false };
-    Stepped { standing: begun, wrote: 0 }
+    let begun = Standing {
+        goes: true,
+        at: next,
+        size: n,
+        operations: 0,
+        cells: 0,
+        asked: false,
+    };
+    Stepped {
+        standing: begun,
+        wrote: 0,
+    }
 }
 
 // An operation line, which begins with `[op`.
-fn operation_step(text: &[u8], standing: Standing, arities: &mut [u8], room: &mut [u8], out: &mut [u8]) -> Stepped
+fn operation_step(
+    text: &[u8],
+    standing: Standing,
+    arities: &mut [u8],
+    room: &mut [u8],
+    out: &mut [u8],
+) -> Stepped
     requires { ⌜ Sound (now text) standing ⌝ }
     requires { ⌜ Lent (now text) (now arities) (now room) (now out) ⌝ }
     requires { ⌜ standing .at + 3 ≤ length (now text) ⌝ }
@@ -67,16 +97,42 @@ fn operation_step(text: &[u8], standing: Standing, arities: &mut [u8], room: &mu
     let check = line.check;
     if let equivalence::Check::Failed(r) = check {
         let wrote = write_refused(out, r);
-        let ended = Standing { goes: false, at, size, operations: k, cells, asked: false };
-        return Stepped { standing: ended, wrote };
+        let ended = Standing {
+            goes: false,
+            at,
+            size,
+            operations: k,
+            cells,
+            asked: false,
+        };
+        return Stepped {
+            standing: ended,
+            wrote,
+        };
     }
     arities[k] = line.arity;
-    let grown = Standing { goes: true, at: next, size, operations: k + 1, cells: end, asked: false };
-    Stepped { standing: grown, wrote: 0 }
+    let grown = Standing {
+        goes: true,
+        at: next,
+        size,
+        operations: k + 1,
+        cells: end,
+        asked: false,
+    };
+    Stepped {
+        standing: grown,
+        wrote: 0,
+    }
 }
 
 // A line that is no operation: a request, or a fault.
-fn request_step(text: &[u8], standing: Standing, arities: &[u8], room: &mut [u8], out: &mut [u8]) -> Stepped
+fn request_step(
+    text: &[u8],
+    standing: Standing,
+    arities: &[u8],
+    room: &mut [u8],
+    out: &mut [u8],
+) -> Stepped
     requires { ⌜ Sound (now text) standing ⌝ }
     requires { ⌜ Lent (now text) (now arities) (now room) (now out) ⌝ }
     ensures { λ r. ⌜ Stepping (now (text .entry)) (standing .at) (requestStep (now (text .entry)) (stateOf standing (now (arities .entry)) (now (room .entry)))) (now (out .entry)) (now (arities .entry)) (now (room .exit)) (now (out .exit)) r ⌝ }
@@ -88,13 +144,36 @@ fn request_step(text: &[u8], standing: Standing, arities: &[u8], room: &mut [u8]
     let next = line.next;
     let end = line.end;
     let asked = line.asked;
-    let wrote = answer(asked, size as usize, &arities[0..operations], &room[0..cells], &room[cells..end], out);
-    let after = Standing { goes: goes_on(asked), at: next, size, operations, cells, asked: true };
-    Stepped { standing: after, wrote }
+    let wrote = answer(
+        asked,
+        size as usize,
+        &arities[0..operations],
+        &room[0..cells],
+        &room[cells..end],
+        out,
+    );
+    let after = Standing {
+        goes: goes_on(asked),
+        at: next,
+        size,
+        operations,
+        cells,
+        asked: true,
+    };
+    Stepped {
+        standing: after,
+        wrote,
+    }
 }
 
 // The line at which a run stands, from a sound standing and with enough lent.
-fn next_step(text: &[u8], standing: Standing, arities: &mut [u8], room: &mut [u8], out: &mut [u8]) -> Stepped
+fn next_step(
+    text: &[u8],
+    standing: Standing,
+    arities: &mut [u8],
+    room: &mut [u8],
+    out: &mut [u8],
+) -> Stepped
     requires { ⌜ Sound (now text) standing ⌝ }
     requires { ⌜ Lent (now text) (now arities) (now room) (now out) ⌝ }
     ensures { λ r. ⌜ Stepping (now (text .entry)) (standing .at) (stepDefined (now (text .entry)) (stateOf standing (now (arities .entry)) (now (room .entry)))) (now (out .entry)) (now (arities .exit)) (now (room .exit)) (now (out .exit)) r ⌝ }
@@ -145,8 +224,18 @@ pub fn begin(text: &[u8], out: &mut [u8]) -> Stepped
     ensures { λ r. ⌜ Begun (now (text .entry)) (now (out .entry)) (now (out .exit)) r ⌝ }
 {
     if out.len() < 14 {
-        let idle = Standing { goes: false, at: 0, size: 1, operations: 0, cells: 0, asked: false };
-        return Stepped { standing: idle, wrote: 0 };
+        let idle = Standing {
+            goes: false,
+            at: 0,
+            size: 1,
+            operations: 0,
+            cells: 0,
+            asked: false,
+        };
+        return Stepped {
+            standing: idle,
+            wrote: 0,
+        };
     }
     first_step(text, out)
 }
@@ -154,12 +243,28 @@ pub fn begin(text: &[u8], out: &mut [u8]) -> Stepped
 // Takes the line at which a run stands. What the line writes goes to the start of `out`, which wants 16,384 bytes. `arities`, of 16 bytes, and `room`, as
 // long as the text, are lent to every step of a run and left as they are between steps: the arities and the cells of the algebra stand first in them, and the
 // rest of `room` is left open. With less lent, or from a standing that no run comes to, nothing is done and the run does not go on.
-pub fn step(text: &[u8], standing: Standing, arities: &mut [u8], room: &mut [u8], out: &mut [u8]) -> Stepped
+pub fn step(
+    text: &[u8],
+    standing: Standing,
+    arities: &mut [u8],
+    room: &mut [u8],
+    out: &mut [u8],
+) -> Stepped
     ensures { λ r. ⌜ Taken (now (text .entry)) standing (now (arities .entry)) (now (room .entry)) (now (out .entry)) (now (arities .exit)) (now (room .exit)) (now (out .exit)) r ⌝ }
 {
     if !can_step(text.len(), standing, arities.len(), room.len(), out.len()) {
-        let idle = Standing { goes: false, at: 0, size: 1, operations: 0, cells: 0, asked: false };
-        return Stepped { standing: idle, wrote: 0 };
+        let idle = Standing {
+            goes: false,
+            at: 0,
+            size: 1,
+            operations: 0,
+            cells: 0,
+            asked: false,
+        };
+        return Stepped {
+            standing: idle,
+            wrote: 0,
+        };
     }
     next_step(text, standing, arities, room, out)
 }

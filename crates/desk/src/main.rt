@@ -1,7 +1,6 @@
 // The desk program: reads bracket text from standard input and writes what it answers to standard output.
 use bracket::run::Standing;
 use bracket::run::Stepped;
-
 ghost use mathlib.Core.Path.{_≡_};
 ghost use mathlib.Core.Bool.{not, false};
 ghost use Prim.Native.Nat.{ℕ, _+_, _-_, _≤_, _<_};
@@ -43,7 +42,14 @@ fn drained(out: &[u8], put: usize) -> usize
 }
 
 // Takes one line, and gathers what it writes behind the `put` bytes of `out` that are not written out yet; how many that makes stands in `wrote`.
-fn advance(text: &[u8], standing: Standing, put: usize, arities: &mut [u8], room: &mut [u8], out: &mut [u8]) -> Stepped
+fn advance(
+    text: &[u8],
+    standing: Standing,
+    put: usize,
+    arities: &mut [u8],
+    room: &mut [u8],
+    out: &mut [u8],
+) -> Stepped
     requires { ⌜ Running (now text) standing (now arities) (now room) (now out) put ⌝ }
     requires { ⌜ not (standing .goes) ≡ false ⌝ }
     ensures { λ r. ⌜ Running (now (text .entry)) (r .standing) (now (arities .exit)) (now (room .exit)) (now (out .exit)) (r .wrote) ⌝ }
@@ -52,7 +58,10 @@ fn advance(text: &[u8], standing: Standing, put: usize, arities: &mut [u8], room
     let kept = drained(out, put);
     let next = bracket::run::step(text, standing, arities, room, &mut out[kept..]);
     let after = next.standing;
-    Stepped { standing: after, wrote: kept + next.wrote }
+    Stepped {
+        standing: after,
+        wrote: kept + next.wrote,
+    }
 }
 
 // Takes the lines of a text in turn, to the end of the run or of the text.
