@@ -1,7 +1,7 @@
 -- Requests: each way their lines come to an end.
-use Prim.Native.Nat.{ℕ, _+_, _-_, _≤_, _<_}
+use Prim.Native.Nat.{ℕ, _+_, _≤_}
 use mathlib.Core.Bool.{Bool, true, false, not}
-use mathlib.Core.List.{List, [], _∷_}
+use mathlib.Core.List.{List, []}
 use mathlib.Core.Path.{_≡_, refl, ap, sym, _∙_}
 use native.Mathlib.Omega.{arith}
 use borrow.Author.Tests.{not-true, not-false}
@@ -11,7 +11,7 @@ use Rattle.equivalence.specs.Lists.{every}
 use Rattle.bracket.specs.Reading.{ascii, Read, found, fault, Reader, _>>=_, _>>_, done, failed, begins, opened}
 use Rattle.bracket.specs.Tables.{cell, table, pair, items}
 use Rattle.bracket.specs.Lines.{close, spacedNumber, Request, generate, contained, separate, decompose, listing, generating, containing, twoNumbers, request}
-use Rattle.bracket.specs.Promises.{readOf, NumberRead, Laid, Roomy, Stored, bit, requestOf, Requested, RequestRead}
+use Rattle.bracket.specs.Promises.{readOf, NumberRead, Roomy, Stored, bit, requestOf, Requested, RequestRead}
 use Rattle.bracket.specs.declared.reading.Number.{Number}
 use Rattle.bracket.specs.declared.reading.Spot.{Spot}
 use Rattle.bracket.specs.declared.requests.Asked.{Asked}

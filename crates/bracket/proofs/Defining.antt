@@ -1,8 +1,8 @@
 -- Operation lines: each way they come to an end.
-use Prim.Native.Nat.{ℕ, _+_, _-_, _≤_, _<_}
+use Prim.Native.Nat.{ℕ, _+_, _-_}
 use mathlib.Core.Bool.{Bool, true, false, not}
-use mathlib.Core.List.{List, [], _∷_, _++_}
-use mathlib.Core.Path.{_≡_, refl, ap, sym, _∙_}
+use mathlib.Core.List.{List, [], _∷_}
+use mathlib.Core.Path.{_≡_, ap, sym, _∙_}
 use native.Mathlib.Omega.{arith}
 use borrow.Author.Tests.{not-true, not-false}
 use lib.Dec.{ltb}
@@ -15,10 +15,10 @@ use Rattle.equivalence.specs.declared.Refusal.{Refusal}
 use Rattle.equivalence.specs.declared.Refusal.the-variants.{Cell, Text}
 use Rattle.equivalence.specs.declared.Check.{Check}
 use Rattle.equivalence.specs.declared.Check.the-variants.{Passed, Failed}
-use Rattle.algebra.specs.Algebra.{Algebra, algebraOf}
-use Rattle.bracket.specs.Reading.{ascii, found, fault, _>>=_, _>>_, done, begins}
+use Rattle.algebra.specs.Algebra.{algebraOf}
+use Rattle.bracket.specs.Reading.{ascii, found, fault, _>>_, done, begins}
 use Rattle.bracket.specs.Tables.{table}
-use Rattle.bracket.specs.Lines.{Progress, defined, refused, close, tested, arity, lastTable, operationTests, cellTest, withOperation, afterTable, afterArity, operation}
+use Rattle.bracket.specs.Lines.{refused, close, tested, arity, lastTable, operationTests, cellTest, withOperation, afterTable, afterArity, operation}
 use Rattle.bracket.specs.Promises.{readOf, NumberRead, Roomy, Stored, tableProgress, TableRead, operationProgress, OperationRead}
 use Rattle.bracket.specs.declared.lines.OperationLine.{OperationLine}
 use Rattle.bracket.specs.declared.reading.Number.{Number}

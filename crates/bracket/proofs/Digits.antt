@@ -1,15 +1,14 @@
 -- Digits and numbers: what stands at a place decides what `number` finds there.
 use Prim.Native.Nat.{ℕ, _+_, _-_, _*_, _≤_, _<_}
-use mathlib.Core.Bool.{Bool, true, false, _&&_, _||_}
+use mathlib.Core.Bool.{true, false}
 use mathlib.Core.List.{List}
-use mathlib.Core.Path.{_≡_, refl, ap, sym, _∙_}
+use mathlib.Core.Path.{_≡_}
 use native.Mathlib.Decide.{decLt}
 use native.Mathlib.Omega.{arith}
 use borrow.Author.Tests.{lt-ltb, le-ltb, le-leb, lt-leb, eq-eqb, ne-eqb}
-use lib.Dec.{eqb, leb, ltb}
 use lib.ListN.{length}
-use Rattle.bracket.specs.Reading.{found, fault, byteAt}
-use Rattle.bracket.specs.Numbers.{digitAt, threeAt, number}
+use Rattle.bracket.specs.Reading.{byteAt}
+use Rattle.bracket.specs.Numbers.{digitAt, number}
 use Rattle.bracket.specs.Promises.{NumberRead}
 use Rattle.bracket.proofs.Readers.{within-text}
 

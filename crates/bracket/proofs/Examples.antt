@@ -1,14 +1,12 @@
 -- Document 01's worked input with its output, and small texts for the points that are easily read otherwise, computed.
-use Prim.Native.Nat.{ℕ}
 use Prim.Native.String.{String}
-use mathlib.Core.List.{List}
 use mathlib.Core.Path.{_≡_, refl}
 use Rattle.equivalence.specs.Equivalence.{isMap, holds, inside, roots, blocks, blockOf, mapOf, identity, whole, same, isIdentity, meet, meetAll, maps, best, join}
 use Rattle.equivalence.specs.Lists.{upTo, every, any, keep, first, concat, stretch}
 use Rattle.equivalence.specs.Order.{pairs, notLaterOn, notLater, firstHeld}
 use Rattle.equivalence.specs.Refusal.{numberOf, lowest, sizeTest, mapTest, spaceTest, answered, written, lentAfter, serve}
 use Rattle.algebra.specs.Accepted.{algebraTests}
-use Rattle.algebra.specs.Algebra.{Algebra, algebraOf, cellCount, operationsOf, operations, arguments, place, value}
+use Rattle.algebra.specs.Algebra.{cellCount, operationsOf, operations, arguments, place, value}
 use Rattle.algebra.specs.Congruence.{respects, isCongruence, congruences}
 use Rattle.congruence.specs.Calls.{pairsTest, elementsTest, equalTest, generateCall, containedCall, separateCall, decomposed, factorBytes, decomposeCall}
 use Rattle.congruence.specs.Decompose.{added, gathered, pruned, listed, reducible, commonPair}

@@ -3,7 +3,6 @@ use Prim.Native.Nat.{ℕ, zero, suc, _+_, _≤_, _<_}
 use Prim.Native.Char.{Char, code}
 use mathlib.Core.Bool.{Bool, true, false, not, _&&_}
 use mathlib.Core.List.{List, [], _∷_, _++_}
-use mathlib.Core.Path.{_≡_, refl, ap, sym, _∙_}
 use native.Mathlib.Omega.{arith}
 use lib.Dec.{eqb, ltb}
 use lib.ListN.{length}
@@ -15,7 +14,7 @@ use Rattle.algebra.specs.Algebra.{Algebra}
 use Rattle.bracket.specs.Reading.{ascii, Read, found, fault, Reader, byteAt, onward, _>>=_, _>>_, done, failed, mark, begins, opened}
 use Rattle.bracket.specs.Numbers.{digitAt, threeAt, number}
 use Rattle.bracket.specs.Tables.{cell, parted, bracket, table, pair, itemsUpTo, items}
-use Rattle.bracket.specs.Lines.{Progress, defined, refused, close, spacedNumber, sizeLine, tested, arity, lastTable, cellTest, operationTests, withOperation, afterTable, afterArity, operation, Request, generate, contained, separate, decompose, listing, generating, containing, twoNumbers, request}
+use Rattle.bracket.specs.Lines.{Progress, defined, refused, close, spacedNumber, tested, arity, lastTable, cellTest, operationTests, withOperation, afterTable, afterArity, operation, Request, generate, contained, separate, decompose, listing, generating, containing, twoNumbers, request}
 use Rattle.bracket.proofs.Asking.{from-contained, from-separate, from-decompose}
 use Rattle.bracket.specs.Transcript.{State, Step, goes, ends, afterLine, afterRequest, operationStep, requestStep, step}
 
@@ -32,22 +31,15 @@ past-later : {A : Type 0} (i j k at next : ℕ) (r : Read A) → at + j ≤ next
 past-later i j k at next (found a end) p l h = omega arith
 past-later i j k at next fault p l h = tt
 
--- one reader after another
-onward-past : {A B : Type 0} (i j k at : ℕ) (r : Read A) (f : A → ℕ → Read B) → i ≤ j + k → Past j at r → ((a : A) (next : ℕ) → Past k next (f a next))
-    → Past i at (onward f r)
+-- one reader after another, neither of which goes back
+onward-past : {A B : Type 0} (at : ℕ) (r : Read A) (f : A → ℕ → Read B) → Past 0 at r → ((a : A) (next : ℕ) → Past 0 next (f a next)) → Past 0 at (onward f r)
 unfolding onward
-onward-past i j k at (found a next) f l p q = past-later i j k at next (f a next) p l (q a next)
-onward-past i j k at fault f l p q = tt
+onward-past at (found a next) f p q = past-later 0 0 0 at next (f a next) p (omega arith) (q a next)
+onward-past at fault f p q = tt
 
-module _ {A B : Type 0} (m : Reader A) (f : A → Reader B) where
-  then-forward : (i j k : ℕ) → i ≤ j + k → Forward j m → ((a : A) → Forward k (f a)) → Forward i (_>>=_ m f)
-  unfolding _>>=_
-  then-forward i j k l p q text at =
-      onward-past i j k at (m text at) (λ a after. f a text after) l (p text at) (λ a next. q a text next)
-
-  -- neither goes back
-  both-forward : Forward 0 m → ((a : A) → Forward 0 (f a)) → Forward 0 (_>>=_ m f)
-  both-forward p q = then-forward 0 0 0 (omega arith) p q
+both-forward : {A B : Type 0} (m : Reader A) (f : A → Reader B) → Forward 0 m → ((a : A) → Forward 0 (f a)) → Forward 0 (_>>=_ m f)
+unfolding _>>=_
+both-forward m f p q text at = onward-past at (m text at) (λ a after. f a text after) (p text at) (λ a next. q a text next)
 
 done-forward : {A : Type 0} (a : A) → Forward 0 (done a)
 done-forward a text at = omega arith
@@ -83,7 +75,7 @@ cell-forward : Forward 0 cell
 unfolding cell
 cell-forward = both-forward number (λ v. done (v ∷ [])) number-forward (λ v. done-forward (v ∷ []))
 
--- a reader, and then a byte that must follow
+-- a byte, and then a reader
 marked-forward : {A : Type 0} (c : Char) (next : Reader A) → Forward 0 next → Forward 0 (_>>_ (mark c) next)
 marked-forward c next p = both-forward (mark c) (λ _. next) (mark-forward c) (λ _. p)
 
@@ -129,19 +121,13 @@ close-forward : Forward 0 close
 unfolding close
 close-forward = marked-forward "]" (mark "\n") (mark-forward "\n")
 
--- a reader, and then the end of the line
+-- the end of the line, and then a reader
 closed-forward : {A : Type 0} (next : Reader A) → Forward 0 next → Forward 0 (_>>_ close next)
 closed-forward next p = both-forward close (λ _. next) close-forward (λ _. p)
 
 spaced-number-forward : Forward 0 spacedNumber
 unfolding spacedNumber
 spaced-number-forward = marked-forward " " number number-forward
-
-size-forward : Forward 0 sizeLine
-unfolding sizeLine
-size-forward =
-    opened-forward (ascii "[size") (_>>=_ spacedNumber (λ n. _>>_ close (done n))) failed 0 (omega arith)
-    (both-forward spacedNumber (λ n. _>>_ close (done n)) spaced-number-forward (λ n. closed-forward (done n) (done-forward n))) (λ text at. tt)
 
 arity-forward : Forward 0 arity
 unfolding arity

@@ -1,17 +1,13 @@
 -- Bytes laid in a lent list from a place on: one, none, some after others, all bytes of a word in turn, and what the rest keeps.
-use Prim.Native.Nat.{ℕ, zero, suc, _+_, _-_, _≤_, _<_}
-use mathlib.Core.List.{List, [], _∷_, _++_, append-assoc, append-nil}
+use Prim.Native.Nat.{ℕ, suc, _+_, _-_, _≤_, _<_}
+use mathlib.Core.List.{List, [], _∷_, _++_, append-assoc}
 use mathlib.Core.Path.{_≡_, refl, ap, sym, _∙_}
-use native.Mathlib.Nat.{add-zero, add-assoc}
+use native.Mathlib.Nat.{add-zero}
 use native.Mathlib.Numerals.{add-one}
 use native.Mathlib.Omega.{arith}
-use lib.ListN.{length, getD, take, drop, set, length-append, length-drop, length-set, length-take, take-append-drop}
+use lib.ListN.{length, getD, take, drop, set, length-append, length-set, take-append-drop}
 use lib.Seq.{set-split, take-at, drop-at, drop-drop, take-suc, length-take-le, take-all}
 use Rattle.bracket.specs.Promises.{laid, Laid}
-
-pub length-laid : (lent : List ℕ) (put : ℕ) (new : List ℕ) → put + length new ≤ length lent → length (laid lent put new) ≡ length lent
-unfolding laid
-length-laid lent put new h = simp (length-append, length-take, length-drop) (omega arith)
 
 -- the bytes before the end of what was laid
 pub take-laid : (lent : List ℕ) (put : ℕ) (new : List ℕ) → put ≤ length lent → take (put + length new) (laid lent put new) ≡ take put lent ++ new

@@ -1,12 +1,10 @@
 -- The pieces that the steps of a run write are, in order, the transcript of its text.
 use Prim.Native.Nat.{ℕ, zero, suc, _+_, _≤_, _<_}
-use mathlib.Core.Bool.{true, false}
 use mathlib.Core.List.{List, [], _∷_, _++_, append-nil}
 use mathlib.Core.Path.{_≡_, refl, ap, sym, _∙_}
 use native.Mathlib.Decide.{decLt}
 use native.Mathlib.Omega.{arith}
 use borrow.Author.Tests.{lt-ltb, le-ltb, le-leb, lt-leb}
-use lib.Dec.{leb, ltb}
 use lib.ListN.{length}
 use Rattle.equivalence.specs.Lists.{concat}
 use Rattle.equivalence.specs.declared.Refusal.the-variants.{Text}

@@ -1,15 +1,15 @@
 -- Numbers after spaces, the end of a line, the size line and the arity of an operation line.
-use Prim.Native.Nat.{ℕ, _+_, _≤_, _<_}
+use Prim.Native.Nat.{ℕ, _+_, _≤_}
 use mathlib.Core.Bool.{Bool, true, false, not, _&&_}
-use mathlib.Core.List.{List, [], _∷_}
-use mathlib.Core.Path.{_≡_, refl, ap, sym, _∙_}
+use mathlib.Core.List.{List}
+use mathlib.Core.Path.{_≡_, ap, sym, _∙_}
 use native.Mathlib.Omega.{arith}
 use native.Mathlib.Decide.{ℕ-discrete}
 use borrow.Author.Tests.{not-true, not-false, eqb-true, eq-eqb}
 use lib.Dec.{eqb}
 use lib.ListN.{length}
 use Rattle.equivalence.specs.Lists.{every}
-use Rattle.bracket.specs.Reading.{ascii, Read, found, fault, Reader, byteAt, _>>=_, _>>_, done, failed, mark, begins, opened}
+use Rattle.bracket.specs.Reading.{ascii, Read, found, fault, Reader, byteAt, _>>=_, _>>_, done, failed, mark, begins}
 use Rattle.bracket.specs.Numbers.{number}
 use Rattle.bracket.specs.Lines.{close, spacedNumber, sizeLine, arity}
 use Rattle.bracket.specs.Promises.{readOf, NumberRead}

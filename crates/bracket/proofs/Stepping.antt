@@ -1,13 +1,13 @@
 -- Steps of a run: what each line comes to.
-use Prim.Native.Nat.{ℕ, zero, suc, _+_, _-_, _≤_, _<_}
+use Prim.Native.Nat.{ℕ, _+_, _-_, _≤_, _<_}
 use mathlib.Core.Bool.{Bool, true, false, not, _||_}
-use mathlib.Core.List.{List, [], _∷_, _++_}
-use mathlib.Core.Path.{_≡_, refl, ap, sym, _∙_}
+use mathlib.Core.List.{List, [], _∷_}
+use mathlib.Core.Path.{_≡_, refl, sym, _∙_}
 use native.Mathlib.Nat.{sub-zero}
 use native.Mathlib.Numerals.{add-one}
 use native.Mathlib.Omega.{arith}
 use borrow.Author.Tests.{not-true, not-false, eqb-false, ltb-false}
-use lib.Dec.{T, eqb, ltb}
+use lib.Dec.{eqb, ltb}
 use lib.ListN.{length, take, drop, set}
 use lib.Seq.{take-suc-set, length-take-le}
 use Rattle.equivalence.specs.Lists.{every}
@@ -15,14 +15,13 @@ use Rattle.equivalence.specs.Refusal.{lowest, sizeTest}
 use Rattle.equivalence.proofs.Refusals.{lowest-none, lowest-here, lowest-next}
 use Rattle.equivalence.specs.declared.Refusal.{Refusal}
 use Rattle.equivalence.specs.declared.Refusal.the-variants.{Size, Text}
-use Rattle.equivalence.specs.declared.Check.{Check}
 use Rattle.equivalence.specs.declared.Check.the-variants.{Passed, Failed}
 use Rattle.algebra.specs.Algebra.{Algebra, algebraOf}
-use Rattle.bracket.specs.Reading.{ascii, found, fault, begins}
-use Rattle.bracket.specs.Lines.{Progress, defined, refused, sizeLine, tested, afterSize, sized, operation, request}
+use Rattle.bracket.specs.Reading.{ascii, begins}
+use Rattle.bracket.specs.Lines.{refused, sizeLine, tested, afterSize, sized, operation, request}
 use Rattle.bracket.specs.Answers.{refusedLine}
-use Rattle.bracket.specs.Transcript.{State, goes, ends, afterLine, afterRequest, firstStep, operationStep, requestStep, step}
-use Rattle.bracket.specs.Promises.{bit, readOf, NumberRead, Laid, passing, progressOf, operationProgress, OperationRead, requestOf, goesOn, lineFor, Requested}
+use Rattle.bracket.specs.Transcript.{State, goes, afterLine, afterRequest, firstStep, operationStep, requestStep, step}
+use Rattle.bracket.specs.Promises.{bit, NumberRead, Laid, passing, progressOf, operationProgress, OperationRead, requestOf, goesOn, lineFor, Requested}
 use Rattle.bracket.specs.Steps.{stateOf, stepOf, Sound, Lent, Stepping}
 use Rattle.bracket.specs.declared.lines.OperationLine.{OperationLine}
 use Rattle.bracket.specs.declared.reading.Number.{Number}

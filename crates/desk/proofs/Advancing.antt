@@ -1,15 +1,15 @@
 -- The program's loop: from a sound standing, with enough lent, each step leads to another, further on.
 use Prim.Native.Nat.{ℕ, _+_, _-_, _≤_, _<_}
-use mathlib.Core.Bool.{Bool, true, false, not}
+use mathlib.Core.Bool.{false, not}
 use mathlib.Core.List.{List}
-use mathlib.Core.Path.{_≡_, refl, ap, sym, _∙_}
+use mathlib.Core.Path.{_≡_, ap, _∙_}
 use native.Mathlib.Omega.{arith}
 use borrow.Author.Tests.{not-false}
 use borrow.Rule.Slice.PartMut.{putMid}
 use lib.ListN.{length, take, drop, length-append, length-take, length-drop}
 use Rattle.bracket.specs.Promises.{bit}
 use Rattle.bracket.specs.Transcript.{step}
-use Rattle.bracket.specs.Steps.{stateOf, Sound, Lent, Stepping, Begun, Taken}
+use Rattle.bracket.specs.Steps.{stateOf, Lent, Stepping, Begun, Taken}
 use Rattle.bracket.proofs.Calling.{sound-able}
 use Rattle.bracket.specs.declared.run.Standing.{Standing}
 use Rattle.bracket.specs.declared.run.Stepped.{Stepped}

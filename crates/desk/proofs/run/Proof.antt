@@ -1,6 +1,6 @@
+-- `run` meets its contract, by the laws of Advancing.
 use Prim.Native.Nat.{_+_, _-_}
 use mathlib.Core.Path.{_≡_, refl}
-use native.Mathlib.Omega.{arith}
 use borrow.Author.Needs.{needs}
 use lib.ListN.{length}
 use Rattle.bracket.specs.Promises.{bit}
@@ -8,11 +8,6 @@ use Rattle.desk.specs.Running.{Running}
 use Rattle.desk.proofs.Advancing.{running-begins, running-less}
 use Rattle.desk.proofs.run.Statement.{statement}
 use Rattle.desk.proofs.run.Tie as tie
-use Rattle.desk.proofs.run.Reads as reads
-use Rattle.desk.proofs.run.Lts as lts
-use Rattle.bracket.proofs.run.begin.Reads as begin-reads
-use Rattle.desk.proofs.advance.Reads as advance-reads
-use Rattle.io.proofs.write_all.Reads as write-all-reads
 
 abbrev Inv-loop : tie.InvT-loop
 Inv-loop text arities₀ room₀ out₀ standing₀ put₀ arities room out standing put =
@@ -21,55 +16,42 @@ Inv-loop text arities₀ room₀ out₀ standing₀ put₀ arities room out stan
 abbrev μ-loop : tie.MeasureT-loop
 μ-loop text arities₀ room₀ out₀ standing₀ put₀ arities room out standing put = length text - standing .at + bit (standing .goes)
 
--- src/main.rt:62:9
 begin-requires : tie.Need-begin-requires Inv-loop μ-loop
 begin-requires c κs = search needs
 
--- src/main.rt:65:5
 loop-holds : tie.Need-loop-holds Inv-loop μ-loop
 loop-holds c = (search running-begins, (refl, refl))
 
--- src/main.rt:72:13
 advance-requires : tie.Need-advance-requires Inv-loop μ-loop
 advance-requires c κs = search needs
 
--- src/main.rt:65:5
 loop-less : tie.Need-loop-less Inv-loop μ-loop
 loop-less c = search running-less
 
--- src/main.rt:65:5
 loop-again : tie.Need-loop-again Inv-loop μ-loop
 loop-again c = search needs
 
--- src/main.rt:76:22
 sub-write-all : tie.Need-sub-write-all Inv-loop μ-loop
 sub-write-all c = search needs
 
--- src/main.rt:76:22
 part-write-all-start : tie.Need-part-write-all-start Inv-loop μ-loop
 part-write-all-start c = search needs
 
--- src/main.rt:76:22
 part-write-all-end : tie.Need-part-write-all-end Inv-loop μ-loop
 part-write-all-end c = search needs
 
--- src/main.rt:76:5
 write-all-requires : tie.Need-write-all-requires Inv-loop μ-loop
 write-all-requires c κs = search needs
 
--- src/main.rt:59:1
 same-length : tie.Need-same-length Inv-loop μ-loop
 same-length c = search needs
 
--- src/main.rt:59:1
 same-length-2 : tie.Need-same-length-2 Inv-loop μ-loop
 same-length-2 c = search needs
 
--- src/main.rt:59:1
 same-length-3 : tie.Need-same-length-3 Inv-loop μ-loop
 same-length-3 c = search needs
 
--- src/main.rt:59:1
 returns : tie.Need-returns Inv-loop μ-loop
 returns c = search needs
 

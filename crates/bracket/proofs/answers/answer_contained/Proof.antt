@@ -1,32 +1,24 @@
+-- `answers::answer_contained` meets its contract, by the laws of Answering.
 use Rattle.bracket.proofs.Answering.{zeros-of-64}
 use borrow.Author.Needs.{needs}
 use Rattle.bracket.proofs.answers.answer_contained.Statement.{statement}
 use Rattle.bracket.proofs.answers.answer_contained.Tie as tie
-use Rattle.bracket.proofs.answers.answer_contained.Reads as reads
-use Rattle.bracket.proofs.answers.answer_contained.Lts as lts
-use Rattle.bracket.proofs.answers.contained_into.Reads as contained-into-reads
 
--- src/answers.rt:98:46
 sub-contained-into : tie.Need-sub-contained-into
 sub-contained-into c = search needs
 
--- src/answers.rt:98:46
 part-map-start : tie.Need-part-map-start
 part-map-start c = search needs
 
--- src/answers.rt:98:46
 part-map-end : tie.Need-part-map-end
 part-map-end c = search needs
 
--- src/answers.rt:98:5
 contained-into-requires : tie.Need-contained-into-requires
 contained-into-requires c κs = search zeros-of-64
 
--- src/answers.rt:93:1
 same-length : tie.Need-same-length
 same-length c = search needs
 
--- src/answers.rt:93:1
 returns : tie.Need-returns
 returns c = search needs
 

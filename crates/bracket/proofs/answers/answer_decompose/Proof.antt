@@ -1,41 +1,31 @@
+-- `answers::answer_decompose` meets its contract, by the laws of Answering.
 use native.Mathlib.Omega.{arith}
 use Rattle.bracket.proofs.Answering.{zeros-of-4032, factors-short}
 use borrow.Author.Needs.{needs}
 use Rattle.bracket.proofs.answers.answer_decompose.Statement.{statement}
 use Rattle.bracket.proofs.answers.answer_decompose.Tie as tie
-use Rattle.bracket.proofs.answers.answer_decompose.Reads as reads
-use Rattle.bracket.proofs.answers.answer_decompose.Lts as lts
-use Rattle.bracket.proofs.answers.decompose_into.Reads as decompose-into-reads
 
--- src/answers.rt:139:19
 sub-wanted : tie.Need-sub-wanted
 sub-wanted c = search needs
 
--- src/answers.rt:139:18
 mul-wanted : tie.Need-mul-wanted
 mul-wanted c = let n = c .before .before .before .args .n in omega (arith, factors-short n (omega arith))
 
--- src/answers.rt:140:39
 sub-decompose-into : tie.Need-sub-decompose-into
 sub-decompose-into c = search needs
 
--- src/answers.rt:140:39
 part-factors-start : tie.Need-part-factors-start
 part-factors-start c = search needs
 
--- src/answers.rt:140:39
 part-factors-end : tie.Need-part-factors-end
 part-factors-end c = let n = c .before .before .before .args .n in omega (arith, factors-short n (omega arith))
 
--- src/answers.rt:140:5
 decompose-into-requires : tie.Need-decompose-into-requires
 decompose-into-requires c κs = search zeros-of-4032
 
--- src/answers.rt:134:1
 same-length : tie.Need-same-length
 same-length c = search needs
 
--- src/answers.rt:134:1
 returns : tie.Need-returns
 returns c = search needs
 

@@ -1,32 +1,24 @@
+-- `answers::answer_generate` meets its contract, by the laws of Answering.
 use Rattle.bracket.proofs.Answering.{zeros-of-64}
 use borrow.Author.Needs.{needs}
 use Rattle.bracket.proofs.answers.answer_generate.Statement.{statement}
 use Rattle.bracket.proofs.answers.answer_generate.Tie as tie
-use Rattle.bracket.proofs.answers.answer_generate.Reads as reads
-use Rattle.bracket.proofs.answers.answer_generate.Lts as lts
-use Rattle.bracket.proofs.answers.generate_into.Reads as generate-into-reads
 
--- src/answers.rt:89:45
 sub-generate-into : tie.Need-sub-generate-into
 sub-generate-into c = search needs
 
--- src/answers.rt:89:45
 part-map-start : tie.Need-part-map-start
 part-map-start c = search needs
 
--- src/answers.rt:89:45
 part-map-end : tie.Need-part-map-end
 part-map-end c = search needs
 
--- src/answers.rt:89:5
 generate-into-requires : tie.Need-generate-into-requires
 generate-into-requires c κs = search zeros-of-64
 
--- src/answers.rt:84:1
 same-length : tie.Need-same-length
 same-length c = search needs
 
--- src/answers.rt:84:1
 returns : tie.Need-returns
 returns c = search needs
 

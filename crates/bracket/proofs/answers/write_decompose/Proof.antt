@@ -1,62 +1,45 @@
+-- `answers::write_decompose` meets its contract, by the laws of Answering.
 use Rattle.bracket.proofs.Answering.{factors-room, line-of-factors, line-of-irreducible, line-of-decompose-refused}
 use borrow.Author.Needs.{needs}
 use Rattle.bracket.proofs.answers.write_decompose.Statement.{statement}
 use Rattle.bracket.proofs.answers.write_decompose.Tie as tie
-use Rattle.bracket.proofs.answers.write_decompose.Reads as reads
-use Rattle.bracket.proofs.answers.write_decompose.Lts as lts
-use Rattle.bracket.proofs.writing.write_factors.Reads as write-factors-reads
-use Rattle.bracket.proofs.writing.write_irreducible.Reads as write-irreducible-reads
-use Rattle.bracket.proofs.writing.write_refused.Reads as write-refused-reads
 
--- src/answers.rt:41:29
 enum-known-answer : tie.Need-enum-known-answer
 enum-known-answer c = search needs
 
--- src/answers.rt:41:61
 cast-write-factors : tie.Need-cast-write-factors
 cast-write-factors c = search needs
 
--- src/answers.rt:41:39
 write-factors-requires : tie.Need-write-factors-requires
 write-factors-requires c κs = search factors-room
 
--- src/answers.rt:42:33
 enum-known-answer-2 : tie.Need-enum-known-answer-2
 enum-known-answer-2 c = search needs
 
--- src/answers.rt:42:42
 write-irreducible-requires : tie.Need-write-irreducible-requires
 write-irreducible-requires c κs = search needs
 
--- src/answers.rt:43:29
 enum-known-answer-3 : tie.Need-enum-known-answer-3
 enum-known-answer-3 c = search needs
 
--- src/answers.rt:43:40
 write-refused-requires : tie.Need-write-refused-requires
 write-refused-requires c κs = search needs
 
--- src/answers.rt:36:1
 same-length : tie.Need-same-length
 same-length c = search needs
 
--- src/answers.rt:36:1
 returns : tie.Need-returns
 returns c = search line-of-factors
 
--- src/answers.rt:36:1
 same-length-2 : tie.Need-same-length-2
 same-length-2 c = search needs
 
--- src/answers.rt:36:1
 returns-2 : tie.Need-returns-2
 returns-2 c = search line-of-irreducible
 
--- src/answers.rt:36:1
 same-length-3 : tie.Need-same-length-3
 same-length-3 c = search needs
 
--- src/answers.rt:36:1
 returns-3 : tie.Need-returns-3
 returns-3 c = search line-of-decompose-refused
 

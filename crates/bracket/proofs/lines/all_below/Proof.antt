@@ -1,3 +1,4 @@
+-- `lines::all_below` meets its contract, by the laws of Judging.
 use denote.Ref.{now}
 use native.Mathlib.Omega.{arith}
 use Prim.Native.Nat.{_-_}
@@ -6,8 +7,6 @@ use lib.ListN.{length}
 use Rattle.bracket.proofs.Judging.{Below, below-none, below-more, below-not, below-all}
 use Rattle.bracket.proofs.lines.all_below.Statement.{statement}
 use Rattle.bracket.proofs.lines.all_below.Tie as tie
-use Rattle.bracket.proofs.lines.all_below.Reads as reads
-use Rattle.bracket.proofs.lines.all_below.Lts as lts
 
 abbrev Inv-loop : tie.InvT-loop
 Inv-loop cells n i₀ i = Below cells n i
@@ -15,33 +14,26 @@ Inv-loop cells n i₀ i = Below cells n i
 abbrev μ-loop : tie.MeasureT-loop
 μ-loop cells n i₀ i = length cells - i
 
--- src/lines.rt:109:5
 loop-holds : tie.Need-loop-holds Inv-loop μ-loop
 loop-holds c = search below-none
 
--- src/lines.rt:110:17
 shared-slice-read-if1 : tie.Need-shared-slice-read-if1 Inv-loop μ-loop
 shared-slice-read-if1 c = search needs
 
--- src/lines.rt:111:13
 returns : tie.Need-returns Inv-loop μ-loop
 returns c =
     let l = c .before .before .before in
     below-not (now (l .before .args .cells)) (l .before .args .n) (l .loop .i) (l .loop .inv) (omega arith) (c .if1 .taken)
 
--- src/lines.rt:113:9
 add-i : tie.Need-add-i Inv-loop μ-loop
 add-i c = search needs
 
--- src/lines.rt:109:5
 loop-less : tie.Need-loop-less Inv-loop μ-loop
 loop-less c = search needs
 
--- src/lines.rt:109:5
 loop-again : tie.Need-loop-again Inv-loop μ-loop
 loop-again c = search below-more
 
--- src/lines.rt:105:1
 returns-2 : tie.Need-returns-2 Inv-loop μ-loop
 returns-2 c =
     below-all (now (c .before .before .args .cells)) (c .before .before .args .n) (c .before .loop .i) (c .before .loop .inv) (omega arith)

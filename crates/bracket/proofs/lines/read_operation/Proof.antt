@@ -1,47 +1,35 @@
+-- `lines::read_operation` meets its contract, by the laws of Judging and Defining.
 use native.Mathlib.Omega.{arith}
 use Rattle.bracket.proofs.Judging.{few-still}
 use Rattle.bracket.proofs.Defining.{arity-faulty, operation-refused, operation-read}
 use borrow.Author.Needs.{needs}
 use Rattle.bracket.proofs.lines.read_operation.Statement.{statement}
 use Rattle.bracket.proofs.lines.read_operation.Tie as tie
-use Rattle.bracket.proofs.lines.read_operation.Reads as reads
-use Rattle.bracket.proofs.lines.read_operation.Lts as lts
-use Rattle.bracket.proofs.lines.check_operation.Reads as check-operation-reads
-use Rattle.bracket.proofs.lines.read_arity.Reads as read-arity-reads
-use Rattle.bracket.proofs.lines.read_last_table.Reads as read-last-table-reads
 
--- src/lines.rt:146:9
 read-arity-requires : tie.Need-read-arity-requires
 read-arity-requires c κs = search needs
 
--- src/lines.rt:150:9
 returns : tie.Need-returns
 returns c = (search arity-faulty, omega arith)
 
--- src/lines.rt:152:9
 check-operation-requires : tie.Need-check-operation-requires
 check-operation-requires c κs = search needs
 
--- src/lines.rt:153:39
 enum-known-check : tie.Need-enum-known-check
 enum-known-check c = search needs
 
--- src/lines.rt:154:9
 returns-2 : tie.Need-returns-2
 returns-2 c = (search operation-refused, omega arith)
 
 enum-told : tie.Need-enum-told
 enum-told c = search needs
 
--- src/lines.rt:156:5
 read-last-table-requires : tie.Need-read-last-table-requires
 read-last-table-requires c κs = search needs
 
--- src/lines.rt:141:1
 same-length : tie.Need-same-length
 same-length c = search needs
 
--- src/lines.rt:141:1
 returns-3 : tie.Need-returns-3
 returns-3 c = (search operation-read, search few-still)
 

@@ -1,3 +1,4 @@
+-- `reading::read_rows` and `reading::read_table` meet their contracts, by the laws of Readers and Storing.
 use denote.Ref.{now}
 use Rattle.bracket.proofs.Readers.{within-text}
 use borrow.Author.Needs.{needs}
@@ -40,7 +41,6 @@ abbrev read-table-below : ℕ → In 2 read-table-kinds.ps
 read-table-below t =
     and 2 read-table-kinds.ps (falls 2 read-table-kinds.ps _<_ μ-read-table t) read-table.Pre
 
--- src/reading.rt:133:36
 read-rows-sub-read-table : (t : ℕ) → read-rows-lts.Need-sub-read-table (
   read-table-below t,
   read-table.Post,
@@ -51,7 +51,6 @@ read-rows-sub-read-table : (t : ℕ) → read-rows-lts.Need-sub-read-table (
 ) (read-rows-at t) read-rows.Post
 read-rows-sub-read-table t c = search needs
 
--- src/reading.rt:133:9
 read-rows-read-table-requires : (t : ℕ) → read-rows-lts.Need-read-table-requires (
   read-table-below t,
   read-table.Post,
@@ -64,7 +63,6 @@ read-rows-read-table-requires t c κs =
     let a = c .before .before .before .args in
     (omega (arith, part-less (a .arity) (length (now (a .text)) + 1) (omega arith)), search needs)
 
--- src/reading.rt:137:9
 read-rows-same-length : (t : ℕ) → read-rows-lts.Need-same-length (
   read-table-below t,
   read-table.Post,
@@ -75,7 +73,6 @@ read-rows-same-length : (t : ℕ) → read-rows-lts.Need-same-length (
 ) (read-rows-at t) read-rows.Post
 read-rows-same-length t c = search needs
 
--- src/reading.rt:137:9
 read-rows-returns : (t : ℕ) → read-rows-lts.Need-returns (
   read-table-below t,
   read-table.Post,
@@ -86,7 +83,6 @@ read-rows-returns : (t : ℕ) → read-rows-lts.Need-returns (
 ) (read-rows-at t) read-rows.Post
 read-rows-returns t c = search (rows-fault, not-true)
 
--- src/reading.rt:140:9
 read-rows-same-length-2 : (t : ℕ) → read-rows-lts.Need-same-length-2 (
   read-table-below t,
   read-table.Post,
@@ -97,7 +93,6 @@ read-rows-same-length-2 : (t : ℕ) → read-rows-lts.Need-same-length-2 (
 ) (read-rows-at t) read-rows.Post
 read-rows-same-length-2 t c = search needs
 
--- src/reading.rt:140:9
 read-rows-returns-2 : (t : ℕ) → read-rows-lts.Need-returns-2 (
   read-table-below t,
   read-table.Post,
@@ -108,7 +103,6 @@ read-rows-returns-2 : (t : ℕ) → read-rows-lts.Need-returns-2 (
 ) (read-rows-at t) read-rows.Post
 read-rows-returns-2 t c = search (rows-last, not-false)
 
--- src/reading.rt:142:8
 read-rows-byte-at-requires : (t : ℕ) → read-rows-lts.Need-byte-at-requires (
   read-table-below t,
   read-table.Post,
@@ -119,7 +113,6 @@ read-rows-byte-at-requires : (t : ℕ) → read-rows-lts.Need-byte-at-requires (
 ) (read-rows-at t) read-rows.Post
 read-rows-byte-at-requires t c κs = search needs
 
--- src/reading.rt:143:9
 read-rows-same-length-3 : (t : ℕ) → read-rows-lts.Need-same-length-3 (
   read-table-below t,
   read-table.Post,
@@ -130,7 +123,6 @@ read-rows-same-length-3 : (t : ℕ) → read-rows-lts.Need-same-length-3 (
 ) (read-rows-at t) read-rows.Post
 read-rows-same-length-3 t c = search needs
 
--- src/reading.rt:143:9
 read-rows-returns-3 : (t : ℕ) → read-rows-lts.Need-returns-3 (
   read-table-below t,
   read-table.Post,
@@ -141,7 +133,6 @@ read-rows-returns-3 : (t : ℕ) → read-rows-lts.Need-returns-3 (
 ) (read-rows-at t) read-rows.Post
 read-rows-returns-3 t c = search (rows-unparted, not-false)
 
--- src/reading.rt:145:21
 read-rows-add-read-rows : (t : ℕ) → read-rows-lts.Need-add-read-rows (
   read-table-below t,
   read-table.Post,
@@ -152,7 +143,6 @@ read-rows-add-read-rows : (t : ℕ) → read-rows-lts.Need-add-read-rows (
 ) (read-rows-at t) read-rows.Post
 read-rows-add-read-rows t c = search needs
 
--- src/reading.rt:145:41
 read-rows-sub-read-rows : (t : ℕ) → read-rows-lts.Need-sub-read-rows (
   read-table-below t,
   read-table.Post,
@@ -163,7 +153,6 @@ read-rows-sub-read-rows : (t : ℕ) → read-rows-lts.Need-sub-read-rows (
 ) (read-rows-at t) read-rows.Post
 read-rows-sub-read-rows t c = search needs
 
--- src/reading.rt:145:5
 read-rows-read-rows-requires : (t : ℕ) → read-rows-lts.Need-read-rows-requires (
   read-table-below t,
   read-table.Post,
@@ -177,7 +166,6 @@ read-rows-read-rows-requires t c κs =
     let l = within-text (now (k .before .before .before .before .args .text)) (k .read-table .result .at) (omega arith) in
     omega arith
 
--- src/reading.rt:128:1
 read-rows-same-length-4 : (t : ℕ) → read-rows-lts.Need-same-length-4 (
   read-table-below t,
   read-table.Post,
@@ -188,7 +176,6 @@ read-rows-same-length-4 : (t : ℕ) → read-rows-lts.Need-same-length-4 (
 ) (read-rows-at t) read-rows.Post
 read-rows-same-length-4 t c = search needs
 
--- src/reading.rt:128:1
 read-rows-returns-4 : (t : ℕ) → read-rows-lts.Need-returns-4 (
   read-table-below t,
   read-table.Post,
@@ -199,7 +186,6 @@ read-rows-returns-4 : (t : ℕ) → read-rows-lts.Need-returns-4 (
 ) (read-rows-at t) read-rows.Post
 read-rows-returns-4 t c = search (rows-more, not-false)
 
--- src/reading.rt:110:9
 read-table-read-cell-requires : (t : ℕ) → read-table-lts.Need-read-cell-requires (
   read-cell-reads.Asked,
   read-cell-reads.Learnt,
@@ -210,7 +196,6 @@ read-table-read-cell-requires : (t : ℕ) → read-table-lts.Need-read-cell-requ
 ) (read-table-at t) read-table.Post
 read-table-read-cell-requires t c κs = search needs
 
--- src/reading.rt:110:9
 read-table-same-length : (t : ℕ) → read-table-lts.Need-same-length (
   read-cell-reads.Asked,
   read-cell-reads.Learnt,
@@ -221,7 +206,6 @@ read-table-same-length : (t : ℕ) → read-table-lts.Need-same-length (
 ) (read-table-at t) read-table.Post
 read-table-same-length t c = search needs
 
--- src/reading.rt:110:9
 read-table-returns : (t : ℕ) → read-table-lts.Need-returns (
   read-cell-reads.Asked,
   read-cell-reads.Learnt,
@@ -232,7 +216,6 @@ read-table-returns : (t : ℕ) → read-table-lts.Need-returns (
 ) (read-table-at t) read-table.Post
 read-table-returns t c = search table-cell
 
--- src/reading.rt:112:8
 read-table-byte-at-requires : (t : ℕ) → read-table-lts.Need-byte-at-requires (
   read-cell-reads.Asked,
   read-cell-reads.Learnt,
@@ -243,7 +226,6 @@ read-table-byte-at-requires : (t : ℕ) → read-table-lts.Need-byte-at-requires
 ) (read-table-at t) read-table.Post
 read-table-byte-at-requires t c κs = search needs
 
--- src/reading.rt:113:9
 read-table-returns-2 : (t : ℕ) → read-table-lts.Need-returns-2 (
   read-cell-reads.Asked,
   read-cell-reads.Learnt,
@@ -254,7 +236,6 @@ read-table-returns-2 : (t : ℕ) → read-table-lts.Need-returns-2 (
 ) (read-table-at t) read-table.Post
 read-table-returns-2 t c = search table-unopened
 
--- src/reading.rt:115:32
 read-table-add-read-rows : (t : ℕ) → read-table-lts.Need-add-read-rows (
   read-cell-reads.Asked,
   read-cell-reads.Learnt,
@@ -265,7 +246,6 @@ read-table-add-read-rows : (t : ℕ) → read-table-lts.Need-add-read-rows (
 ) (read-table-at t) read-table.Post
 read-table-add-read-rows t c = search needs
 
--- src/reading.rt:115:9
 read-table-read-rows-requires : (t : ℕ) → read-table-lts.Need-read-rows-requires (
   read-cell-reads.Asked,
   read-cell-reads.Learnt,
@@ -279,7 +259,6 @@ read-table-read-rows-requires t c κs =
     let l = within-text (now (a .text)) (a .at) (omega arith) in
     omega arith
 
--- src/reading.rt:119:9
 read-table-same-length-2 : (t : ℕ) → read-table-lts.Need-same-length-2 (
   read-cell-reads.Asked,
   read-cell-reads.Learnt,
@@ -290,7 +269,6 @@ read-table-same-length-2 : (t : ℕ) → read-table-lts.Need-same-length-2 (
 ) (read-table-at t) read-table.Post
 read-table-same-length-2 t c = search needs
 
--- src/reading.rt:119:9
 read-table-returns-3 : (t : ℕ) → read-table-lts.Need-returns-3 (
   read-cell-reads.Asked,
   read-cell-reads.Learnt,
@@ -301,7 +279,6 @@ read-table-returns-3 : (t : ℕ) → read-table-lts.Need-returns-3 (
 ) (read-table-at t) read-table.Post
 read-table-returns-3 t c = search (table-fault, not-true)
 
--- src/reading.rt:121:8
 read-table-byte-at-requires-2 : (t : ℕ) → read-table-lts.Need-byte-at-requires-2 (
   read-cell-reads.Asked,
   read-cell-reads.Learnt,
@@ -312,7 +289,6 @@ read-table-byte-at-requires-2 : (t : ℕ) → read-table-lts.Need-byte-at-requir
 ) (read-table-at t) read-table.Post
 read-table-byte-at-requires-2 t c κs = search needs
 
--- src/reading.rt:122:9
 read-table-same-length-3 : (t : ℕ) → read-table-lts.Need-same-length-3 (
   read-cell-reads.Asked,
   read-cell-reads.Learnt,
@@ -323,7 +299,6 @@ read-table-same-length-3 : (t : ℕ) → read-table-lts.Need-same-length-3 (
 ) (read-table-at t) read-table.Post
 read-table-same-length-3 t c = search needs
 
--- src/reading.rt:122:9
 read-table-returns-4 : (t : ℕ) → read-table-lts.Need-returns-4 (
   read-cell-reads.Asked,
   read-cell-reads.Learnt,
@@ -334,7 +309,6 @@ read-table-returns-4 : (t : ℕ) → read-table-lts.Need-returns-4 (
 ) (read-table-at t) read-table.Post
 read-table-returns-4 t c = search (table-unclosed, not-false)
 
--- src/reading.rt:124:26
 read-table-add-t14 : (t : ℕ) → read-table-lts.Need-add-t14 (
   read-cell-reads.Asked,
   read-cell-reads.Learnt,
@@ -345,7 +319,6 @@ read-table-add-t14 : (t : ℕ) → read-table-lts.Need-add-t14 (
 ) (read-table-at t) read-table.Post
 read-table-add-t14 t c = search needs
 
--- src/reading.rt:104:1
 read-table-same-length-4 : (t : ℕ) → read-table-lts.Need-same-length-4 (
   read-cell-reads.Asked,
   read-cell-reads.Learnt,
@@ -356,7 +329,6 @@ read-table-same-length-4 : (t : ℕ) → read-table-lts.Need-same-length-4 (
 ) (read-table-at t) read-table.Post
 read-table-same-length-4 t c = search needs
 
--- src/reading.rt:104:1
 read-table-returns-5 : (t : ℕ) → read-table-lts.Need-returns-5 (
   read-cell-reads.Asked,
   read-cell-reads.Learnt,

@@ -1,21 +1,17 @@
+-- `reading::byte_at` meets its contract.
 use denote.Ref.{now}
 use mathlib.Core.Path.{sym}
 use lib.ListN.{List·getD-eq-default}
 use borrow.Author.Needs.{needs}
 use Rattle.bracket.proofs.reading.byte_at.Statement.{statement}
 use Rattle.bracket.proofs.reading.byte_at.Tie as tie
-use Rattle.bracket.proofs.reading.byte_at.Reads as reads
-use Rattle.bracket.proofs.reading.byte_at.Lts as lts
 
--- src/reading.rt:20:26
 shared-slice-read-result : tie.Need-shared-slice-read-result
 shared-slice-read-result c = search needs
 
--- src/reading.rt:17:1
 returns : tie.Need-returns
 returns c = search needs
 
--- src/reading.rt:17:1
 returns-2 : tie.Need-returns-2
 returns-2 c = sym (List·getD-eq-default (now (c .before .args .text)) 0 {n = c .before .args .at} (c .if1 .left))
 

@@ -1,3 +1,4 @@
+-- `reading::digit_at` meets its contract, by the laws of Digits.
 use denote.Ref.{now}
 use native.Mathlib.Omega.{arith}
 use mathlib.Core.Path.{sym}
@@ -5,23 +6,16 @@ use Rattle.bracket.proofs.Digits.{digit-below, digit-above, digit-here}
 use borrow.Author.Needs.{needs}
 use Rattle.bracket.proofs.reading.digit_at.Statement.{statement}
 use Rattle.bracket.proofs.reading.digit_at.Tie as tie
-use Rattle.bracket.proofs.reading.digit_at.Reads as reads
-use Rattle.bracket.proofs.reading.digit_at.Lts as lts
-use Rattle.bracket.proofs.reading.byte_at.Reads as byte-at-reads
 
--- src/reading.rt:27:9
 byte-at-requires : tie.Need-byte-at-requires
 byte-at-requires c κs = search needs
 
--- src/reading.rt:29:9
 returns : tie.Need-returns
 returns c = sym (digit-below (now (c .before .before .before .args .text)) (c .before .before .before .args .at) (omega arith))
 
--- src/reading.rt:32:9
 returns-2 : tie.Need-returns-2
 returns-2 c = sym (digit-above (now (c .before .before .before .before .args .text)) (c .before .before .before .before .args .at) (omega arith))
 
--- src/reading.rt:24:1
 returns-3 : tie.Need-returns-3
 returns-3 c =
     let a = c .before .before .before .before .args in

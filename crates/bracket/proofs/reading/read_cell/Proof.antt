@@ -1,33 +1,25 @@
+-- `reading::read_cell` meets its contract, by the laws of Storing.
 use borrow.Author.Tests.{not-true, not-false}
 use Rattle.bracket.proofs.Storing.{cell-none, cell-room, cell-one}
 use borrow.Author.Needs.{needs}
 use Rattle.bracket.proofs.reading.read_cell.Statement.{statement}
 use Rattle.bracket.proofs.reading.read_cell.Tie as tie
-use Rattle.bracket.proofs.reading.read_cell.Reads as reads
-use Rattle.bracket.proofs.reading.read_cell.Lts as lts
-use Rattle.bracket.proofs.reading.read_number.Reads as read-number-reads
 
--- src/reading.rt:94:9
 read-number-requires : tie.Need-read-number-requires
 read-number-requires c κs = search needs
 
--- src/reading.rt:97:9
 returns : tie.Need-returns
 returns c = search (cell-none, not-true)
 
--- src/reading.rt:99:5
 slice-write-cells : tie.Need-slice-write-cells
 slice-write-cells c = search (cell-room, not-false)
 
--- src/reading.rt:100:37
 add-t9 : tie.Need-add-t9
 add-t9 c = search needs
 
--- src/reading.rt:90:1
 same-length : tie.Need-same-length
 same-length c = search needs
 
--- src/reading.rt:90:1
 returns-2 : tie.Need-returns-2
 returns-2 c = search (cell-one, not-false)
 

@@ -1,3 +1,4 @@
+-- `reading::read_items` meets its contract, by the laws of Listing and Readers.
 use denote.Ref.{now}
 use Prim.Native.Nat.{_-_}
 use borrow.Author.Needs.{needs}
@@ -9,10 +10,6 @@ use Rattle.bracket.proofs.Listing.{Listed, listed-none, listed-fault, l
 use Rattle.bracket.proofs.Readers.{within-text}
 use Rattle.bracket.proofs.reading.read_items.Statement.{statement}
 use Rattle.bracket.proofs.reading.read_items.Tie as tie
-use Rattle.bracket.proofs.reading.read_items.Reads as reads
-use Rattle.bracket.proofs.reading.read_items.Lts as lts
-use Rattle.bracket.proofs.reading.byte_at.Reads as byte-at-reads
-use Rattle.bracket.proofs.reading.read_table.Reads as read-table-reads
 
 abbrev Inv-loop : tie.InvT-loop
 Inv-loop text at arity n cells₀ put next₀ so-far₀ cells next so-far = Listed text at cells₀ put (table n arity) cells next so-far
@@ -20,46 +17,36 @@ Inv-loop text at arity n cells₀ put next₀ so-far₀ cells next so-far = List
 abbrev μ-loop : tie.MeasureT-loop
 μ-loop text at arity n cells₀ put next₀ so-far₀ cells next so-far = length text - next
 
--- src/reading.rt:156:5
 loop-holds : tie.Need-loop-holds Inv-loop μ-loop
 loop-holds c = search listed-none
 
--- src/reading.rt:156:11
 byte-at-requires : tie.Need-byte-at-requires Inv-loop μ-loop
 byte-at-requires c κs = search needs
 
--- src/reading.rt:157:37
 add-read-table : tie.Need-add-read-table Inv-loop μ-loop
 add-read-table c = search needs
 
--- src/reading.rt:157:13
 read-table-requires : tie.Need-read-table-requires Inv-loop μ-loop
 read-table-requires c κs =
     let k = c .before .before .before in
     let l = within-text (now (k .before .before .before .args .text)) (k .loop .next) (omega arith) in
     omega arith
 
--- src/reading.rt:161:13
 same-length : tie.Need-same-length Inv-loop μ-loop
 same-length c = search needs
 
--- src/reading.rt:161:13
 returns : tie.Need-returns Inv-loop μ-loop
 returns c = search (listed-fault, not-true)
 
--- src/reading.rt:156:5
 loop-less : tie.Need-loop-less Inv-loop μ-loop
 loop-less c = search needs
 
--- src/reading.rt:156:5
 loop-again : tie.Need-loop-again Inv-loop μ-loop
 loop-again c = search (listed-more, not-false)
 
--- src/reading.rt:149:1
 same-length-2 : tie.Need-same-length-2 Inv-loop μ-loop
 same-length-2 c = search needs
 
--- src/reading.rt:149:1
 returns-2 : tie.Need-returns-2 Inv-loop μ-loop
 returns-2 c = search listed-all
 

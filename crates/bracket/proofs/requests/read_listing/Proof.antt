@@ -1,52 +1,39 @@
+-- `requests::read_listing` meets its contract, by the laws of Asking.
 use Rattle.bracket.specs.Reading.{ascii}
 use Rattle.bracket.proofs.Asking.{listing-fault, listing-open, listing-closed}
 use borrow.Author.Needs.{needs}
 use Rattle.bracket.proofs.requests.read_listing.Statement.{statement}
 use Rattle.bracket.proofs.requests.read_listing.Tie as tie
-use Rattle.bracket.proofs.requests.read_listing.Reads as reads
-use Rattle.bracket.proofs.requests.read_listing.Lts as lts
-use Rattle.bracket.proofs.reading.begins_with.Reads as begins-with-reads
-use Rattle.bracket.proofs.reading.read_items.Reads as read-items-reads
 
--- src/requests.rt:33:9
 read-items-requires : tie.Need-read-items-requires
 read-items-requires c κs = search needs
 
--- src/requests.rt:37:9
 same-length : tie.Need-same-length
 same-length c = search needs
 
--- src/requests.rt:37:9
 returns : tie.Need-returns
 unfolding ascii
 returns c = search listing-fault
 
--- src/requests.rt:39:33
 slice-aggregate-begins-with : tie.Need-slice-aggregate-begins-with
 slice-aggregate-begins-with c = search needs
 
--- src/requests.rt:39:9
 begins-with-requires : tie.Need-begins-with-requires
 begins-with-requires c κs = search needs
 
--- src/requests.rt:40:9
 same-length-2 : tie.Need-same-length-2
 same-length-2 c = search needs
 
--- src/requests.rt:40:9
 returns-2 : tie.Need-returns-2
 unfolding ascii
 returns-2 c = search listing-open
 
--- src/requests.rt:42:26
 add-t17 : tie.Need-add-t17
 add-t17 c = search needs
 
--- src/requests.rt:28:1
 same-length-3 : tie.Need-same-length-3
 same-length-3 c = search needs
 
--- src/requests.rt:28:1
 returns-3 : tie.Need-returns-3
 unfolding ascii
 returns-3 c = search listing-closed

@@ -1,3 +1,4 @@
+-- `requests::read_request` meets its contract, by the laws of Asking.
 use Rattle.bracket.specs.Promises.{goesOn}
 use native.Mathlib.Omega.{arith}
 use mathlib.Core.Path.{sym, _∙_}
@@ -7,82 +8,60 @@ use Rattle.bracket.proofs.Asking.{bit-small, room-behind, ask-generate,
 use borrow.Author.Needs.{needs}
 use Rattle.bracket.proofs.requests.read_request.Statement.{statement}
 use Rattle.bracket.proofs.requests.read_request.Tie as tie
-use Rattle.bracket.proofs.requests.read_request.Reads as reads
-use Rattle.bracket.proofs.requests.read_request.Lts as lts
-use Rattle.bracket.proofs.reading.begins_with.Reads as begins-with-reads
-use Rattle.bracket.proofs.requests.read_contained.Reads as read-contained-reads
-use Rattle.bracket.proofs.requests.read_generate.Reads as read-generate-reads
-use Rattle.bracket.proofs.requests.read_separate.Reads as read-separate-reads
 
--- src/requests.rt:100:30
 slice-aggregate-begins-with : tie.Need-slice-aggregate-begins-with
 slice-aggregate-begins-with c = search needs
 
--- src/requests.rt:100:8
 begins-with-requires : tie.Need-begins-with-requires
 begins-with-requires c κs = search needs
 
--- src/requests.rt:101:36
 add-read-generate : tie.Need-add-read-generate
 add-read-generate c = search needs
 
--- src/requests.rt:101:9
 read-generate-requires : tie.Need-read-generate-requires
 unfolding ascii every
 read-generate-requires c κs =
     let k = c .before .before in
     room-behind (k .before .before .before .before .pre) (ascii "[generate") tt (sym (k .begins-with .ensures) ∙ c .before .if1 .taken)
 
--- src/requests.rt:101:9
 same-length : tie.Need-same-length
 same-length c = search needs
 
--- src/requests.rt:101:9
 returns : tie.Need-returns
 unfolding ascii
 returns c = (search ask-generate, let r = c .before .before .read-generate in omega (arith, bit-small (goesOn (r .result .asked)), r .ensures .reached))
 
--- src/requests.rt:103:30
 slice-aggregate-begins-with-2 : tie.Need-slice-aggregate-begins-with-2
 slice-aggregate-begins-with-2 c = search needs
 
--- src/requests.rt:103:8
 begins-with-requires-2 : tie.Need-begins-with-requires-2
 begins-with-requires-2 c κs = search needs
 
--- src/requests.rt:104:37
 add-read-contained : tie.Need-add-read-contained
 add-read-contained c = search needs
 
--- src/requests.rt:104:9
 read-contained-requires : tie.Need-read-contained-requires
 unfolding ascii every
 read-contained-requires c κs =
     let k = c .before .before in
     room-behind (k .before .before .before .before .before .before .before .pre) (ascii "[contained") tt (sym (k .begins-with2 .ensures) ∙ c .before .if2 .taken)
 
--- src/requests.rt:104:9
 same-length-2 : tie.Need-same-length-2
 same-length-2 c = search needs
 
--- src/requests.rt:104:9
 returns-2 : tie.Need-returns-2
 unfolding ascii
 returns-2 c = (search ask-contained, let r = c .before .before .read-contained in omega (arith, bit-small (goesOn (r .result .asked)), r .ensures .reached))
 
--- src/requests.rt:106:30
 slice-aggregate-begins-with-3 : tie.Need-slice-aggregate-begins-with-3
 slice-aggregate-begins-with-3 c = search needs
 
--- src/requests.rt:106:8
 begins-with-requires-3 : tie.Need-begins-with-requires-3
 begins-with-requires-3 c κs = search needs
 
--- src/requests.rt:107:36
 add-read-separate : tie.Need-add-read-separate
 add-read-separate c = search needs
 
--- src/requests.rt:107:9
 read-separate-requires : tie.Need-read-separate-requires
 unfolding ascii every
 read-separate-requires c κs =
@@ -90,29 +69,23 @@ read-separate-requires c κs =
     let p = k .before .before .before .before .before .before .before .before .before .before .pre in
     room-behind p (ascii "[separate") tt (sym (k .begins-with3 .ensures) ∙ c .if3 .taken) .within
 
--- src/requests.rt:107:9
 returns-3 : tie.Need-returns-3
 unfolding ascii
 returns-3 c = (search ask-separate, let r = c .read-separate in omega (arith, bit-small (goesOn (r .result .asked)), r .ensures .reached))
 
--- src/requests.rt:109:30
 slice-aggregate-begins-with-4 : tie.Need-slice-aggregate-begins-with-4
 slice-aggregate-begins-with-4 c = search needs
 
--- src/requests.rt:109:8
 begins-with-requires-4 : tie.Need-begins-with-requires-4
 begins-with-requires-4 c κs = search needs
 
--- src/requests.rt:110:61
 add-t29 : tie.Need-add-t29
 add-t29 c = search needs
 
--- src/requests.rt:110:9
 returns-4 : tie.Need-returns-4
 unfolding ascii
 returns-4 c = (search ask-decompose, omega arith)
 
--- src/requests.rt:96:1
 returns-5 : tie.Need-returns-5
 unfolding ascii
 returns-5 c = (search ask-nothing, omega arith)

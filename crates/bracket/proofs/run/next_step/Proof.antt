@@ -1,82 +1,61 @@
+-- `run::next_step` meets its contract, by the laws of Stepping.
 use Rattle.bracket.specs.Reading.{ascii}
 use Rattle.bracket.proofs.Stepping.{step-asked, step-operation, step-request, operation-room}
 use borrow.Author.Needs.{needs}
 use Rattle.bracket.proofs.run.next_step.Statement.{statement}
 use Rattle.bracket.proofs.run.next_step.Tie as tie
-use Rattle.bracket.proofs.run.next_step.Reads as reads
-use Rattle.bracket.proofs.run.next_step.Lts as lts
-use Rattle.bracket.proofs.reading.begins_with.Reads as begins-with-reads
-use Rattle.bracket.proofs.run.operation_step.Reads as operation-step-reads
-use Rattle.bracket.proofs.run.request_step.Reads as request-step-reads
 
--- src/run.rt:103:9
 request-step-requires : tie.Need-request-step-requires
 request-step-requires c κs = search needs
 
--- src/run.rt:103:9
 same-length : tie.Need-same-length
 same-length c = search needs
 
--- src/run.rt:103:9
 same-length-2 : tie.Need-same-length-2
 same-length-2 c = search needs
 
--- src/run.rt:103:9
 same-length-3 : tie.Need-same-length-3
 same-length-3 c = search needs
 
--- src/run.rt:103:9
 returns : tie.Need-returns
 unfolding ascii
 returns c = search step-asked
 
--- src/run.rt:105:39
 slice-aggregate-begins-with : tie.Need-slice-aggregate-begins-with
 slice-aggregate-begins-with c = search needs
 
--- src/run.rt:105:8
 begins-with-requires : tie.Need-begins-with-requires
 begins-with-requires c κs = search needs
 
--- src/run.rt:106:9
 operation-step-requires : tie.Need-operation-step-requires
 unfolding ascii
 operation-step-requires c κs = (search needs, (search needs, search operation-room))
 
--- src/run.rt:106:9
 same-length-4 : tie.Need-same-length-4
 same-length-4 c = search needs
 
--- src/run.rt:106:9
 same-length-5 : tie.Need-same-length-5
 same-length-5 c = search needs
 
--- src/run.rt:106:9
 same-length-6 : tie.Need-same-length-6
 same-length-6 c = search needs
 
--- src/run.rt:106:9
 returns-2 : tie.Need-returns-2
 unfolding ascii
 returns-2 c = search step-operation
 
--- src/run.rt:108:5
 request-step-requires-2 : tie.Need-request-step-requires-2
 request-step-requires-2 c κs = search needs
 
--- src/run.rt:97:1
 same-length-7 : tie.Need-same-length-7
 same-length-7 c = search needs
 
--- src/run.rt:97:1
 same-length-8 : tie.Need-same-length-8
 same-length-8 c = search needs
 
--- src/run.rt:97:1
 same-length-9 : tie.Need-same-length-9
 same-length-9 c = search needs
 
--- src/run.rt:97:1
 returns-3 : tie.Need-returns-3
 unfolding ascii
 returns-3 c = search step-request

@@ -1,60 +1,45 @@
+-- `run::operation_step` meets its contract, by the laws of Stepping.
 use Rattle.bracket.proofs.Stepping.{operation-ends, operation-place, operation-grows}
 use borrow.Author.Needs.{needs}
 use Rattle.bracket.proofs.run.operation_step.Statement.{statement}
 use Rattle.bracket.proofs.run.operation_step.Tie as tie
-use Rattle.bracket.proofs.run.operation_step.Reads as reads
-use Rattle.bracket.proofs.run.operation_step.Lts as lts
-use Rattle.bracket.proofs.lines.read_operation.Reads as read-operation-reads
-use Rattle.bracket.proofs.writing.write_refused.Reads as write-refused-reads
 
--- src/run.rt:61:37
 add-read-operation : tie.Need-add-read-operation
 add-read-operation c = search needs
 
--- src/run.rt:61:9
 read-operation-requires : tie.Need-read-operation-requires
 read-operation-requires c κs = search needs
 
--- src/run.rt:65:39
 enum-known-check : tie.Need-enum-known-check
 enum-known-check c = search needs
 
--- src/run.rt:66:13
 write-refused-requires : tie.Need-write-refused-requires
 write-refused-requires c κs = search needs
 
--- src/run.rt:68:9
 same-length : tie.Need-same-length
 same-length c = search needs
 
--- src/run.rt:68:9
 same-length-2 : tie.Need-same-length-2
 same-length-2 c = search needs
 
--- src/run.rt:68:9
 returns : tie.Need-returns
 returns c = search operation-ends
 
 enum-told : tie.Need-enum-told
 enum-told c = search needs
 
--- src/run.rt:70:5
 slice-write-arities : tie.Need-slice-write-arities
 slice-write-arities c = search operation-place
 
--- src/run.rt:71:68
 add-t18 : tie.Need-add-t18
 add-t18 c = search needs
 
--- src/run.rt:51:1
 same-length-3 : tie.Need-same-length-3
 same-length-3 c = search needs
 
--- src/run.rt:51:1
 same-length-4 : tie.Need-same-length-4
 same-length-4 c = search needs
 
--- src/run.rt:51:1
 returns-2 : tie.Need-returns-2
 returns-2 c = search operation-grows
 

@@ -1,16 +1,12 @@
-use Prim.Native.Nat.{_+_, _*_}
+-- `writing::write_maps` meets its contract, by the laws of Spacing.
 use denote.Ref.{now}
 use lib.ListN.{length-take, length-drop}
 use Prim.Native.Nat.{_≤_, _-_}
 use native.Mathlib.Omega.{arith}
-use lib.ListN.{length}
 use borrow.Author.Needs.{needs}
 use Rattle.bracket.proofs.Spacing.{Factored, OneMore, factored-none, factored-room, factored-more, factored-all, factored-short}
 use Rattle.bracket.proofs.writing.write_maps.Statement.{statement}
 use Rattle.bracket.proofs.writing.write_maps.Tie as tie
-use Rattle.bracket.proofs.writing.write_maps.Reads as reads
-use Rattle.bracket.proofs.writing.write_maps.Lts as lts
-use Rattle.bracket.proofs.writing.write_spaced_bracket.Reads as write-spaced-bracket-reads
 
 abbrev Inv-loop : tie.InvT-loop
 Inv-loop out₀ put n count maps at₀ from₀ i₀ out at from i = (i ≤ count) × Factored out₀ put n maps out at from i
@@ -18,7 +14,6 @@ Inv-loop out₀ put n count maps at₀ from₀ i₀ out at from i = (i ≤ count
 abbrev μ-loop : tie.MeasureT-loop
 μ-loop out₀ put n count maps at₀ from₀ i₀ out at from i = count - i
 
--- src/writing.rt:108:5
 loop-holds : tie.Need-loop-holds Inv-loop μ-loop
 loop-holds c = (search needs, factored-none _ _ _ _ (omega arith))
 
@@ -26,43 +21,33 @@ turn : (c : tie.In-loop Inv-loop μ-loop) → let a = c .before .before .before 
     OneMore (a .n) (now (a .maps)) (c .before .loop .out) (c .before .loop .at) (c .before .loop .from)
 turn c = search factored-room
 
--- src/writing.rt:109:18
 add-to : tie.Need-add-to Inv-loop μ-loop
 add-to c = omega (arith, turn c)
 
--- src/writing.rt:110:44
 sub-write-spaced-bracket : tie.Need-sub-write-spaced-bracket Inv-loop μ-loop
 sub-write-spaced-bracket c = search needs
 
--- src/writing.rt:110:44
 part-write-spaced-bracket-start : tie.Need-part-write-spaced-bracket-start Inv-loop μ-loop
 part-write-spaced-bracket-start c = search needs
 
--- src/writing.rt:110:44
 part-write-spaced-bracket-end : tie.Need-part-write-spaced-bracket-end Inv-loop μ-loop
 part-write-spaced-bracket-end c = omega (arith, turn (c .before))
 
--- src/writing.rt:110:9
 write-spaced-bracket-requires : tie.Need-write-spaced-bracket-requires Inv-loop μ-loop
 write-spaced-bracket-requires c κs = simp (length-take, length-drop) (omega (arith, turn (c .before .before)))
 
--- src/writing.rt:112:9
 add-i : tie.Need-add-i Inv-loop μ-loop
 add-i c = search needs
 
--- src/writing.rt:108:5
 loop-less : tie.Need-loop-less Inv-loop μ-loop
 loop-less c = search needs
 
--- src/writing.rt:108:5
 loop-again : tie.Need-loop-again Inv-loop μ-loop
 loop-again c = (omega arith, search factored-more)
 
--- src/writing.rt:100:1
 same-length : tie.Need-same-length Inv-loop μ-loop
 same-length c = search needs
 
--- src/writing.rt:100:1
 returns : tie.Need-returns Inv-loop μ-loop
 returns c = (search factored-all, search factored-short)
 

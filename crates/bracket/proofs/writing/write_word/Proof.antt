@@ -1,11 +1,10 @@
+-- `writing::write_word` meets its contract, by the laws of Laying.
 use Rattle.bracket.proofs.Laying.{Lettered, lettered-none, lettered-more, lettered-all}
 use borrow.Author.Needs.{needs}
 use Prim.Native.Nat.{_-_}
 use lib.ListN.{length}
 use Rattle.bracket.proofs.writing.write_word.Statement.{statement}
 use Rattle.bracket.proofs.writing.write_word.Tie as tie
-use Rattle.bracket.proofs.writing.write_word.Reads as reads
-use Rattle.bracket.proofs.writing.write_word.Lts as lts
 
 abbrev Inv-loop : tie.InvT-loop
 Inv-loop out₀ put word i₀ out i = Lettered out₀ put word out i
@@ -13,43 +12,33 @@ Inv-loop out₀ put word i₀ out i = Lettered out₀ put word out i
 abbrev μ-loop : tie.MeasureT-loop
 μ-loop out₀ put word i₀ out i = length word - i
 
--- src/writing.rt:25:5
 loop-holds : tie.Need-loop-holds Inv-loop μ-loop
 loop-holds c = search lettered-none
 
--- src/writing.rt:26:24
 shared-slice-read-out : tie.Need-shared-slice-read-out Inv-loop μ-loop
 shared-slice-read-out c = search needs
 
--- src/writing.rt:26:13
 add-out : tie.Need-add-out Inv-loop μ-loop
 add-out c = search needs
 
--- src/writing.rt:26:9
 slice-write-out : tie.Need-slice-write-out Inv-loop μ-loop
 slice-write-out c = search needs
 
--- src/writing.rt:27:9
 add-i : tie.Need-add-i Inv-loop μ-loop
 add-i c = search needs
 
--- src/writing.rt:25:5
 loop-less : tie.Need-loop-less Inv-loop μ-loop
 loop-less c = search needs
 
--- src/writing.rt:25:5
 loop-again : tie.Need-loop-again Inv-loop μ-loop
 loop-again c = search lettered-more
 
--- src/writing.rt:29:5
 add-result : tie.Need-add-result Inv-loop μ-loop
 add-result c = search needs
 
--- src/writing.rt:20:1
 same-length : tie.Need-same-length Inv-loop μ-loop
 same-length c = search needs
 
--- src/writing.rt:20:1
 returns : tie.Need-returns Inv-loop μ-loop
 returns c = search lettered-all
 
