@@ -1,3 +1,4 @@
+pub mod Accepting
 pub mod Answering
 pub mod Asking
 pub mod Calling
