@@ -9,6 +9,7 @@ pub mod Forward
 pub mod Judging
 pub mod Laying
 pub mod Listing
+pub mod Numerals
 pub mod Parts
 pub mod Readers
 pub mod SpacedNumbers
