@@ -1,3 +1,4 @@
+pub mod Accepting
 pub mod Answering
 pub mod Asking
 pub mod Calling
@@ -8,6 +9,7 @@ pub mod Forward
 pub mod Judging
 pub mod Laying
 pub mod Listing
+pub mod Numerals
 pub mod Parts
 pub mod Readers
 pub mod SpacedNumbers

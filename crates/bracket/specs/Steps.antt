@@ -35,7 +35,7 @@ pub record Lent (text arities room out : List ℕ) : Type 0 where
   pub storage : length text ≤ length room
   pub line : 16384 ≤ length out
 
--- a step came to what `d` says: it wrote the piece, and nothing after it
+-- a step came to what `d` says: it wrote the piece, and nothing after it; the lent slices hold the arities and the cells, and are open behind these
 pub record Stepping (text : List ℕ) (at : ℕ) (d : Step) (lent arities room out : List ℕ) (r : Stepped) : Type 0 where
   pub piece : List ℕ
   pub value : d ≡ stepOf (r .standing .goes) piece (stateOf (r .standing) arities room)

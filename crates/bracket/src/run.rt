@@ -241,8 +241,8 @@ pub fn begin(text: &[u8], out: &mut [u8]) -> Stepped
 }
 
 // Takes the line at which a run stands. What the line writes goes to the start of `out`, which wants 16,384 bytes. `arities`, of 16 bytes, and `room`, as
-// long as the text, are lent to every step of a run and left as they are between steps: the arities and the cells of the algebra stand first in them, and the
-// rest of `room` is left open. With less lent, or from a standing that no run comes to, nothing is done and the run does not go on.
+// long as the text, are lent to every step of a run and left as they are between steps: the arities and the cells of the algebra stand first in them, and what
+// stands behind these after a step is left open. With less lent, or from a standing that no run comes to, nothing is done and the run does not go on.
 pub fn step(
     text: &[u8],
     standing: Standing,
