@@ -1,5 +1,7 @@
 pub mod Names
 pub mod Splits
+pub mod Seeing
+pub mod Sifting
 pub mod Tables
 pub mod Compatibility
 pub mod Refinements

@@ -1,51 +1,67 @@
--- Passes until nothing changes give the greatest congruence inside a map; one pass that changes nothing shows that a map is a congruence.
-use Prim.Native.Nat.{ℕ, _+_, _<_}
+-- Passes over all lines, until one splits nothing: the map is then the greatest congruence inside the first one. And the test whether a
+-- map is a congruence.
+use Prim.Native.Nat.{ℕ, _≤_, _<_}
 use mathlib.Core.Bool.{Bool, true, false}
-use mathlib.Core.List.{List, _∷_, _++_}
-use mathlib.Core.Path.{_≡_, refl, sym, ap, subst, _∙_}
+use mathlib.Core.List.{List, [], _∷_, _++_}
+use mathlib.Core.Path.{_≡_, refl, sym, ap, _∙_}
 use native.Mathlib.Omega.{arith}
-use lib.Dec.{T, eqb}
-use borrow.Author.Tests.{eq-eqb, eqb-true}
-use Rattle.equivalence.specs.Equivalence.{Map, byte, isMap}
-use Rattle.equivalence.specs.Kernel.{Canonical, names}
-use Rattle.equivalence.proofs.Maps.{of-isMap}
-use Rattle.algebra.specs.Algebra.{Algebra, place}
+use lib.Dec.{T}
+use lib.ListN.{length}
+use Rattle.equivalence.specs.Equivalence.{Map, byte, isMap, inside}
+use Rattle.equivalence.specs.Kernel.{Canonical, Filled, names}
+use Rattle.equivalence.proofs.Maps.{of-isMap, inside-of, of-inside}
+use Rattle.algebra.specs.Algebra.{Algebra}
 use Rattle.algebra.specs.Congruence.{isCongruence}
-use Rattle.algebra.specs.Translations.{tableStart, result, Compatible, Refined}
+use Rattle.algebra.specs.Translations.{result, Compatible, Refined}
 use Rattle.algebra.proofs.Accepted.{WellFormed}
-use Rattle.algebra.proofs.Congruences.{congruence-is, congruence-of, cells-below}
+use Rattle.algebra.proofs.Congruences.{congruence-is, congruence-of}
 use Rattle.algebra.proofs.Translations.{congruence-compatible, compatible-congruence}
-use Rattle.refinement.specs.Splitting.{Split}
-use Rattle.refinement.proofs.Names.{names-full, names-one, names-within}
+use Rattle.refinement.specs.Splitting.{Listed, Elements, Sifted, Lists, Split, Represented}
+use Rattle.refinement.proofs.Names.{names-full, names-one}
+use Rattle.refinement.proofs.Compatibility.{result-below}
 
 -- the identity is compatible with every operation
-pub identity-compatible : (a : Algebra) (g : ℕ → ℕ) → names (a .size) g ≡ a .size → Compatible a g
-identity-compatible a g e x y lx ly p j l pre post s b d =
-    ap (λ (z : ℕ). g (result a j (pre ++ (z ∷ post)))) (sym (names-full (a .size) g e x lx) ∙ p ∙ names-full (a .size) g e y ly)
-
-result-below : (a : Algebra) → WellFormed a → (j : ℕ) (xs : List ℕ) → result a j xs < a .size
-unfolding result
-result-below a w j xs = cells-below a w (tableStart a j + place (a .size) xs)
+pub identity-compatible : (a : Algebra) (g : ℕ → ℕ) → ((x : ℕ) → x < a .size → g x ≡ x) → Compatible a g
+identity-compatible a g h x y lx ly p j l pre post s b d = ap (λ (z : ℕ). g (result a j (pre ++ (z ∷ post)))) (sym (h x lx) ∙ p ∙ h y ly)
 
 -- so is a single block
-pub whole-compatible : (a : Algebra) → WellFormed a → (g : ℕ → ℕ) → Canonical (a .size) g → names (a .size) g ≡ 1 → Compatible a g
+whole-compatible : (a : Algebra) → WellFormed a → (g : ℕ → ℕ) → Canonical (a .size) g → names (a .size) g ≡ 1 → Compatible a g
 whole-compatible a w g c e x y lx ly p j l pre post s b d =
     names-one (a .size) g c e (result a j (pre ++ (x ∷ post))) (result-below a w j (pre ++ (x ∷ post)))
     ∙ sym (names-one (a .size) g c e (result a j (pre ++ (y ∷ post))) (result-below a w j (pre ++ (y ∷ post))))
 
 -- a split into what is compatible is the refinement
-pub split-refined : (a : Algebra) {Done : (ℕ → ℕ) → Type 0} {b r : ℕ} {m m′ : Map} → Split (a .size) (Compatible a) Done b m m′ r → Compatible a (byte m′) → Refined a (byte m) (byte m′)
+pub split-refined : (a : Algebra) {Done : (ℕ → ℕ) → Type 0} {m m′ : Map} → Split (a .size) (Compatible a) Done m m′ → Compatible a (byte m′) → Refined a (byte m) (byte m′)
 split-refined a s c = record { canonical = s .canonical; compatible = c; within = s .within; greatest = s .greatest }
 
--- ---- one pass
+-- a single block is its own refinement
+pub whole-refined : (a : Algebra) → WellFormed a → (f : ℕ → ℕ) → Canonical (a .size) f → names (a .size) f ≡ 1 → Refined a f f
+whole-refined a w f c e = record { canonical = c; compatible = whole-compatible a w f c e; within = λ x y lx ly p. p; greatest = λ g k h. h }
 
-module _ (a : Algebra) {b r : ℕ} {m m′ : Map} (c : Canonical (a .size) (byte m)) (e : b ≡ names (a .size) (byte m)) (s : Split (a .size) (Compatible a) (Compatible a) b m m′ r) where
-  pub unsplit-compatible : r ≡ b → Compatible a (byte m)
-  unsplit-compatible p = subst (λ (z : Map). Compatible a (byte z)) (s .still p) (s .done p)
+-- ---- the lists that a refinement begins with
 
-  pub compatible-unsplit : Compatible a (byte m) → r ≡ b
-  compatible-unsplit k =
-      omega (arith, s .more, s .counted, names-within (a .size) (byte m) (byte m′) c (s .canonical) (s .greatest (byte m) k (λ x y lx ly p. p)))
+-- the others among all elements in use
+pub lists-first : {n used left : ℕ} {live others others′ : List ℕ} {f : ℕ → ℕ} → length others′ ≡ length others → used ≤ length others → Elements n live used
+    → ((i : ℕ) → i < used → byte others i ≡ byte live i) → Sifted f others used others′ left → Lists n live used others′ left f
+lists-first {n} {used} {left} {live} {others} {others′} e r s c k = record {
+  live-elements = s;
+  elements = record {
+    room = omega (arith, k .fewer);
+    below = λ i l. let o = k .old i l in rw (o .1 .1) at (rw (sym (c (o .0) (o .1 .0))) at (s .below (o .0) (o .1 .0)));
+  };
+  all = λ x l h. k .all x (l .0, (l .1 .0, c (l .0) (l .1 .0) ∙ l .1 .1)) h;
+}
+
+-- all elements stand for all
+pub all-represented : (a : Algebra) (live : List ℕ) (e : ℕ → ℕ) → a .size ≤ length live → ((x : ℕ) → x < a .size → byte live x ≡ x) → Represented a live (a .size) e
+all-represented a live e r h = record {
+  elements = record { room = r; below = λ i l. omega (arith, h i l) };
+  name = λ x. x;
+  canonical = record { below = λ x l. omega arith; root = λ x l. refl };
+  compatible = identity-compatible a (λ x. x) (λ x l. refl);
+  within = λ x y lx ly p. ap e p;
+  listed = λ x l. (x, (l, h x l));
+}
 
 -- ---- two functions that agree on the elements
 
@@ -55,7 +71,7 @@ canonical-same n f g e c = record {
   root = λ x l. ap g (e x l) ∙ e (f x) (omega (arith, c .below x l)) ∙ c .root x l ∙ sym (e x l);
 }
 
-pub compatible-same : (a : Algebra) → WellFormed a → (f g : ℕ → ℕ) → ((x : ℕ) → x < a .size → g x ≡ f x) → Compatible a f → Compatible a g
+compatible-same : (a : Algebra) → WellFormed a → (f g : ℕ → ℕ) → ((x : ℕ) → x < a .size → g x ≡ f x) → Compatible a f → Compatible a g
 compatible-same a w f g e c x y lx ly p j l pre post s b d =
     e (result a j (pre ++ (x ∷ post))) (result-below a w j (pre ++ (x ∷ post)))
     ∙ c x y lx ly (sym (e x lx) ∙ p ∙ e y ly) j l pre post s b d
@@ -63,18 +79,30 @@ compatible-same a w f g e c x y lx ly p j l pre post s b d =
 
 -- ---- the test
 
-same-tests : (r t : Bool) → (r ≡ true → T t) → (T t → r ≡ true) → r ≡ t
+same-tests : (r t : Bool) → (T r → T t) → (T t → T r) → r ≡ t
 same-tests true true f g = refl
-same-tests true false f g = absurd (f refl)
-same-tests false true f g = g tt
+same-tests true false f g = absurd (f tt)
+same-tests false true f g = absurd (g tt)
 same-tests false false f g = refl
 
--- a copy of a map, split in one pass: as many blocks as before tell that the map is a congruence
-pub unsplit-congruence : (a : Algebra) → WellFormed a → (m k k′ : Map) (b r : ℕ) → T (isMap (a .size) m) → ((x : ℕ) → x < a .size → byte k x ≡ byte m x)
-    → b ≡ names (a .size) (byte k) → Split (a .size) (Compatible a) (Compatible a) b k k′ r → eqb r b ≡ isCongruence a m
-unsplit-congruence a w m k k′ b r t e n s =
+-- a map inside its refinement is compatible
+inside-compatible : (a : Algebra) → WellFormed a → (f e : ℕ → ℕ) → Refined a f e → ((x y : ℕ) → x < a .size → y < a .size → f x ≡ f y → e x ≡ e y) → Compatible a f
+inside-compatible a w f e r h x y lx ly p j l pre post s b d =
+    r .within (result a j (pre ++ (x ∷ post))) (result a j (pre ++ (y ∷ post))) (result-below a w j (pre ++ (x ∷ post))) (result-below a w j (pre ++ (y ∷ post)))
+    (r .compatible x y lx ly (h x y lx ly p) j l pre post s b d)
+
+-- the refinement k of a copy f of a map m holds all pairs of m just where m is a congruence
+pub inside-congruence : (a : Algebra) → WellFormed a → (m k : Map) (f : ℕ → ℕ) → T (isMap (a .size) m) → ((x : ℕ) → x < a .size → f x ≡ byte m x)
+    → Refined a f (byte k) → inside (a .size) m k ≡ isCongruence a m
+inside-congruence a w m k f t e r =
     let p = of-isMap (a .size) m t in
-    let c : Canonical (a .size) (byte k) = canonical-same (a .size) (byte m) (byte k) e (record { below = p .low; root = p .named }) in
-    same-tests (eqb r b) (isCongruence a m)
-    (λ q. congruence-of a m (compatible-congruence a m p (compatible-same a w (byte k) (byte m) (λ x l. sym (e x l)) (unsplit-compatible a c n s (eqb-true r b q)))) .respects)
-    (λ q. eq-eqb r b (compatible-unsplit a c n s (compatible-same a w (byte m) (byte k) e (congruence-compatible a m (congruence-is a m (record { map = t; respects = q }))))))
+    same-tests (inside (a .size) m k) (isCongruence a m)
+    (λ q. congruence-of a m
+    (compatible-congruence a m p
+    (compatible-same a w f (byte m) (λ x l. sym (e x l))
+    (inside-compatible a w f (byte k) r (λ x y lx ly i. of-inside (a .size) m k q x y lx ly (sym (e x lx) ∙ i ∙ e y ly)))))
+    .respects)
+    (λ q. inside-of (a .size) m k
+    (λ x y lx ly i.
+    r .greatest f (compatible-same a w (byte m) f e (congruence-compatible a m (congruence-is a m (record { map = t; respects = q }))))
+    (λ u v lu lv o. o) x y lx ly (e x lx ∙ i ∙ sym (e y ly))))

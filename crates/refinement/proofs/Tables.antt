@@ -1,10 +1,14 @@
--- The lines of a table, by its arity: splitting along them all, and what it means for the operation.
-use Prim.Native.Nat.{ℕ, _*_, _^_, _≤_}
+-- The lines of a table, by its arity: where they lie, and splitting along them all.
+use Prim.Native.Nat.{ℕ, _+_, _*_, _^_, _≤_, _<_}
+use mathlib.Core.Bool.{Bool, true, false}
 use mathlib.Core.List.{List}
 use mathlib.Core.Path.{_≡_, ap, _∙_}
-use native.Mathlib.Nat.{pow-zero, pow-suc, one-mul, mul-le-mul}
+use native.Mathlib.Nat.{pow-zero, pow-suc, one-mul, mul-one, mul-comm, mul-assoc, mul-le-mul}
+use native.Mathlib.Omega.{arith}
+use lib.Arith.{digits-lt}
+use lib.ListN.{length}
 use Rattle.equivalence.specs.Equivalence.{Map}
-use Rattle.refinement.specs.Splitting.{Block, Rows, Planes, Table, Any, First, Split}
+use Rattle.refinement.specs.Splitting.{Listed, Keeps, KeepsOn, Any, Chosen, Lines, Planes, Table, OnLines, OnPlanes, Split}
 use Rattle.refinement.proofs.Splits.{split-more, split-said}
 
 -- ---- powers up to the third
@@ -21,29 +25,57 @@ power-three n = pow-suc n 2 ∙ ap (λ (k : ℕ). k * n) (power-two n)
 pub square-most : (n : ℕ) → n ≤ 64 → n * n ≤ 4096
 square-most n l = mul-le-mul l l
 
-pub cube-most : (n : ℕ) → n ≤ 64 → n * n * n ≤ 262144
-cube-most n l = mul-le-mul (square-most n l) l
+-- ---- room
+
+module _ (n : ℕ) (cells : List ℕ) (base : ℕ) where
+  pub columns-room : base + n * n ≤ length cells → OnLines n cells base 1 n
+  columns-room h r lr x lx = omega (arith, digits-lt {q = x} {m = n} {r = r} {c = n} lx lr)
+
+  pub rows-room : base + n * n ≤ length cells → OnLines n cells base n 1
+  rows-room h r lr x lx = omega (arith, digits-lt {q = r} {m = n} {r = x} {c = n} lr lx)
+
+  module _ (h : base + n * n * n ≤ length cells) where
+    pub first-room : OnPlanes n cells base n 1 (n * n)
+    first-room r lr s ls x lx =
+        omega (arith, digits-lt {q = r} {m = n} {r = s} {c = n} lr ls, digits-lt {q = x} {m = n} {r = r * n + s} {c = n * n} lx (digits-lt {q = r} {m = n} {r = s} {c = n} lr ls), mul-assoc n n n)
+
+    pub second-room : OnPlanes n cells base (n * n) 1 n
+    second-room r lr s ls x lx =
+        omega (arith, digits-lt {q = r} {m = n} {r = x * n + s} {c = n * n} lr (digits-lt {q = x} {m = n} {r = s} {c = n} lx ls), mul-assoc n n n)
+
+    pub third-room : OnPlanes n cells base (n * n) n 1
+    third-room r lr s ls x lx =
+        omega (arith, digits-lt {q = r} {m = n} {r = s * n + x} {c = n * n} lr (digits-lt {q = s} {m = n} {r = x} {c = n} ls lx), mul-assoc n n n)
 
 -- ---- splits along a table
 
--- m is split along all lines of a table of arity s
-abbrev pub TableSplit : (n : ℕ) (cells : List ℕ) (base s b : ℕ) (m m′ : Map) (r : ℕ) → Type 0
-TableSplit n cells base s b m m′ r = Split n (Table Any n cells base s) (λ g. Table (First g) n cells base s g) b m m′ r
+-- m is split along all lines of a table of arity s, the other arguments being listed
+abbrev pub TableSplit : (n : ℕ) (live : List ℕ) (used : ℕ) (cells : List ℕ) (base s : ℕ) (m m′ : Map) → Type 0
+TableSplit n live used cells base s m m′ = Split n (Table (Any n) (Keeps n) n cells base s) (Table (Chosen live used) (KeepsOn (Listed live used)) n cells base s) m m′
 
-pub table-of : {n s k b r : ℕ} {m m′ : Map} (cells : List ℕ) (base : ℕ) → s ≡ k → TableSplit n cells base k b m m′ r → TableSplit n cells base s b m m′ r
-table-of cells base e h = rw e h
+-- along the lines that begin at `base`
+abbrev LinesSplit : (n : ℕ) (live : List ℕ) (used : ℕ) (cells : List ℕ) (base : ℕ) → Bool → ℕ → ℕ → Map → Map → Type 0
+LinesSplit n live used cells base firsts step d m m′ = Split n (Lines (Any n firsts) (Keeps n) cells base step d) (Lines (Chosen live used firsts) (KeepsOn (Listed live used)) cells base step d) m m′
 
-pub table-from : {n b r base start : ℕ} {m m′ : Map} (cells : List ℕ) (s : ℕ) → base ≡ start → TableSplit n cells base s b m m′ r → TableSplit n cells start s b m m′ r
-table-from cells s e h = rw e at h
+-- along the planes
+abbrev PlanesSplit : (n : ℕ) (live : List ℕ) (used : ℕ) (cells : List ℕ) (base : ℕ) → Bool → Bool → ℕ → ℕ → ℕ → Map → Map → Type 0
+PlanesSplit n live used cells base firsts inner row step d m m′ =
+    Split n (Planes (Any n firsts) (Any n inner) (Keeps n) cells base row step d) (Planes (Chosen live used firsts) (Chosen live used inner) (KeepsOn (Listed live used)) cells base row step d) m m′
 
-module _ {n b r r′ : ℕ} {m₀ m m′ : Map} (cells : List ℕ) (base : ℕ) where
-  pub table-two : Split n (Block n cells base n) (Block n cells base n) b m₀ m r
-      → Split n (Rows Any n cells base 1) (λ g. Rows (First g) n cells base 1 g) r m m′ r′ → TableSplit n cells base 2 b m₀ m′ r′
-  table-two s u = split-more (λ g h. h .1) (λ g p q. (p, q)) (split-said (λ g h. h .0) (λ g c h. h) s) u
+module _ (n : ℕ) (live : List ℕ) (used : ℕ) (cells : List ℕ) where
+  pub table-of : {s k : ℕ} {m m′ : Map} (base : ℕ) → s ≡ k → TableSplit n live used cells base k m m′ → TableSplit n live used cells base s m m′
+  table-of base e h = rw e h
 
-  pub table-three : {m″ : Map} {r″ : ℕ} → Split n (Block n cells base (n * n)) (Block n cells base (n * n)) b m₀ m r
-      → Split n (Rows Any n cells base n) (λ g. Rows (First g) n cells base n g) r m m′ r′
-      → Split n (Planes Any n cells base) (λ g. Planes (First g) n cells base g) r′ m′ m″ r″ → TableSplit n cells base 3 b m₀ m″ r″
-  table-three s u v =
-      split-more (λ g h. h .2) (λ g p q. (p .0, p .1, q))
-      (split-more {Both = λ g. (Block n cells base (n * n) g × Rows (First g) n cells base n g)} (λ g h. h .1) (λ g p q. (p, q)) (split-said (λ g h. h .0) (λ g c h. h) s) u) v
+  pub table-from : {base start : ℕ} {m m′ : Map} (s : ℕ) → base ≡ start → TableSplit n live used cells base s m m′ → TableSplit n live used cells start s m m′
+  table-from s e h = rw e at h
+
+  module _ {m₀ m m′ : Map} (base : ℕ) where
+    pub table-two : LinesSplit n live used cells base false 1 n m₀ m → LinesSplit n live used cells base true n 1 m m′ → TableSplit n live used cells base 2 m₀ m′
+    table-two s u = split-more (λ g h. h .1) (λ g p q. (p, q)) (split-said (λ g h. h .0) (λ h. h) s) u
+
+    pub table-three : {m″ : Map} → PlanesSplit n live used cells base false false n 1 (n * n) m₀ m → PlanesSplit n live used cells base true false (n * n) 1 n m m′
+        → PlanesSplit n live used cells base true true (n * n) n 1 m′ m″ → TableSplit n live used cells base 3 m₀ m″
+    table-three s u v =
+        split-more {Done = λ g. (Planes (Chosen live used false) (Chosen live used false) (KeepsOn (Listed live used)) cells base n 1 (n * n) g × Planes (Chosen live used true) (Chosen live used false) (KeepsOn (Listed live used)) cells base (n * n) 1 n g)}
+        (λ g h. h .1 .1) (λ g p q. (p .0, (p .1, q)))
+        (split-more (λ g h. h .1 .0) (λ g p q. (p, q)) (split-said (λ g h. h .0) (λ h. h) s) u) v

@@ -1,10 +1,22 @@
 -- Splitting a map along translations: what the inner functions of this crate ask of each other and promise.
 use Prim.Native.Nat.{ℕ, zero, suc, _+_, _*_, _≤_, _<_}
 use mathlib.Core.Path.{_≡_}
+use mathlib.Core.Bool.{Bool, true, false}
 use mathlib.Core.List.{List}
 use lib.ListN.{length, getD}
 use Rattle.equivalence.specs.Equivalence.{Map, byte}
 use Rattle.equivalence.specs.Kernel.{Canonical, Within, names}
+use Rattle.algebra.specs.Algebra.{Algebra}
+use Rattle.algebra.specs.Translations.{Compatible}
+
+-- c is one of the first `count` elements of a list
+abbrev pub Listed : List ℕ → ℕ → ℕ → Type 0
+Listed list count c = (i : ℕ) × ((i < count) × (byte list i ≡ c))
+
+-- the first `count` members of a list are elements
+pub record Elements (n : ℕ) (list : List ℕ) (count : ℕ) : Type 0 where
+  pub room : count ≤ length list
+  pub below : (i : ℕ) → i < count → byte list i < n
 
 -- the cells along the line of stride d that begins at `base`: a translation
 abbrev pub line : List ℕ → ℕ → ℕ → ℕ → ℕ
@@ -14,32 +26,34 @@ line cells base d x = getD cells (base + x * d) 0
 abbrev pub Keeps : ℕ → (ℕ → ℕ) → (ℕ → ℕ) → Type 0
 Keeps n t g = Within n g (λ x. g (t x))
 
--- all d lines of the d * n cells from `base` keep g
-abbrev pub Block : ℕ → List ℕ → ℕ → ℕ → (ℕ → ℕ) → Type 0
-Block n cells base d g = (lo : ℕ) → lo < d → Keeps n (line cells (base + lo) d) g
+-- t takes each x in L to the block to which it takes the first member of x's block
+abbrev pub KeepsOn : (ℕ → Type 0) → (ℕ → ℕ) → (ℕ → ℕ) → Type 0
+KeepsOn L t g = (x : ℕ) → L x → g (t x) ≡ g (t (g x))
 
--- so do those of each row r, of d * n cells, where r is in `Row`
-abbrev pub Rows : (ℕ → Type 0) → ℕ → List ℕ → ℕ → ℕ → (ℕ → ℕ) → Type 0
-Rows Row n cells base d g = (r : ℕ) → r < n → Row r → Block n cells (base + r * (d * n)) d g
+-- which elements stand as the other arguments, by the map that is split: every element
+abbrev pub Any : ℕ → Bool → (ℕ → ℕ) → ℕ → Type 0
+Any n firsts g r = r < n
 
--- so do those of stride 1 of each plane p, of n * n cells, where p is in `Row`
-abbrev pub Planes : (ℕ → Type 0) → ℕ → List ℕ → ℕ → (ℕ → ℕ) → Type 0
-Planes Row n cells base g = (p : ℕ) → p < n → Row p → Rows Row n cells (base + p * (n * n)) 1 g
+-- or the listed ones; before the varied argument, of these only first members
+abbrev pub Chosen : List ℕ → ℕ → Bool → (ℕ → ℕ) → ℕ → Type 0
+Chosen list count firsts g r = Listed list count r × (firsts ≡ true → g r ≡ r)
 
--- the lines of an operation of arity s whose table begins at `base`, the arguments before the varied one in `Row`, keep g
-abbrev pub Table : (ℕ → Type 0) → ℕ → List ℕ → ℕ → ℕ → (ℕ → ℕ) → Type 0
-Table Row n cells base zero g = Unit {0}
-Table Row n cells base (suc zero) g = Block n cells base 1 g
-Table Row n cells base (suc (suc zero)) g = Block n cells base n g × Rows Row n cells base 1 g
-Table Row n cells base (suc (suc (suc s))) g = Block n cells base (n * n) g × Rows Row n cells base n g × Planes Row n cells base g
+-- K holds of the lines of stride d that begin at `base` moved by `step` times an element of R
+abbrev pub Lines : ((ℕ → ℕ) → ℕ → Type 0) → ((ℕ → ℕ) → (ℕ → ℕ) → Type 0) → List ℕ → ℕ → ℕ → ℕ → (ℕ → ℕ) → Type 0
+Lines R K cells base step d g = (r : ℕ) → R g r → K (line cells (base + r * step) d) g
 
--- every element
-abbrev pub Any : ℕ → Type 0
-Any r = Unit {0}
+-- the same, where `base` is moved by `row` times an element of Q before
+abbrev pub Planes : ((ℕ → ℕ) → ℕ → Type 0) → ((ℕ → ℕ) → ℕ → Type 0) → ((ℕ → ℕ) → (ℕ → ℕ) → Type 0) → List ℕ → ℕ → ℕ → ℕ → ℕ → (ℕ → ℕ) → Type 0
+Planes Q R K cells base row step d g = (r : ℕ) → Q g r → Lines R K cells (base + r * row) step d g
 
--- the first members of g's blocks
-abbrev pub First : (ℕ → ℕ) → ℕ → Type 0
-First g r = g r ≡ r
+-- the same for the lines of an operation of arity s whose table begins at `base`; R true is asked of arguments before the varied one
+abbrev pub Table : (Bool → (ℕ → ℕ) → ℕ → Type 0) → ((ℕ → ℕ) → (ℕ → ℕ) → Type 0) → ℕ → List ℕ → ℕ → ℕ → (ℕ → ℕ) → Type 0
+Table R K n cells base zero g = Unit {0}
+Table R K n cells base (suc zero) g = K (line cells base 1) g
+Table R K n cells base (suc (suc zero)) g = Lines (R false) K cells base 1 n g × Lines (R true) K cells base n 1 g
+Table R K n cells base (suc (suc (suc s))) g =
+    Planes (R false) (R false) K cells base n 1 (n * n) g
+    × (Planes (R true) (R false) K cells base (n * n) 1 n g × Planes (R true) (R true) K cells base (n * n) n 1 g)
 
 -- what every pass is lent: a map with room for n bytes, and cells below n
 pub record Lent (n : ℕ) (m cells : List ℕ) : Type 0 where
@@ -53,27 +67,67 @@ pub record Lent (n : ℕ) (m cells : List ℕ) : Type 0 where
 abbrev pub OnLine : ℕ → List ℕ → ℕ → ℕ → Type 0
 OnLine n cells base d = (x : ℕ) → x < n → base + x * d < length cells
 
--- r is the first element that t takes out of the block to which it takes the first member of the element's block; where all are kept, r is n
-pub record Broken (n : ℕ) (t f : ℕ → ℕ) (r : ℕ) : Type 0 where
-  pub most : r ≤ n
-  pub found : r < n → f (t r) ≡ f (t (f r)) → ⊥
-  pub none : r ≡ n → Keeps n t f
+-- so do the lines that begin at `base` moved by `step` times an element
+abbrev pub OnLines : ℕ → List ℕ → ℕ → ℕ → ℕ → Type 0
+OnLines n cells base step d = (r : ℕ) → r < n → OnLine n cells (base + r * step) d
 
--- y is the first element that f joins with x both before and after t
-pub record Alike (t f : ℕ → ℕ) (x y : ℕ) : Type 0 where
+-- so do those that begin at `base` moved by `row` times an element and `step` times another
+abbrev pub OnPlanes : ℕ → List ℕ → ℕ → ℕ → ℕ → ℕ → Type 0
+OnPlanes n cells base row step d = (r : ℕ) → r < n → OnLines n cells (base + r * row) step d
+
+-- r is the first index from i on of a listed element that t takes out of the block to which it takes the first member of the element's block, or `count`
+pub record Broken (t f : ℕ → ℕ) (list : List ℕ) (count i r : ℕ) : Type 0 where
+  pub after : i ≤ r
+  pub most : r ≤ count
+  pub kept : (k : ℕ) → i ≤ k → k < r → f (t (byte list k)) ≡ f (t (f (byte list k)))
+  pub found : r < count → f (t (byte list r)) ≡ f (t (f (byte list r))) → ⊥
+
+-- y is the first element that f joins with x, of those in the block named `name` the first that it joins with x after t too
+pub record Alike (t f : ℕ → ℕ) (name x y : ℕ) : Type 0 where
   pub low : y ≤ x
   pub before : f y ≡ f x
-  pub after : f (t y) ≡ f (t x)
-  pub first : (z : ℕ) → z < y → f z ≡ f x → f (t z) ≡ f (t x) → ⊥
+  pub after : f x ≡ name → f (t y) ≡ f (t x)
+  pub first : (z : ℕ) → z < y → f z ≡ f x → (f x ≡ name → f (t z) ≡ f (t x)) → ⊥
 
--- m, which has b blocks, was split into m′, which has r: inside m, and above every g inside m of which `Good` holds. Where no block was
--- split m′ is m, and `Done` holds of it.
-pub record Split (n : ℕ) (Good Done : (ℕ → ℕ) → Type 0) (b : ℕ) (m m′ : Map) (r : ℕ) : Type 0 where
+-- y is the first element of the block named `name` that t takes to the block named v
+pub record FirstInto (t f : ℕ → ℕ) (name v y : ℕ) : Type 0 where
+  pub block : f y ≡ name
+  pub image : f (t y) ≡ v
+  pub first : (z : ℕ) → z < y → f z ≡ name → f (t z) ≡ v → ⊥
+
+-- for each block the first element below x of the block named `name` that t takes to it; 64 where there is none
+pub record Seen (t f : ℕ → ℕ) (name x : ℕ) (seen : ℕ → ℕ) : Type 0 where
+  pub below : (v : ℕ) → v < 64 → seen v < 64 → seen v < x
+  pub first : (v : ℕ) → v < 64 → seen v < 64 → FirstInto t f name v (seen v)
+  pub none : (v : ℕ) → v < 64 → 64 ≤ seen v → (z : ℕ) → z < x → f z ≡ name → f (t z) ≡ v → ⊥
+
+-- of a list those are kept that are no first members of f
+pub record Sifted (f : ℕ → ℕ) (list : List ℕ) (count : ℕ) (list′ : List ℕ) (count′ : ℕ) : Type 0 where
+  pub fewer : count′ ≤ count
+  pub old : (i : ℕ) → i < count′ → Listed list count (byte list′ i)
+  pub all : (x : ℕ) → Listed list count x → ¬ (f x ≡ x) → Listed list′ count′ x
+
+-- the elements in use, and a list that has those of them that are no first members of f
+pub record Lists (n : ℕ) (live : List ℕ) (used : ℕ) (others : List ℕ) (left : ℕ) (f : ℕ → ℕ) : Type 0 where
+  pub live-elements : Elements n live used
+  pub elements : Elements n others left
+  pub all : (x : ℕ) → Listed live used x → ¬ (f x ≡ x) → Listed others left x
+
+-- m was split into m′: inside m, and above every g inside m of which `Good` holds. Where m′ has no block more it is m, and `Done` holds of it.
+pub record Split (n : ℕ) (Good Done : (ℕ → ℕ) → Type 0) (m m′ : Map) : Type 0 where
   pub canonical : Canonical n (byte m′)
   pub within : Within n (byte m′) (byte m)
   pub greatest : (g : ℕ → ℕ) → Good g → Within n g (byte m) → Within n g (byte m′)
   pub rest : (x : ℕ) → n ≤ x → byte m′ x ≡ byte m x
-  pub counted : r ≡ names n (byte m′)
-  pub more : b ≤ r
-  pub still : r ≡ b → m′ ≡ m
-  pub done : r ≡ b → Done (byte m′)
+  pub more : names n (byte m) ≤ names n (byte m′)
+  pub still : names n (byte m′) ≡ names n (byte m) → m′ ≡ m
+  pub done : names n (byte m′) ≡ names n (byte m) → Done (byte m′)
+
+-- the listed elements stand for all: they have the first members of every block of some congruence within e
+pub record Represented (a : Algebra) (live : List ℕ) (used : ℕ) (e : ℕ → ℕ) : Type 0 where
+  pub elements : Elements (a .size) live used
+  pub name : ℕ → ℕ
+  pub canonical : Canonical (a .size) name
+  pub compatible : Compatible a name
+  pub within : Within (a .size) name e
+  pub listed : (x : ℕ) → x < a .size → Listed live used (name x)

@@ -9,22 +9,38 @@ ghost use Rattle.algebra.specs.Accepted.{Accepted};
 ghost use Rattle.algebra.specs.Algebra.{algebraOf};
 ghost use Rattle.algebra.specs.Congruence.{isCongruence};
 ghost use Rattle.algebra.specs.Translations.{Refined};
+ghost use Rattle.refinement.specs.Splitting.{Lists, Represented};
 
 mod line;
 mod walk;
 
-// The first n bytes of m become the greatest congruence inside the map that they write; those past n keep their value. Passes over all
-// lines follow each other until one splits nothing, or every block has one element.
-pub fn refine(m: &mut [u8], n: usize, arities: &[u8], cells: &[u8])
+// Passes over all lines follow each other until one splits nothing, or every block has one element. None splits a single block.
+fn refine_by(
+    m: &mut [u8],
+    n: usize,
+    arities: &[u8],
+    cells: &[u8],
+    live: &[u8],
+    used: usize,
+    others: &mut [u8],
+    start: usize,
+)
     requires { ⌜ Accepted (algebraOf n (now arities) (now cells)) ⌝ }
     requires { ⌜ n ≤ length (now m) ⌝ }
     requires { ⌜ Canonical n (byte (now m)) ⌝ }
+    requires { ⌜ Represented (algebraOf n (now arities) (now cells)) (now live) used (byte (now m)) ⌝ }
+    requires { ⌜ Lists n (now live) used (now others) start (byte (now m)) ⌝ }
     ensures { λ _. ⌜ Refined (algebraOf n (now (arities .entry)) (now (cells .entry))) (byte (now (m .entry))) (byte (now (m .exit))) ⌝ }
     ensures { λ _. ⌜ ((x : ℕ) → n ≤ x → byte (now (m .exit)) x ≡ byte (now (m .entry)) x) ⌝ }
 {
-    let mut count = line::blocks(m, n);
+    let mut left = start;
+    let mut count = equivalence::map::block_count(n, m);
+    if count == 1 {
+        return;
+    }
     while count < n {
-        let found = walk::split_all(m, n, count, arities, cells);
+        left = walk::split_all(m, n, arities, cells, live, used, others, left);
+        let found = equivalence::map::block_count(n, m);
         if found == count {
             return;
         }
@@ -32,7 +48,58 @@ pub fn refine(m: &mut [u8], n: usize, arities: &[u8], cells: &[u8])
     }
 }
 
-// Whether the map m is a congruence: whether a pass over all lines splits no block of it.
+// `refine_above` with room for the list of those elements in use that are no first members.
+fn refine_in(
+    m: &mut [u8],
+    n: usize,
+    arities: &[u8],
+    cells: &[u8],
+    live: &[u8],
+    used: usize,
+    others: &mut [u8],
+)
+    requires { ⌜ Accepted (algebraOf n (now arities) (now cells)) ⌝ }
+    requires { ⌜ n ≤ length (now m) ⌝ }
+    requires { ⌜ Canonical n (byte (now m)) ⌝ }
+    requires { ⌜ Represented (algebraOf n (now arities) (now cells)) (now live) used (byte (now m)) ⌝ }
+    requires { ⌜ used ≤ length (now others) ⌝ }
+    ensures { λ _. ⌜ Refined (algebraOf n (now (arities .entry)) (now (cells .entry))) (byte (now (m .entry))) (byte (now (m .exit))) ⌝ }
+    ensures { λ _. ⌜ ((x : ℕ) → n ≤ x → byte (now (m .exit)) x ≡ byte (now (m .entry)) x) ⌝ }
+{
+    equivalence::blocks::copy(live, others, used);
+    let left = line::sift(m, others, used);
+    refine_by(m, n, arities, cells, live, used, others, left);
+}
+
+// The first n bytes of m become the greatest congruence inside the map that they write; those past n keep their value. Only listed
+// elements are looked at: where a congruence inside the map is known, its first members stand for all.
+pub fn refine_above(m: &mut [u8], n: usize, arities: &[u8], cells: &[u8], live: &[u8], used: usize)
+    requires { ⌜ Accepted (algebraOf n (now arities) (now cells)) ⌝ }
+    requires { ⌜ n ≤ length (now m) ⌝ }
+    requires { ⌜ Canonical n (byte (now m)) ⌝ }
+    requires { ⌜ Represented (algebraOf n (now arities) (now cells)) (now live) used (byte (now m)) ⌝ }
+    requires { ⌜ used ≤ 64 ⌝ }
+    ensures { λ _. ⌜ Refined (algebraOf n (now (arities .entry)) (now (cells .entry))) (byte (now (m .entry))) (byte (now (m .exit))) ⌝ }
+    ensures { λ _. ⌜ ((x : ℕ) → n ≤ x → byte (now (m .exit)) x ≡ byte (now (m .entry)) x) ⌝ }
+{
+    let mut others = [0u8; 64];
+    refine_in(m, n, arities, cells, live, used, &mut others);
+}
+
+// The first n bytes of m become the greatest congruence inside the map that they write; those past n keep their value.
+pub fn refine(m: &mut [u8], n: usize, arities: &[u8], cells: &[u8])
+    requires { ⌜ Accepted (algebraOf n (now arities) (now cells)) ⌝ }
+    requires { ⌜ n ≤ length (now m) ⌝ }
+    requires { ⌜ Canonical n (byte (now m)) ⌝ }
+    ensures { λ _. ⌜ Refined (algebraOf n (now (arities .entry)) (now (cells .entry))) (byte (now (m .entry))) (byte (now (m .exit))) ⌝ }
+    ensures { λ _. ⌜ ((x : ℕ) → n ≤ x → byte (now (m .exit)) x ≡ byte (now (m .entry)) x) ⌝ }
+{
+    let mut live = [0u8; 64];
+    equivalence::blocks::identity(&mut live, n);
+    refine_above(m, n, arities, cells, &live, n);
+}
+
+// Whether the map m is a congruence: whether the greatest congruence inside it still holds all its pairs.
 pub fn is_congruence(n: usize, arities: &[u8], cells: &[u8], m: &[u8]) -> bool
     requires { ⌜ Accepted (algebraOf n (now arities) (now cells)) ⌝ }
     requires { ⌜ T (isMap n (now m)) ⌝ }
@@ -40,6 +107,6 @@ pub fn is_congruence(n: usize, arities: &[u8], cells: &[u8], m: &[u8]) -> bool
 {
     let mut split = [0u8; 64];
     equivalence::blocks::copy(m, &mut split, n);
-    let count = line::blocks(&split, n);
-    walk::split_all(&mut split, n, count, arities, cells) == count
+    refine(&mut split, n, arities, cells);
+    equivalence::map::is_inside(n, m, &split)
 }

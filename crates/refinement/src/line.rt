@@ -1,145 +1,191 @@
-// One line of a table: the cells that one argument runs through while the others stay. It keeps a map, or it splits blocks.
+// One line of a table: the cells that one argument runs through while the others stay. It keeps a map, or it splits blocks. Only listed
+// elements are compared with the first members of their blocks.
 ghost use mathlib.Core.Path.{_≡_};
-ghost use mathlib.Core.Bool.{true};
 ghost use Prim.Native.Nat.{ℕ, _+_, _<_, _≤_};
 ghost use lib.Dec.{eqb};
+ghost use lib.ListN.{length};
 ghost use Rattle.equivalence.specs.Equivalence.{byte};
-ghost use Rattle.equivalence.specs.Kernel.{bit, names};
-ghost use Rattle.refinement.specs.Splitting.{line, Keeps, Lent, OnLine, Broken, Alike, Split};
+ghost use Rattle.equivalence.specs.Kernel.{bit};
+ghost use Rattle.refinement.specs.Splitting.{Listed, Elements, line, Keeps, KeepsOn, Lent, OnLine, Broken, Alike, Seen, Sifted, Split};
 
-// 1 where i is a first member, 0 where it is not.
-fn own_name(m: &[u8], i: usize) -> usize
-    requires { do ⌜ i < (← ⟦m.len()⟧) ⌝ }
-    ensures { λ r. ⌜ r ≡ bit (eqb (byte (now (m .entry)) i) i) ⌝ }
-{
-    if m[i] as usize == i { 1 } else { 0 }
-}
+// No element was seen.
+const NONE: u8 = 64;
 
-// How many blocks there are.
-pub fn blocks(m: &[u8], n: usize) -> usize
-    requires { do ⌜ n ≤ (← ⟦m.len()⟧) ⌝ }
-    ensures { λ r. ⌜ r ≡ names n (byte (now (m .entry))) ⌝ }
-{
-    let mut count: usize = 0;
-    let mut i = 0;
-    while i < n {
-        count += own_name(m, i);
-        i += 1;
-    }
-    count
-}
-
-// The first element whose image is in another block than the image of its block's first member, or n.
-fn broken(m: &[u8], n: usize, cells: &[u8], base: usize, d: usize) -> usize
-    requires { ⌜ Lent n (now m) (now cells) ⌝ }
-    requires { ⌜ OnLine n (now cells) base d ⌝ }
-    ensures { λ r. ⌜ Broken n (line (now (cells .entry)) base d) (byte (now (m .entry))) r ⌝ }
-{
-    let mut x = 0;
-    while x < n {
-        let first = m[x] as usize;
-        let image = cells[base + x * d] as usize;
-        let expected = cells[base + first * d] as usize;
-        if m[image] != m[expected] {
-            return x;
-        }
-        x += 1;
-    }
-    x
-}
-
-// Whether y is in the block named `name`, and its image in the block named `image`.
-fn is_alike(
+// The first index from `start` on of an element whose image is in another block than the image of its block's first member, or `count`.
+fn broken_from(
     m: &[u8],
     n: usize,
     cells: &[u8],
     base: usize,
     d: usize,
-    name: u8,
-    image: u8,
-    y: usize,
-) -> bool
+    list: &[u8],
+    count: usize,
+    start: usize,
+) -> usize
     requires { ⌜ Lent n (now m) (now cells) ⌝ }
     requires { ⌜ OnLine n (now cells) base d ⌝ }
-    requires { ⌜ y < n ⌝ }
-    ensures { λ r. ⌜ (r ≡ true → (byte (now (m .entry)) y ≡ name) × (byte (now (m .entry)) (line (now (cells .entry)) base d y) ≡ image)) ⌝ }
-    ensures { λ r. ⌜ (byte (now (m .entry)) y ≡ name → byte (now (m .entry)) (line (now (cells .entry)) base d y) ≡ image → r ≡ true) ⌝ }
+    requires { ⌜ Elements n (now list) count ⌝ }
+    requires { ⌜ start ≤ count ⌝ }
+    ensures { λ r. ⌜ Broken (line (now (cells .entry)) base d) (byte (now (m .entry))) (now (list .entry)) count start r ⌝ }
 {
-    if m[y] != name {
-        return false;
-    }
-    let v = cells[base + y * d] as usize;
-    m[v] == image
-}
-
-// The first element of x's block whose image is in one block with the image of x.
-fn first_alike(m: &[u8], n: usize, cells: &[u8], base: usize, d: usize, x: usize) -> usize
-    requires { ⌜ Lent n (now m) (now cells) ⌝ }
-    requires { ⌜ OnLine n (now cells) base d ⌝ }
-    requires { ⌜ x < n ⌝ }
-    ensures { λ r. ⌜ Alike (line (now (cells .entry)) base d) (byte (now (m .entry))) x r ⌝ }
-{
-    let name = m[x];
-    let v = cells[base + x * d] as usize;
-    let image = m[v];
-    let mut y = name as usize;
-    while y < x {
-        if is_alike(m, n, cells, base, d, name, image, y) {
-            return y;
+    let mut i = start;
+    while i < count {
+        let x = list[i] as usize;
+        let first = m[x] as usize;
+        let image = cells[base + x * d] as usize;
+        let expected = cells[base + first * d] as usize;
+        if m[image] != m[expected] {
+            return i;
         }
-        y += 1;
+        i += 1;
     }
-    x
+    count
 }
 
-// Names every element anew, by the first one alike.
-fn rename(m: &[u8], next: &mut [u8], n: usize, cells: &[u8], base: usize, d: usize)
+// The new name of x, once those below x are named: the first element of its block, in the block called `name` the first whose image is in
+// one block with the image of x. `seen` has those first ones by the image's block.
+fn renamed(
+    m: &[u8],
+    seen: &mut [u8],
+    n: usize,
+    cells: &[u8],
+    base: usize,
+    d: usize,
+    name: u8,
+    x: usize,
+) -> u8
     requires { ⌜ Lent n (now m) (now cells) ⌝ }
-    requires { do ⌜ n ≤ (← ⟦next.len()⟧) ⌝ }
     requires { ⌜ OnLine n (now cells) base d ⌝ }
-    ensures { λ _. ⌜ ((x : ℕ) → x < n → Alike (line (now (cells .entry)) base d) (byte (now (m .entry))) x (byte (now (next .exit)) x)) ⌝ }
+    requires { ⌜ 64 ≤ length (now seen) ⌝ }
+    requires { ⌜ x < n ⌝ }
+    requires { ⌜ Seen (line (now cells) base d) (byte (now m)) name x (byte (now seen)) ⌝ }
+    ensures { λ r. ⌜ Alike (line (now (cells .entry)) base d) (byte (now (m .entry))) name x r ⌝ }
+    ensures { λ _. ⌜ Seen (line (now (cells .entry)) base d) (byte (now (m .entry))) name (x + 1) (byte (now (seen .exit))) ⌝ }
+{
+    if m[x] != name {
+        return m[x];
+    }
+    let v = cells[base + x * d] as usize;
+    let image = m[v] as usize;
+    if seen[image] < NONE {
+        return seen[image];
+    }
+    seen[image] = x as u8;
+    x as u8
+}
+
+// Names every element anew.
+fn rename(
+    m: &[u8],
+    next: &mut [u8],
+    seen: &mut [u8],
+    n: usize,
+    cells: &[u8],
+    base: usize,
+    d: usize,
+    name: u8,
+)
+    requires { ⌜ Lent n (now m) (now cells) ⌝ }
+    requires { ⌜ OnLine n (now cells) base d ⌝ }
+    requires { ⌜ n ≤ length (now next) ⌝ }
+    requires { ⌜ 64 ≤ length (now seen) ⌝ }
+    requires { ⌜ ((v : ℕ) → v < 64 → byte (now seen) v ≡ 64) ⌝ }
+    ensures { λ _. ⌜ ((x : ℕ) → x < n → Alike (line (now (cells .entry)) base d) (byte (now (m .entry))) name x (byte (now (next .exit)) x)) ⌝ }
 {
     let mut x = 0;
     while x < n {
-        let y = first_alike(m, n, cells, base, d, x);
-        next[x] = y as u8;
+        next[x] = renamed(m, seen, n, cells, base, d, name, x);
         x += 1;
     }
 }
 
-// Splits the blocks of m along the line.
-fn split(m: &mut [u8], n: usize, cells: &[u8], base: usize, d: usize)
+// Splits the block called `name` along the line.
+fn split_block(m: &mut [u8], n: usize, cells: &[u8], base: usize, d: usize, name: u8)
     requires { ⌜ Lent n (now m) (now cells) ⌝ }
     requires { ⌜ OnLine n (now cells) base d ⌝ }
-    ensures { λ _. ⌜ ((x : ℕ) → x < n → Alike (line (now (cells .entry)) base d) (byte (now (m .entry))) x (byte (now (m .exit)) x)) ⌝ }
+    ensures { λ _. ⌜ ((x : ℕ) → x < n → Alike (line (now (cells .entry)) base d) (byte (now (m .entry))) name x (byte (now (m .exit)) x)) ⌝ }
     ensures { λ _. ⌜ ((x : ℕ) → n ≤ x → byte (now (m .exit)) x ≡ byte (now (m .entry)) x) ⌝ }
 {
     let mut next = [0u8; 64];
-    rename(m, &mut next, n, cells, base, d);
+    let mut seen = [NONE; 64];
+    rename(m, &mut next, &mut seen, n, cells, base, d, name);
     equivalence::blocks::copy(&next, m, n);
 }
 
-// Splits m, which has `count` blocks, along the line if that does not keep it; gives the number of blocks.
-pub fn split_line(
+// Splits the block of each listed element that the line takes out of it. Whether there was any.
+fn split_blocks(
     m: &mut [u8],
     n: usize,
-    count: usize,
     cells: &[u8],
     base: usize,
     d: usize,
+    list: &[u8],
+    count: usize,
+) -> bool
+    requires { ⌜ Lent n (now m) (now cells) ⌝ }
+    requires { ⌜ OnLine n (now cells) base d ⌝ }
+    requires { ⌜ Elements n (now list) count ⌝ }
+    ensures { λ _. ⌜ Split n (Keeps n (line (now (cells .entry)) base d)) (KeepsOn (Listed (now (list .entry)) count) (line (now (cells .entry)) base d)) (now (m .entry)) (now (m .exit)) ⌝ }
+{
+    let mut any = false;
+    let mut i = 0;
+    while i < count {
+        let k = broken_from(m, n, cells, base, d, list, count, i);
+        if k == count {
+            return any;
+        }
+        let x = list[k] as usize;
+        let name = m[x];
+        split_block(m, n, cells, base, d, name);
+        any = true;
+        i = k + 1;
+    }
+    any
+}
+
+// 1 where x is no first member, 0 where it is one.
+fn is_other(m: &[u8], x: usize) -> usize
+    requires { do ⌜ x < (← ⟦m.len()⟧) ⌝ }
+    ensures { λ r. ⌜ r + bit (eqb (byte (now (m .entry)) x) x) ≡ 1 ⌝ }
+{
+    if m[x] as usize == x { 0 } else { 1 }
+}
+
+// Keeps those of the first `count` elements that are no first members. How many there are.
+pub fn sift(m: &[u8], list: &mut [u8], count: usize) -> usize
+    requires { ⌜ Elements (length (now m)) (now list) count ⌝ }
+    ensures { λ r. ⌜ Sifted (byte (now (m .entry))) (now (list .entry)) count (now (list .exit)) r ⌝ }
+{
+    let mut kept = 0;
+    let mut i = 0;
+    while i < count {
+        let x = list[i];
+        list[kept] = x;
+        kept += is_other(m, x as usize);
+        i += 1;
+    }
+    kept
+}
+
+// Splits m along the line where that does not keep it, as far as the first `count` elements of a list tell; of these, those are kept that
+// are no first members then. How many there are.
+pub fn split_line(
+    m: &mut [u8],
+    n: usize,
+    cells: &[u8],
+    base: usize,
+    d: usize,
+    list: &mut [u8],
+    count: usize,
 ) -> usize
     requires { ⌜ Lent n (now m) (now cells) ⌝ }
-    requires { ⌜ count ≡ names n (byte (now m)) ⌝ }
     requires { ⌜ OnLine n (now cells) base d ⌝ }
-    ensures { λ r. ⌜ Split n (Keeps n (line (now (cells .entry)) base d)) (Keeps n (line (now (cells .entry)) base d)) count (now (m .entry)) (now (m .exit)) r ⌝ }
+    requires { ⌜ Elements n (now list) count ⌝ }
+    ensures { λ _. ⌜ Split n (Keeps n (line (now (cells .entry)) base d)) (KeepsOn (Listed (now (list .entry)) count) (line (now (cells .entry)) base d)) (now (m .entry)) (now (m .exit)) ⌝ }
+    ensures { λ r. ⌜ Sifted (byte (now (m .exit))) (now (list .entry)) count (now (list .exit)) r ⌝ }
 {
-    if count == n {
+    if !split_blocks(m, n, cells, base, d, list, count) {
         return count;
     }
-    let x = broken(m, n, cells, base, d);
-    if x == n {
-        return count;
-    }
-    split(m, n, cells, base, d);
-    blocks(m, n)
+    sift(m, list, count)
 }

@@ -1,159 +1,333 @@
-// The walk over the lines of the tables. An argument before the varied one runs over first members only: where a map is kept along
-// earlier arguments, its other members give nothing new. Each function splits m, which has `count` blocks, and gives their number.
+// The walk over the lines of the tables. The arguments that stay run through the elements in use; an argument before the varied one only
+// through first members of these: where a map is kept along earlier arguments, the others give nothing new. Each function splits m, and
+// shortens the list of those elements in use that are no first members; it gives how many these are.
 ghost use mathlib.Core.Path.{_≡_};
+ghost use mathlib.Core.Bool.{true};
 ghost use Prim.Native.Nat.{_+_, _*_, _^_, _<_, _≤_};
 ghost use lib.ListN.{length};
 ghost use Rattle.equivalence.specs.Equivalence.{byte};
-ghost use Rattle.equivalence.specs.Kernel.{Canonical, names};
+ghost use Rattle.equivalence.specs.Kernel.{Canonical};
 ghost use Rattle.algebra.specs.Accepted.{Accepted};
 ghost use Rattle.algebra.specs.Algebra.{algebraOf};
 ghost use Rattle.algebra.specs.Translations.{Compatible};
-ghost use Rattle.refinement.specs.Splitting.{Block, Rows, Planes, Table, Any, First, Lent, Split};
+ghost use Rattle.refinement.specs.Splitting.{Listed, Elements, line, Keeps, KeepsOn, Any, Chosen, Lines, Planes, Table, Lent, OnLines, OnPlanes, Sifted, Lists, Split, Represented};
 use super::line::split_line;
 
-// The d lines of stride d in the d * n cells from `base`.
-fn split_block(m: &mut [u8], n: usize, count: usize, cells: &[u8], base: usize, d: usize) -> usize
-    requires { ⌜ Lent n (now m) (now cells) ⌝ }
-    requires { ⌜ count ≡ names n (byte (now m)) ⌝ }
-    requires { ⌜ base + d * n ≤ length (now cells) ⌝ }
-    ensures { λ r. ⌜ Split n (Block n (now (cells .entry)) base d) (Block n (now (cells .entry)) base d) count (now (m .entry)) (now (m .exit)) r ⌝ }
-{
-    let mut found = count;
-    let mut lo = 0;
-    while lo < d {
-        found = split_line(m, n, found, cells, base + lo, d);
-        lo += 1;
-    }
-    found
-}
-
-// Row r of the rows of d * n cells from `base`, if r is a first member.
-fn split_row(
+// The line of stride d that begins at `base` moved by `step` times r; where `firsts` is set, only if r is a first member.
+fn split_chosen(
     m: &mut [u8],
     n: usize,
-    count: usize,
     cells: &[u8],
     base: usize,
+    step: usize,
     d: usize,
     r: usize,
+    firsts: bool,
+    others: &mut [u8],
+    left: usize,
 ) -> usize
     requires { ⌜ Lent n (now m) (now cells) ⌝ }
-    requires { ⌜ count ≡ names n (byte (now m)) ⌝ }
-    requires { ⌜ base + d * n * n ≤ length (now cells) ⌝ }
+    requires { ⌜ OnLines n (now cells) base step d ⌝ }
+    requires { ⌜ Elements n (now others) left ⌝ }
     requires { ⌜ r < n ⌝ }
-    ensures { λ s. ⌜ Split n (λ g. (Any r → Block n (now (cells .entry)) (base + r * (d * n)) d g)) (λ g. (First g r → Block n (now (cells .entry)) (base + r * (d * n)) d g)) count (now (m .entry)) (now (m .exit)) s ⌝ }
+    ensures { λ _. ⌜ Split n (Keeps n (line (now (cells .entry)) (base + r * step) d)) (λ g. ((firsts ≡ true → g r ≡ r) → KeepsOn (Listed (now (others .entry)) left) (line (now (cells .entry)) (base + r * step) d) g)) (now (m .entry)) (now (m .exit)) ⌝ }
+    ensures { λ s. ⌜ Sifted (byte (now (m .exit))) (now (others .entry)) left (now (others .exit)) s ⌝ }
 {
-    if m[r] as usize != r {
-        return count;
+    if firsts {
+        if m[r] as usize != r {
+            return left;
+        }
     }
-    split_block(m, n, count, cells, base + r * (d * n), d)
+    split_line(m, n, cells, base + r * step, d, others, left)
 }
 
-// The n rows of d * n cells from `base`.
-fn split_rows(m: &mut [u8], n: usize, count: usize, cells: &[u8], base: usize, d: usize) -> usize
+// The lines of stride d that begin at `base` moved by `step` times an element in use. Where every such element is a first member, none splits.
+fn split_lines(
+    m: &mut [u8],
+    n: usize,
+    cells: &[u8],
+    base: usize,
+    step: usize,
+    d: usize,
+    firsts: bool,
+    live: &[u8],
+    used: usize,
+    others: &mut [u8],
+    left: usize,
+) -> usize
     requires { ⌜ Lent n (now m) (now cells) ⌝ }
-    requires { ⌜ count ≡ names n (byte (now m)) ⌝ }
-    requires { ⌜ base + d * n * n ≤ length (now cells) ⌝ }
-    ensures { λ r. ⌜ Split n (Rows Any n (now (cells .entry)) base d) (λ g. Rows (First g) n (now (cells .entry)) base d g) count (now (m .entry)) (now (m .exit)) r ⌝ }
+    requires { ⌜ OnLines n (now cells) base step d ⌝ }
+    requires { ⌜ Lists n (now live) used (now others) left (byte (now m)) ⌝ }
+    ensures { λ _. ⌜ Split n (Lines (Any n firsts) (Keeps n) (now (cells .entry)) base step d) (Lines (Chosen (now (live .entry)) used firsts) (KeepsOn (Listed (now (live .entry)) used)) (now (cells .entry)) base step d) (now (m .entry)) (now (m .exit)) ⌝ }
+    ensures { λ s. ⌜ Lists n (now (live .entry)) used (now (others .exit)) s (byte (now (m .exit))) ⌝ }
 {
-    let mut found = count;
-    let mut r = 0;
-    while r < n {
-        found = split_row(m, n, found, cells, base, d, r);
-        r += 1;
+    let mut found = left;
+    let mut i = 0;
+    while i < used {
+        if found == 0 {
+            return found;
+        }
+        let r = live[i] as usize;
+        found = split_chosen(m, n, cells, base, step, d, r, firsts, others, found);
+        i += 1;
     }
     found
 }
 
-// The lines of stride 1 of plane p of the planes of n * n cells from `base`, if p is a first member.
-fn split_plane(m: &mut [u8], n: usize, count: usize, cells: &[u8], base: usize, p: usize) -> usize
+// `split_lines` from `base` moved by `row` times r; where `firsts` is set, only if r is a first member.
+fn split_plane(
+    m: &mut [u8],
+    n: usize,
+    cells: &[u8],
+    base: usize,
+    row: usize,
+    step: usize,
+    d: usize,
+    r: usize,
+    firsts: bool,
+    inner: bool,
+    live: &[u8],
+    used: usize,
+    others: &mut [u8],
+    left: usize,
+) -> usize
     requires { ⌜ Lent n (now m) (now cells) ⌝ }
-    requires { ⌜ count ≡ names n (byte (now m)) ⌝ }
-    requires { ⌜ base + n * n * n ≤ length (now cells) ⌝ }
-    requires { ⌜ p < n ⌝ }
-    ensures { λ s. ⌜ Split n (λ g. (Any p → Rows Any n (now (cells .entry)) (base + p * (n * n)) 1 g)) (λ g. (First g p → Rows (First g) n (now (cells .entry)) (base + p * (n * n)) 1 g)) count (now (m .entry)) (now (m .exit)) s ⌝ }
+    requires { ⌜ OnPlanes n (now cells) base row step d ⌝ }
+    requires { ⌜ Lists n (now live) used (now others) left (byte (now m)) ⌝ }
+    requires { ⌜ r < n ⌝ }
+    ensures { λ _. ⌜ Split n (Lines (Any n inner) (Keeps n) (now (cells .entry)) (base + r * row) step d) (λ g. ((firsts ≡ true → g r ≡ r) → Lines (Chosen (now (live .entry)) used inner) (KeepsOn (Listed (now (live .entry)) used)) (now (cells .entry)) (base + r * row) step d g)) (now (m .entry)) (now (m .exit)) ⌝ }
+    ensures { λ s. ⌜ Lists n (now (live .entry)) used (now (others .exit)) s (byte (now (m .exit))) ⌝ }
 {
-    if m[p] as usize != p {
-        return count;
+    if firsts {
+        if m[r] as usize != r {
+            return left;
+        }
     }
-    split_rows(m, n, count, cells, base + p * (n * n), 1)
+    split_lines(
+        m,
+        n,
+        cells,
+        base + r * row,
+        step,
+        d,
+        inner,
+        live,
+        used,
+        others,
+        left,
+    )
 }
 
-// The lines of stride 1 of the n planes of n * n cells from `base`.
-fn split_planes(m: &mut [u8], n: usize, count: usize, cells: &[u8], base: usize) -> usize
+// `split_lines` from `base` moved by `row` times an element in use.
+fn split_planes(
+    m: &mut [u8],
+    n: usize,
+    cells: &[u8],
+    base: usize,
+    row: usize,
+    step: usize,
+    d: usize,
+    firsts: bool,
+    inner: bool,
+    live: &[u8],
+    used: usize,
+    others: &mut [u8],
+    left: usize,
+) -> usize
     requires { ⌜ Lent n (now m) (now cells) ⌝ }
-    requires { ⌜ count ≡ names n (byte (now m)) ⌝ }
-    requires { ⌜ base + n * n * n ≤ length (now cells) ⌝ }
-    ensures { λ r. ⌜ Split n (Planes Any n (now (cells .entry)) base) (λ g. Planes (First g) n (now (cells .entry)) base g) count (now (m .entry)) (now (m .exit)) r ⌝ }
+    requires { ⌜ OnPlanes n (now cells) base row step d ⌝ }
+    requires { ⌜ Lists n (now live) used (now others) left (byte (now m)) ⌝ }
+    ensures { λ _. ⌜ Split n (Planes (Any n firsts) (Any n inner) (Keeps n) (now (cells .entry)) base row step d) (Planes (Chosen (now (live .entry)) used firsts) (Chosen (now (live .entry)) used inner) (KeepsOn (Listed (now (live .entry)) used)) (now (cells .entry)) base row step d) (now (m .entry)) (now (m .exit)) ⌝ }
+    ensures { λ s. ⌜ Lists n (now (live .entry)) used (now (others .exit)) s (byte (now (m .exit))) ⌝ }
 {
-    let mut found = count;
-    let mut p = 0;
-    while p < n {
-        found = split_plane(m, n, found, cells, base, p);
-        p += 1;
+    let mut found = left;
+    let mut i = 0;
+    while i < used {
+        let r = live[i] as usize;
+        found = split_plane(
+            m,
+            n,
+            cells,
+            base,
+            row,
+            step,
+            d,
+            r,
+            firsts,
+            inner,
+            live,
+            used,
+            others,
+            found,
+        );
+        i += 1;
     }
     found
+}
+
+// The line of a table of arity 1.
+fn split_unary(
+    m: &mut [u8],
+    n: usize,
+    cells: &[u8],
+    base: usize,
+    live: &[u8],
+    used: usize,
+    others: &mut [u8],
+    left: usize,
+) -> usize
+    requires { ⌜ Lent n (now m) (now cells) ⌝ }
+    requires { ⌜ base + n ≤ length (now cells) ⌝ }
+    requires { ⌜ Lists n (now live) used (now others) left (byte (now m)) ⌝ }
+    ensures { λ _. ⌜ Split n (Table (Any n) (Keeps n) n (now (cells .entry)) base 1) (Table (Chosen (now (live .entry)) used) (KeepsOn (Listed (now (live .entry)) used)) n (now (cells .entry)) base 1) (now (m .entry)) (now (m .exit)) ⌝ }
+    ensures { λ s. ⌜ Lists n (now (live .entry)) used (now (others .exit)) s (byte (now (m .exit))) ⌝ }
+{
+    split_line(m, n, cells, base, 1, others, left)
+}
+
+// The lines of a table of arity 2.
+fn split_binary(
+    m: &mut [u8],
+    n: usize,
+    cells: &[u8],
+    base: usize,
+    live: &[u8],
+    used: usize,
+    others: &mut [u8],
+    left: usize,
+) -> usize
+    requires { ⌜ Lent n (now m) (now cells) ⌝ }
+    requires { ⌜ base + n * n ≤ length (now cells) ⌝ }
+    requires { ⌜ Lists n (now live) used (now others) left (byte (now m)) ⌝ }
+    ensures { λ _. ⌜ Split n (Table (Any n) (Keeps n) n (now (cells .entry)) base 2) (Table (Chosen (now (live .entry)) used) (KeepsOn (Listed (now (live .entry)) used)) n (now (cells .entry)) base 2) (now (m .entry)) (now (m .exit)) ⌝ }
+    ensures { λ s. ⌜ Lists n (now (live .entry)) used (now (others .exit)) s (byte (now (m .exit))) ⌝ }
+{
+    let found = split_lines(m, n, cells, base, 1, n, false, live, used, others, left);
+    split_lines(m, n, cells, base, n, 1, true, live, used, others, found)
+}
+
+// The lines of a table of arity 3.
+fn split_ternary(
+    m: &mut [u8],
+    n: usize,
+    cells: &[u8],
+    base: usize,
+    live: &[u8],
+    used: usize,
+    others: &mut [u8],
+    left: usize,
+) -> usize
+    requires { ⌜ Lent n (now m) (now cells) ⌝ }
+    requires { ⌜ base + n * n * n ≤ length (now cells) ⌝ }
+    requires { ⌜ Lists n (now live) used (now others) left (byte (now m)) ⌝ }
+    ensures { λ _. ⌜ Split n (Table (Any n) (Keeps n) n (now (cells .entry)) base 3) (Table (Chosen (now (live .entry)) used) (KeepsOn (Listed (now (live .entry)) used)) n (now (cells .entry)) base 3) (now (m .entry)) (now (m .exit)) ⌝ }
+    ensures { λ s. ⌜ Lists n (now (live .entry)) used (now (others .exit)) s (byte (now (m .exit))) ⌝ }
+{
+    let area = n * n;
+    let first = split_planes(
+        m,
+        n,
+        cells,
+        base,
+        n,
+        1,
+        area,
+        false,
+        false,
+        live,
+        used,
+        others,
+        left,
+    );
+    let second = split_planes(
+        m,
+        n,
+        cells,
+        base,
+        area,
+        1,
+        n,
+        true,
+        false,
+        live,
+        used,
+        others,
+        first,
+    );
+    split_planes(
+        m,
+        n,
+        cells,
+        base,
+        area,
+        n,
+        1,
+        true,
+        true,
+        live,
+        used,
+        others,
+        second,
+    )
 }
 
 // The lines of the operation of arity s whose table begins at `base`.
-fn split_table(m: &mut [u8], n: usize, count: usize, cells: &[u8], base: usize, s: usize) -> usize
+fn split_table(
+    m: &mut [u8],
+    n: usize,
+    cells: &[u8],
+    base: usize,
+    s: usize,
+    live: &[u8],
+    used: usize,
+    others: &mut [u8],
+    left: usize,
+) -> usize
     requires { ⌜ Lent n (now m) (now cells) ⌝ }
-    requires { ⌜ count ≡ names n (byte (now m)) ⌝ }
     requires { ⌜ s ≤ 3 ⌝ }
     requires { ⌜ base + n ^ s ≤ length (now cells) ⌝ }
-    ensures { λ r. ⌜ Split n (Table Any n (now (cells .entry)) base s) (λ g. Table (First g) n (now (cells .entry)) base s g) count (now (m .entry)) (now (m .exit)) r ⌝ }
+    requires { ⌜ Lists n (now live) used (now others) left (byte (now m)) ⌝ }
+    ensures { λ _. ⌜ Split n (Table (Any n) (Keeps n) n (now (cells .entry)) base s) (Table (Chosen (now (live .entry)) used) (KeepsOn (Listed (now (live .entry)) used)) n (now (cells .entry)) base s) (now (m .entry)) (now (m .exit)) ⌝ }
+    ensures { λ r. ⌜ Lists n (now (live .entry)) used (now (others .exit)) r (byte (now (m .exit))) ⌝ }
 {
-    if s == 0 {
-        return count;
-    }
     if s == 1 {
-        return split_block(m, n, count, cells, base, 1);
+        return split_unary(m, n, cells, base, live, used, others, left);
     }
     if s == 2 {
-        let columns = split_block(m, n, count, cells, base, n);
-        return split_rows(m, n, columns, cells, base, 1);
+        return split_binary(m, n, cells, base, live, used, others, left);
     }
-    let first = split_block(m, n, count, cells, base, n * n);
-    let second = split_rows(m, n, first, cells, base, n);
-    split_planes(m, n, second, cells, base)
+    if s == 3 {
+        return split_ternary(m, n, cells, base, live, used, others, left);
+    }
+    left
 }
 
-// The number of cells of an operation of arity s.
-fn table_size(n: usize, s: usize) -> usize
-    requires { ⌜ n ≤ 64 ⌝ }
-    requires { ⌜ s ≤ 3 ⌝ }
-    ensures { λ r. ⌜ r ≡ n ^ s ⌝ }
-{
-    if s == 0 {
-        return 1;
-    }
-    if s == 1 {
-        return n;
-    }
-    if s == 2 {
-        return n * n;
-    }
-    n * n * n
-}
-
-// The lines of every table of an accepted algebra. None of them splits a single block.
-pub fn split_all(m: &mut [u8], n: usize, count: usize, arities: &[u8], cells: &[u8]) -> usize
+// The lines of every table of an accepted algebra.
+pub fn split_all(
+    m: &mut [u8],
+    n: usize,
+    arities: &[u8],
+    cells: &[u8],
+    live: &[u8],
+    used: usize,
+    others: &mut [u8],
+    left: usize,
+) -> usize
     requires { ⌜ Accepted (algebraOf n (now arities) (now cells)) ⌝ }
     requires { ⌜ n ≤ length (now m) ⌝ }
     requires { ⌜ Canonical n (byte (now m)) ⌝ }
-    requires { ⌜ count ≡ names n (byte (now m)) ⌝ }
-    ensures { λ r. ⌜ Split n (Compatible (algebraOf n (now (arities .entry)) (now (cells .entry)))) (Compatible (algebraOf n (now (arities .entry)) (now (cells .entry)))) count (now (m .entry)) (now (m .exit)) r ⌝ }
+    requires { ⌜ Represented (algebraOf n (now arities) (now cells)) (now live) used (byte (now m)) ⌝ }
+    requires { ⌜ Lists n (now live) used (now others) left (byte (now m)) ⌝ }
+    ensures { λ _. ⌜ Split n (Compatible (algebraOf n (now (arities .entry)) (now (cells .entry)))) (Compatible (algebraOf n (now (arities .entry)) (now (cells .entry)))) (now (m .entry)) (now (m .exit)) ⌝ }
+    ensures { λ r. ⌜ Lists n (now (live .entry)) used (now (others .exit)) r (byte (now (m .exit))) ⌝ }
 {
-    if count == 1 {
-        return count;
-    }
-    let mut found = count;
+    let mut found = left;
     let mut base = 0;
     let mut j = 0;
     while j < arities.len() {
         let s = arities[j] as usize;
-        found = split_table(m, n, found, cells, base, s);
-        base = base + table_size(n, s);
+        found = split_table(m, n, cells, base, s, live, used, others, found);
+        base = base + algebra::power(n, s);
         j += 1;
     }
     found

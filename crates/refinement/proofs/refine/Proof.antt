@@ -1,78 +1,43 @@
--- `refine` meets its contract. The loop has split the map so that no congruence inside it is lost.
-use Prim.Native.Nat.{_-_}
-use mathlib.Core.Path.{_≡_, refl}
+-- `refine` meets its contract: all elements are in use.
+use Prim.Native.Nat.{ℕ}
 use native.Mathlib.Omega.{arith}
-use lib.ListN.{length}
-use Rattle.equivalence.specs.Equivalence.{byte}
-use Rattle.equivalence.specs.Kernel.{names}
-use Rattle.algebra.specs.Algebra.{Algebra, algebraOf}
-use Rattle.algebra.specs.Translations.{Compatible}
-use Rattle.refinement.specs.Splitting.{Split}
-use Rattle.refinement.proofs.Names.{names-most}
-use Rattle.refinement.proofs.Splits.{split-none, split-more}
-use Rattle.refinement.proofs.Refinements.{identity-compatible, split-refined}
+use lib.ListN.{length-replicate}
+use Rattle.algebra.specs.Algebra.{algebraOf}
+use Rattle.algebra.proofs.Accepted.{accepted-wellFormed}
+use Rattle.refinement.proofs.Refinements.{all-represented}
+use borrow.Author.Needs.{needs}
 use Rattle.refinement.proofs.refine.Statement.{statement}
 use Rattle.refinement.proofs.refine.Tie as tie
 
-abbrev Inv-loop : tie.InvT-loop
-Inv-loop m₀ n arities cells count₀ m count =
-    (length m ≡ length m₀) × Split n (Compatible (algebraOf n arities cells)) (λ g. Unit {0}) count₀ m₀ m count
+slice-aggregate-identity : tie.Need-slice-aggregate-identity
+slice-aggregate-identity c = search needs
 
-abbrev μ-loop : tie.MeasureT-loop
-μ-loop m₀ n arities cells count₀ m count = n - count
+identity-requires : tie.Need-identity-requires
+identity-requires c κs = let s = c .before .before .before .before in let w = accepted-wellFormed (algebraOf (s .args .n) (s .args .arities .now) (s .args .cells .now)) (s .pre .0) in (omega (arith, length-replicate {A = ℕ} 64 0, w .most), w .most)
 
-abbrev algebra : tie.Start Inv-loop μ-loop → Algebra
-algebra s = algebraOf (s .args .n) (s .args .arities .now) (s .args .cells .now)
+slice-aggregate-refine-above : tie.Need-slice-aggregate-refine-above
+slice-aggregate-refine-above c = search needs
 
-blocks-requires : tie.Need-blocks-requires Inv-loop μ-loop
-blocks-requires c κs = c .before .before .before .before .pre .1 .0
+refine-above-requires : tie.Need-refine-above-requires
+refine-above-requires c κs =
+    let s = c .before .before .before .before .before .before .before .before in
+    let a = algebraOf (s .args .n) (s .args .arities .now) (s .args .cells .now) in
+    let w = accepted-wellFormed a (s .pre .0) in
+    (s .pre .0, (s .pre .1 .0, (s .pre .1 .1, (all-represented a _ _ (omega (arith, w .most)) (c .before .before .before .identity .ensures .first), w .most))))
 
-loop-holds : tie.Need-loop-holds Inv-loop μ-loop
-loop-holds c = (refl, split-none (c .before .before .before .before .before .pre .1 .1) (c .blocks2 .ensures) tt)
+same-length : tie.Need-same-length
+same-length c = search needs
 
-split-all-requires : tie.Need-split-all-requires Inv-loop μ-loop
-split-all-requires c κs =
-    let p = c .before .before .before .before .before .before .before .before .pre in
-    let l = c .before .before .loop in
-    (p .0, (omega arith, (l .inv .1 .canonical, l .inv .1 .counted)))
-
-same-length : tie.Need-same-length Inv-loop μ-loop
-same-length c = omega arith
-
-returns : tie.Need-returns Inv-loop μ-loop
-returns c =
-    let s = c .before .before .before .split-all .ensures in
-    let all = split-more {Both = λ g. Unit {0}} (λ g good. good) (λ g p q. tt) (c .before .before .before .before .before .before .loop .inv .1) s in
-    (split-refined (algebra (c .before .before .before .before .before .before .before .before .before .before .before .before)) all (s .done (c .if1 .taken)), all .rest)
-
-loop-less : tie.Need-loop-less Inv-loop μ-loop
-loop-less c = omega (arith, c .before .before .before .split-all .ensures .more)
-
-loop-again : tie.Need-loop-again Inv-loop μ-loop
-loop-again c = (omega arith, split-more (λ g good. good) (λ g p q. tt) (c .before .before .before .before .before .before .loop .inv .1) (c .before .before .before .split-all .ensures))
-
-same-length-2 : tie.Need-same-length-2 Inv-loop μ-loop
-same-length-2 c = omega arith
-
-returns-2 : tie.Need-returns-2 Inv-loop μ-loop
-returns-2 c =
-    let a = algebra (c .before .before .before .before .before .before .before) in
-    let s = c .before .loop .inv .1 in
-    let full : names (a .size) (byte (c .before .loop .m)) ≡ a .size = omega (arith, s .counted, names-most (a .size) (byte (c .before .loop .m))) in
-    (split-refined a s (identity-compatible a (byte (c .before .loop .m)) full), s .rest)
+returns : tie.Need-returns
+returns c = search needs
 
 pub refine-spec : {M : Type 1} → statement M
 refine-spec =
     tie.close
     (tie.spec
-    Inv-loop
-    μ-loop
-    blocks-requires
-    loop-holds
-    split-all-requires
+    slice-aggregate-identity
+    identity-requires
+    slice-aggregate-refine-above
+    refine-above-requires
     same-length
-    returns
-    loop-less
-    loop-again
-    same-length-2
-    returns-2)
+    returns)

@@ -1,53 +1,53 @@
--- `split_plane` meets its contract: a plane that is no first member's is not asked for.
-use Prim.Native.Nat.{_+_, _*_, _≤_}
+-- `split_plane` meets its contract: an element that is no first member is not asked for.
+use Prim.Native.Nat.{_+_, _*_, _<_}
 use native.Mathlib.Omega.{arith}
 use lib.ListN.{length}
+use Rattle.refinement.proofs.Splits.{split-none, split-said}
 use borrow.Author.Needs.{needs}
-use Rattle.refinement.proofs.Splits.{split-said, row-room}
 use Rattle.refinement.proofs.walk.split_plane.Statement.{statement}
 use Rattle.refinement.proofs.walk.split_plane.Tie as tie
 
--- plane p is there
-room : (s : tie.Start) → let a = s .args in a .base + a .p * (a .n * a .n) + a .n * a .n ≤ length (a .cells .now)
-room s = let a = s .args in row-room (a .n) (a .n * a .n) (a .base) (a .p) (length (a .cells .now)) (s .pre .1 .1 .0) (s .pre .1 .1 .1)
+-- the plane is there
+room : (s : tie.Start) → let a = s .args in a .base + a .r * a .row < length (a .cells .now)
+room s = let a = s .args in omega (arith, s .pre .1 .0 (a .r) (s .pre .1 .1 .1) 0 (s .pre .0 .some) 0 (s .pre .0 .some))
 
-slice-read-if1 : tie.Need-slice-read-if1
-slice-read-if1 c = search needs
+slice-read-if2 : tie.Need-slice-read-if2
+slice-read-if2 c = search needs
 
-cast-if1 : tie.Need-cast-if1
-cast-if1 c = omega (arith, c .slice-known2 .given (c .before .before .before .args .p))
+cast-if2 : tie.Need-cast-if2
+cast-if2 c = omega (arith, c .slice-known3 .given (c .before .before .before .before .before .before .args .r))
 
 returns : tie.Need-returns
-returns c = search needs
+returns c = (split-none (c .before .before .before .before .before .before .before .pre .0 .canonical) (λ e. absurd (c .if2 .taken (e (c .before .before .if1 .taken)))), c .before .before .before .before .before .before .before .pre .1 .1 .0)
 
-mul-split-rows : tie.Need-mul-split-rows
-mul-split-rows c = omega (arith, room (c .before .before .before .before .before))
+mul-split-lines : tie.Need-mul-split-lines
+mul-split-lines c = omega (arith, room (c .before .before .before .before .before .before))
 
-mul-split-rows-2 : tie.Need-mul-split-rows-2
-mul-split-rows-2 c = omega (arith, room (c .before .before .before .before .before))
+add-split-lines : tie.Need-add-split-lines
+add-split-lines c = omega (arith, room (c .before .before .before .before .before .before))
 
-add-split-rows : tie.Need-add-split-rows
-add-split-rows c = omega (arith, room (c .before .before .before .before .before))
-
-split-rows-requires : tie.Need-split-rows-requires
-split-rows-requires c κs = let p = c .before .before .before .before .before .pre in (p .0, (p .1 .0, omega (arith, room (c .before .before .before .before .before))))
+split-lines-requires : tie.Need-split-lines-requires
+split-lines-requires c κs = let s = c .before .before .before .before .before .before .before in (s .pre .0, (s .pre .1 .0 (s .args .r) (s .pre .1 .1 .1), s .pre .1 .1 .0))
 
 same-length : tie.Need-same-length
 same-length c = search needs
 
+same-length-2 : tie.Need-same-length-2
+same-length-2 c = search needs
+
 returns-2 : tie.Need-returns-2
-returns-2 c = split-said (λ g h. h tt) (λ g k h e. h) (c .before .before .split-rows .ensures)
+returns-2 c = let k = c .before .before .before .before .split-lines .ensures in (split-said (λ g good. good) (λ h e. h) (k .0), k .1)
 
 pub split-plane-spec : {M : Type 1} → statement M
 split-plane-spec =
     tie.close
     (tie.spec
-    slice-read-if1
-    cast-if1
+    slice-read-if2
+    cast-if2
     returns
-    mul-split-rows
-    mul-split-rows-2
-    add-split-rows
-    split-rows-requires
+    mul-split-lines
+    add-split-lines
+    split-lines-requires
     same-length
+    same-length-2
     returns-2)

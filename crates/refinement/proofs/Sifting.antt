@@ -1,0 +1,121 @@
+-- Lists of elements, and what is left of them.
+use Prim.Native.Nat.{ℕ, _+_, _≤_, _<_}
+use mathlib.Core.List.{List}
+use mathlib.Core.Path.{_≡_, refl, sym, ap, _∙_}
+use native.Mathlib.Decide.{ℕ-discrete}
+use native.Mathlib.Omega.{arith}
+use lib.Dec.{eqb}
+use lib.ListN.{length, set}
+use lib.Seq.{getD-set-same, getD-set-other}
+use borrow.Author.Tests.{eq-eqb, ne-eqb}
+use Rattle.equivalence.specs.Equivalence.{Map, byte}
+use Rattle.equivalence.specs.Kernel.{Canonical, Within, bit}
+use Rattle.refinement.specs.Splitting.{Listed, Elements, KeepsOn, Sifted, Lists, Split}
+
+-- ---- sifting, in place
+
+-- the first i members were looked at, and `kept` of them stand in front
+pub record Sifting (f : ℕ → ℕ) (list₀ list : List ℕ) (i kept : ℕ) : Type 0 where
+  pub most : kept ≤ i
+  pub ahead : (k : ℕ) → i ≤ k → byte list k ≡ byte list₀ k
+  pub old : (k : ℕ) → k < kept → Listed list₀ i (byte list k)
+  pub all : (k : ℕ) → k < i → ¬ (f (byte list₀ k) ≡ byte list₀ k) → Listed list kept (byte list₀ k)
+
+pub sifting-none : {f : ℕ → ℕ} {list : List ℕ} → Sifting f list list 0 0
+sifting-none = record { most = omega arith; ahead = λ k l. refl; old = λ k l. absurd (omega arith); all = λ k l. absurd (omega arith) }
+
+-- the test that the loop makes, as a number
+other-bit : (f : ℕ → ℕ) (x b : ℕ) → b + bit (eqb (f x) x) ≡ 1 → ¬ (f x ≡ x) → b ≡ 1
+other-bit f x b e h = omega (arith, ap bit (ne-eqb (f x) x h))
+
+bit-most : (b c : ℕ) → b + c ≡ 1 → b ≤ 1
+bit-most b c e = omega arith
+
+pub sifting-more : {f : ℕ → ℕ} {list₀ list : List ℕ} {i kept : ℕ} (b : ℕ) → i < length list → Sifting f list₀ list i kept → b + bit (eqb (f (byte list i)) (byte list i)) ≡ 1
+    → Sifting f list₀ (set list kept (byte list i)) (i + 1) (kept + b)
+sifting-more {f} {list₀} {list} {i} {kept} b l s e =
+    let small = bit-most b _ e in
+    let here : byte (set list kept (byte list i)) kept ≡ byte list i = getD-set-same list kept (byte list i) 0 (omega (arith, s .most)) in
+    record {
+      most = omega (arith, s .most);
+      ahead = λ k p. getD-set-other list kept k (byte list i) 0 (λ q. omega (arith, s .most)) ∙ s .ahead k (omega arith);
+      old = λ k p.
+          elim (ℕ-discrete k kept) [
+            | yes q ↦ (i, (omega arith, sym (ap (byte (set list kept (byte list i))) q ∙ here ∙ s .ahead i (omega arith))))
+            | no q ↦
+                let o = s .old k (omega arith) in
+                (o .0, (omega (arith, o .1 .0), o .1 .1 ∙ sym (getD-set-other list kept k (byte list i) 0 q)))
+          ];
+      all = λ k p h.
+          elim (ℕ-discrete k i) [
+            | yes q ↦
+                let same : byte list i ≡ byte list₀ k = s .ahead i (omega arith) ∙ ap (byte list₀) (sym q) in
+                let one : b ≡ 1 = other-bit f (byte list i) b e (rw same h) in
+                (kept, (omega arith, here ∙ same))
+            | no q ↦
+                let o = s .all k (omega arith) h in
+                let lo = o .1 .0 in
+                (o .0, (omega arith, getD-set-other list kept (o .0) (byte list i) 0 (λ r. omega arith) ∙ o .1 .1))
+          ];
+    }
+
+pub sifting-sifted : {f : ℕ → ℕ} {list₀ list : List ℕ} {i kept : ℕ} → Sifting f list₀ list i kept → Sifted f list₀ i list kept
+sifting-sifted {f} {list₀} {list} {i} {kept} s = record {
+  fewer = s .most;
+  old = s .old;
+  all = λ x k h. rw (k .1 .1) at (s .all (k .0) (k .1 .0) (rw (k .1 .1) h));
+}
+
+-- ---- lists that were sifted
+
+-- nothing was sifted
+pub sifted-none : {f : ℕ → ℕ} {list : List ℕ} {count : ℕ} → Sifted f list count list count
+sifted-none = record { fewer = omega arith; old = λ i l. (i, (l, refl)); all = λ x k h. k }
+
+pub elements-sifted : {n : ℕ} {f : ℕ → ℕ} {list list′ : List ℕ} {count count′ : ℕ} → length list′ ≡ length list → Elements n list count → Sifted f list count list′ count′ → Elements n list′ count′
+elements-sifted {n} e s k = record {
+  room = omega (arith, s .room, k .fewer);
+  below = λ i l. let o = k .old i l in rw (o .1 .1) at (s .below (o .0) (o .1 .0));
+}
+
+-- a first member stays one where blocks are split
+pub still-first : {n : ℕ} {f f′ : ℕ → ℕ} → Canonical n f → Canonical n f′ → Within n f′ f → (x : ℕ) → x < n → f x ≡ x → f′ x ≡ x
+still-first {n} {f} {f′} c c′ w x l e =
+    let low : f′ x ≤ x = c′ .below x l in
+    let there : f (f′ x) ≡ f x = w (f′ x) x (omega arith) l (c′ .root x l) in
+    omega (arith, c .below (f′ x) (omega arith))
+
+module _ {n used left left′ : ℕ} {f f′ : ℕ → ℕ} {live others others′ : List ℕ} where
+  pub lists-sifted : Canonical n f → Canonical n f′ → Within n f′ f → length others′ ≡ length others → Lists n live used others left f → Sifted f′ others left others′ left′
+      → Lists n live used others′ left′ f′
+  lists-sifted c c′ w e s k = record {
+    live-elements = s .live-elements;
+    elements = elements-sifted e (s .elements) k;
+    all = λ x l h. k .all x (s .all x l (λ p. h (still-first c c′ w x (rw (l .1 .1) at (s .live-elements .below (l .0) (l .1 .0))) p))) h;
+  }
+
+-- what keeps the listed others keeps all in use
+pub kept-in-use : {n used left : ℕ} {live others : List ℕ} {t f : ℕ → ℕ} → Lists n live used others left f → KeepsOn (Listed others left) t f → KeepsOn (Listed live used) t f
+kept-in-use {t = t} {f} s h x l =
+    elim (ℕ-discrete (f x) x) [
+      | yes e ↦ ap (λ (z : ℕ). f (t z)) (sym e)
+      | no e ↦ h x (s .all x l e)
+    ]
+
+-- where no other is left every element in use is a first member
+pub all-firsts : {n used left : ℕ} {live others : List ℕ} {f : ℕ → ℕ} → Lists n live used others left f → left ≡ 0 → (x : ℕ) → Listed live used x → f x ≡ x
+all-firsts {f = f} s z x l =
+    elim (ℕ-discrete (f x) x) [
+      | yes e ↦ e
+      | no e ↦ let o = s .all x l e .1 .0 in absurd (omega arith)
+    ]
+
+-- a line that keeps the listed others of a map, once it is split, keeps all in use
+pub kept-after : {n used left : ℕ} {live others : List ℕ} {m m′ : Map} {Good Done : (ℕ → ℕ) → Type 0} (t : ℕ → ℕ) → Canonical n (byte m) → Lists n live used others left (byte m)
+    → Split n Good Done m m′ → KeepsOn (Listed others left) t (byte m′) → KeepsOn (Listed live used) t (byte m′)
+kept-after t c l s h = kept-in-use (lists-sifted c (s .canonical) (s .within) refl l sifted-none) h
+
+-- the lists after a split
+pub lists-after : {n used left left′ : ℕ} {live others others′ : List ℕ} {m m′ : Map} {Good Done : (ℕ → ℕ) → Type 0} → Canonical n (byte m) → length others′ ≡ length others
+    → Lists n live used others left (byte m) → Split n Good Done m m′ → Sifted (byte m′) others left others′ left′ → Lists n live used others′ left′ (byte m′)
+lists-after c e l s k = lists-sifted c (s .canonical) (s .within) e l k
