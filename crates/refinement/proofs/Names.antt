@@ -20,10 +20,6 @@ unfolding names
 names-most zero f = omega arith
 names-most (suc n) f = omega (arith, names-most n f, bit-most (eqb (f n) n))
 
-pub names-next : (n : ℕ) (f : ℕ → ℕ) → names (n + 1) f ≡ names n f + bit (eqb (f n) n)
-unfolding names
-names-next n f = rw (add-one n)
-
 pub names-full : (n : ℕ) (f : ℕ → ℕ) → names n f ≡ n → (x : ℕ) → x < n → f x ≡ x
 unfolding names
 names-full zero f e x l = absurd (omega arith)
@@ -44,7 +40,7 @@ bit-more f f′ x h =
     ]
 
 -- where f′ keeps the names of f it has as many at least
-pub names-more : (n : ℕ) (f f′ : ℕ → ℕ) → ((x : ℕ) → x < n → f x ≡ x → f′ x ≡ x) → names n f ≤ names n f′
+names-more : (n : ℕ) (f f′ : ℕ → ℕ) → ((x : ℕ) → x < n → f x ≡ x → f′ x ≡ x) → names n f ≤ names n f′
 unfolding names
 names-more zero f f′ h = omega arith
 names-more (suc n) f f′ h = omega (arith, names-more n f f′ (λ x l. h x (omega arith)), bit-more f f′ n (h n (omega arith)))
@@ -61,14 +57,6 @@ names-another (suc n) f f′ h w l p q =
           omega (arith, names-more n f f′ (λ x k. h x (omega arith)))
       | no e ↦ omega (arith, names-another n f f′ (λ x k. h x (omega arith)) w (omega arith) p q, bit-more f f′ n (h n (omega arith)))
     ]
-
--- a function that joins more has as many names at most
-pub names-within : (n : ℕ) (f f′ : ℕ → ℕ) → Canonical n f → Canonical n f′ → Within n f f′ → names n f′ ≤ names n f
-names-within n f f′ c c′ w =
-    names-more n f′ f (λ x l e.
-    let k : f x < n = omega (arith, c .below x l) in
-    let s : f′ (f x) ≡ f′ x = w (f x) x k l (c .root x l) in
-    omega (arith, c .below x l, c′ .below (f x) k))
 
 -- a single name is 0
 pub names-one : (n : ℕ) (f : ℕ → ℕ) → Canonical n f → names n f ≡ 1 → (x : ℕ) → x < n → f x ≡ 0

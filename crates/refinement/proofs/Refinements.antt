@@ -71,7 +71,7 @@ canonical-same n f g e c = record {
   root = λ x l. ap g (e x l) ∙ e (f x) (omega (arith, c .below x l)) ∙ c .root x l ∙ sym (e x l);
 }
 
-compatible-same : (a : Algebra) → WellFormed a → (f g : ℕ → ℕ) → ((x : ℕ) → x < a .size → g x ≡ f x) → Compatible a f → Compatible a g
+pub compatible-same : (a : Algebra) → WellFormed a → (f g : ℕ → ℕ) → ((x : ℕ) → x < a .size → g x ≡ f x) → Compatible a f → Compatible a g
 compatible-same a w f g e c x y lx ly p j l pre post s b d =
     e (result a j (pre ++ (x ∷ post))) (result-below a w j (pre ++ (x ∷ post)))
     ∙ c x y lx ly (sym (e x lx) ∙ p ∙ e y ly) j l pre post s b d

@@ -64,7 +64,7 @@ module _ {n : ℕ} {t f : ℕ → ℕ} {name x : ℕ} (c : Canonical n f) (l : x
   }
 
   -- any other is the first with its image
-  pub first-into : {seen : ℕ → ℕ} → f x ≡ name → Seen t f name x seen → f (t x) < 64 → 64 ≤ seen (f (t x)) → FirstInto t f name (f (t x)) x
+  first-into : {seen : ℕ → ℕ} → f x ≡ name → Seen t f name x seen → f (t x) < 64 → 64 ≤ seen (f (t x)) → FirstInto t f name (f (t x)) x
   first-into e s k q = record { block = e; image = refl; first = λ z lz p i. s .none (f (t x)) k q z lz p i }
 
   pub alike-first : {seen : ℕ → ℕ} → f x ≡ name → Seen t f name x seen → f (t x) < 64 → 64 ≤ seen (f (t x)) → Alike t f name x x

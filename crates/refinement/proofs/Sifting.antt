@@ -72,7 +72,7 @@ sifting-sifted {f} {list₀} {list} {i} {kept} s = record {
 pub sifted-none : {f : ℕ → ℕ} {list : List ℕ} {count : ℕ} → Sifted f list count list count
 sifted-none = record { fewer = omega arith; old = λ i l. (i, (l, refl)); all = λ x k h. k }
 
-pub elements-sifted : {n : ℕ} {f : ℕ → ℕ} {list list′ : List ℕ} {count count′ : ℕ} → length list′ ≡ length list → Elements n list count → Sifted f list count list′ count′ → Elements n list′ count′
+elements-sifted : {n : ℕ} {f : ℕ → ℕ} {list list′ : List ℕ} {count count′ : ℕ} → length list′ ≡ length list → Elements n list count → Sifted f list count list′ count′ → Elements n list′ count′
 elements-sifted {n} e s k = record {
   room = omega (arith, s .room, k .fewer);
   below = λ i l. let o = k .old i l in rw (o .1 .1) at (s .below (o .0) (o .1 .0));
@@ -86,7 +86,7 @@ still-first {n} {f} {f′} c c′ w x l e =
     omega (arith, c .below (f′ x) (omega arith))
 
 module _ {n used left left′ : ℕ} {f f′ : ℕ → ℕ} {live others others′ : List ℕ} where
-  pub lists-sifted : Canonical n f → Canonical n f′ → Within n f′ f → length others′ ≡ length others → Lists n live used others left f → Sifted f′ others left others′ left′
+  lists-sifted : Canonical n f → Canonical n f′ → Within n f′ f → length others′ ≡ length others → Lists n live used others left f → Sifted f′ others left others′ left′
       → Lists n live used others′ left′ f′
   lists-sifted c c′ w e s k = record {
     live-elements = s .live-elements;
@@ -95,7 +95,7 @@ module _ {n used left left′ : ℕ} {f f′ : ℕ → ℕ} {live others others�
   }
 
 -- what keeps the listed others keeps all in use
-pub kept-in-use : {n used left : ℕ} {live others : List ℕ} {t f : ℕ → ℕ} → Lists n live used others left f → KeepsOn (Listed others left) t f → KeepsOn (Listed live used) t f
+kept-in-use : {n used left : ℕ} {live others : List ℕ} {t f : ℕ → ℕ} → Lists n live used others left f → KeepsOn (Listed others left) t f → KeepsOn (Listed live used) t f
 kept-in-use {t = t} {f} s h x l =
     elim (ℕ-discrete (f x) x) [
       | yes e ↦ ap (λ (z : ℕ). f (t z)) (sym e)

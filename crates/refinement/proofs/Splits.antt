@@ -36,7 +36,7 @@ module _ {n name : ℕ} {t f f′ : ℕ → ℕ} (c : Canonical n f) (s : (x : �
   alike-same : (x y : ℕ) → x < n → y < n → f x ≡ f y → (f x ≡ name → f (t x) ≡ f (t y)) → f′ x ≡ f′ y
   alike-same x y lx ly p q = omega (arith, alike-most x y lx ly p q, alike-most y x ly lx (sym p) (λ e. sym (q (p ∙ e))))
 
-  pub alike-canonical : Canonical n f′
+  alike-canonical : Canonical n f′
   alike-canonical = record {
     below = λ x l. s x l .low;
     root = λ x l. alike-same (f′ x) x (omega (arith, s x l .low)) l (s x l .before) (λ e. s x l .after (sym (s x l .before) ∙ e));
