@@ -219,19 +219,18 @@ pub identity-compatible : (a : Algebra) (f : ℕ → ℕ) → ((x : ℕ) → x <
 identity-compatible a f e x y lx ly q j l pre post s b c = ap (λ (z : ℕ). f (result a j (pre ++ (z ∷ post)))) (sym (e x lx) ∙ q ∙ e y ly)
 
 -- a slice that is copied whole
-pub copied-whole : (k : ℕ) (from to to′ : List ℕ) → length from ≡ k → length to′ ≡ k → Filled k (byte from) (byte to) (byte to′) → to′ ≡ from
-copied-whole k from to to′ a b d = ext-getD 0 to′ from (b ∙ sym a) (λ x l. d .first x (omega arith))
+pub copied-whole : (k : ℕ) (from to : List ℕ) {old : ℕ → ℕ} → length from ≡ k → length to ≡ k → Filled k (byte from) old (byte to) → to ≡ from
+copied-whole k from to a b d = ext-getD 0 to from (b ∙ sym a) (λ x l. d .first x (omega arith))
 
 -- slices of other contents and the same lengths are rooms as well
-pub rooms-kept : {n v w : ℕ} {arities cells m spare names table m′ spare′ names′ table′ : List ℕ} → Rooms n arities cells m spare names table v w
-    → length m′ ≡ length m → length spare′ ≡ length spare → length names′ ≡ length names → length table′ ≡ length table → Rooms n arities cells m′ spare′ names′ table′ v w
-rooms-kept r a b c d =
+pub rooms-kept : {n v w : ℕ} {arities cells m names table m′ names′ table′ : List ℕ} → Rooms n arities cells m names table v w
+    → length m′ ≡ length m → length names′ ≡ length names → length table′ ≡ length table → Rooms n arities cells m′ names′ table′ v w
+rooms-kept r a b c =
     record {
       accepted = r .accepted;
       map-room = a ∙ r .map-room;
-      spare-room = b ∙ r .spare-room;
-      names-room = c ∙ r .names-room;
-      table-room = d ∙ r .table-room;
+      names-room = b ∙ r .names-room;
+      table-room = c ∙ r .table-room;
       left = r .left;
       right = r .right;
     }

@@ -51,11 +51,10 @@ pub record Earliest (a : Algebra) (v w : ℕ) (f : ℕ → ℕ) : Type 0 where
   pub first : (g : ℕ → ℕ) → Compatible a g → ¬ (g v ≡ g w) → (x y : ℕ) → x < y → y < a .size
       → Keeps (a .size) f g x y → Keeps (a .size) g f x y → g x ≡ g y → f x ≡ f y
 
--- what every function of the search asks: an accepted algebra, two elements, room for 64 bytes in the map, in the spare one and in the list of names, and for 64 rows of marks
-pub record Rooms (n : ℕ) (arities cells m spare names table : List ℕ) (v w : ℕ) : Type 0 where
+-- what every function of the search asks: an accepted algebra, two elements, room for 64 bytes in the map and in the list of its names, and for 64 rows of marks
+pub record Rooms (n : ℕ) (arities cells m names table : List ℕ) (v w : ℕ) : Type 0 where
   pub accepted : Accepted (algebraOf n arities cells)
   pub map-room : length m ≡ 64
-  pub spare-room : length spare ≡ 64
   pub names-room : length names ≡ 64
   pub table-room : length table ≡ 4096
   pub left : v < n

@@ -9,7 +9,6 @@ ghost use Rattle.separation.specs.Search.{Rooms, Standing};
 // later try that would join it is over.
 fn try_pair(
     m: &mut [u8],
-    spare: &mut [u8],
     names: &mut [u8],
     count: usize,
     n: usize,
@@ -21,25 +20,37 @@ fn try_pair(
     x: usize,
     y: usize,
 ) -> usize
-    requires { ⌜ Rooms n (now arities) (now cells) (now m) (now spare) (now names) (now refused) v w ⌝ }
+    requires { ⌜ Rooms n (now arities) (now cells) (now m) (now names) (now refused) v w ⌝ }
     requires { ⌜ x < y ⌝ }
     requires { ⌜ y < n ⌝ }
     requires { ⌜ Standing (algebraOf n (now arities) (now cells)) v w x y (now refused) (now names) count (byte (now m)) ⌝ }
     ensures { λ r. ⌜ Standing (algebraOf n (now (arities .entry)) (now (cells .entry))) v w x (y + 1) (now (refused .exit)) (now (names .exit)) r (byte (now (m .exit))) ⌝ }
 {
-    equivalence::blocks::copy(m, spare, 64);
-    if !closure::extend_apart(spare, n, arities, cells, names, count, x, y, refused, v, w) {
+    let mut spare = [0u8; 64];
+    equivalence::blocks::copy(m, &mut spare, 64);
+    if !closure::extend_apart(
+        &mut spare,
+        n,
+        arities,
+        cells,
+        names,
+        count,
+        x,
+        y,
+        refused,
+        v,
+        w,
+    ) {
         refused[x * 64 + y] = 1;
         return count;
     }
-    equivalence::blocks::copy(spare, m, 64);
+    equivalence::blocks::copy(&spare, m, 64);
     closure::start::names(m, n, names)
 }
 
 // Settles the pair x, y. Where y is no first member, the pair of the two first members stands for it.
 fn settle(
     m: &mut [u8],
-    spare: &mut [u8],
     names: &mut [u8],
     count: usize,
     n: usize,
@@ -51,7 +62,7 @@ fn settle(
     x: usize,
     y: usize,
 ) -> usize
-    requires { ⌜ Rooms n (now arities) (now cells) (now m) (now spare) (now names) (now refused) v w ⌝ }
+    requires { ⌜ Rooms n (now arities) (now cells) (now m) (now names) (now refused) v w ⌝ }
     requires { ⌜ x < y ⌝ }
     requires { ⌜ y < n ⌝ }
     requires { ⌜ Standing (algebraOf n (now arities) (now cells)) v w x y (now refused) (now names) count (byte (now m)) ⌝ }
@@ -60,26 +71,12 @@ fn settle(
     if m[y] as usize != y {
         return count;
     }
-    try_pair(
-        m,
-        spare,
-        names,
-        count,
-        n,
-        arities,
-        cells,
-        refused,
-        v,
-        w,
-        x,
-        y,
-    )
+    try_pair(m, names, count, n, arities, cells, refused, v, w, x, y)
 }
 
 // Settles the pairs of row x. Where x is no first member, the pairs of the first members stand for them.
 fn settle_row(
     m: &mut [u8],
-    spare: &mut [u8],
     names: &mut [u8],
     listed: usize,
     n: usize,
@@ -90,7 +87,7 @@ fn settle_row(
     w: usize,
     x: usize,
 ) -> usize
-    requires { ⌜ Rooms n (now arities) (now cells) (now m) (now spare) (now names) (now refused) v w ⌝ }
+    requires { ⌜ Rooms n (now arities) (now cells) (now m) (now names) (now refused) v w ⌝ }
     requires { ⌜ x < n ⌝ }
     requires { ⌜ Standing (algebraOf n (now arities) (now cells)) v w x (x + 1) (now refused) (now names) listed (byte (now m)) ⌝ }
     ensures { λ r. ⌜ Standing (algebraOf n (now (arities .entry)) (now (cells .entry))) v w (x + 1) (x + 2) (now (refused .exit)) (now (names .exit)) r (byte (now (m .exit))) ⌝ }
@@ -101,20 +98,7 @@ fn settle_row(
     let mut count = listed;
     let mut y = x + 1;
     while y < n {
-        count = settle(
-            m,
-            spare,
-            names,
-            count,
-            n,
-            arities,
-            cells,
-            refused,
-            v,
-            w,
-            x,
-            y,
-        );
+        count = settle(m, names, count, n, arities, cells, refused, v, w, x, y);
         y += 1;
     }
     count
@@ -123,7 +107,6 @@ fn settle_row(
 // Settles the rows up to v's.
 pub fn settle_rows(
     m: &mut [u8],
-    spare: &mut [u8],
     names: &mut [u8],
     listed: usize,
     n: usize,
@@ -133,14 +116,14 @@ pub fn settle_rows(
     v: usize,
     w: usize,
 ) -> usize
-    requires { ⌜ Rooms n (now arities) (now cells) (now m) (now spare) (now names) (now refused) v w ⌝ }
+    requires { ⌜ Rooms n (now arities) (now cells) (now m) (now names) (now refused) v w ⌝ }
     requires { ⌜ Standing (algebraOf n (now arities) (now cells)) v w 0 1 (now refused) (now names) listed (byte (now m)) ⌝ }
     ensures { λ r. ⌜ Standing (algebraOf n (now (arities .entry)) (now (cells .entry))) v w (v + 1) (v + 2) (now (refused .exit)) (now (names .exit)) r (byte (now (m .exit))) ⌝ }
 {
     let mut count = listed;
     let mut x = 0;
     while x <= v {
-        count = settle_row(m, spare, names, count, n, arities, cells, refused, v, w, x);
+        count = settle_row(m, names, count, n, arities, cells, refused, v, w, x);
         x += 1;
     }
     count

@@ -16,13 +16,13 @@ slice-aggregate-separate-in-2 c = search needs
 slice-aggregate-separate-in-3 : tie.Need-slice-aggregate-separate-in-3
 slice-aggregate-separate-in-3 c = search needs
 
-slice-aggregate-separate-in-4 : tie.Need-slice-aggregate-separate-in-4
-slice-aggregate-separate-in-4 c = search needs
-
 separate-in-requires : tie.Need-separate-in-requires
 separate-in-requires c κs =
-    let p = c .before .before .before .before .before .before .before .before .before .pre in
-    (record { accepted = p .0; map-room = length-replicate {A = ℕ} 64 0; spare-room = length-replicate {A = ℕ} 64 0; names-room = length-replicate {A = ℕ} 64 0; table-room = length-replicate {A = ℕ} 4096 0; left = p .1 .0; right = p .1 .1 .0 }, (λ i l. getD-replicate 4096 i 0 0 l, (p .1 .1 .1 .1, p .1 .1 .1 .0)))
+    let p = c .before .before .before .before .before .before .before .before .pre in
+    (record { accepted = p .0; map-room = length-replicate {A = ℕ} 64 0; names-room = length-replicate {A = ℕ} 64 0; table-room = length-replicate {A = ℕ} 4096 0; left = p .1 .0; right = p .1 .1 .0 }, (λ i l. getD-replicate 4096 i 0 0 l, (p .1 .1 .1 .1, p .1 .1 .1 .0)))
+
+slice-aggregate-separate-in-4 : tie.Need-slice-aggregate-separate-in-4
+slice-aggregate-separate-in-4 c = search needs
 
 slice-aggregate-separate-in-5 : tie.Need-slice-aggregate-separate-in-5
 slice-aggregate-separate-in-5 c = search needs
@@ -30,16 +30,10 @@ slice-aggregate-separate-in-5 c = search needs
 slice-aggregate-separate-in-6 : tie.Need-slice-aggregate-separate-in-6
 slice-aggregate-separate-in-6 c = search needs
 
-slice-aggregate-separate-in-7 : tie.Need-slice-aggregate-separate-in-7
-slice-aggregate-separate-in-7 c = search needs
-
-slice-aggregate-separate-in-8 : tie.Need-slice-aggregate-separate-in-8
-slice-aggregate-separate-in-8 c = search needs
-
 separate-in-requires-2 : tie.Need-separate-in-requires-2
 separate-in-requires-2 c κs =
-    let p = c .before .before .before .before .before .before .before .before .before .pre in
-    (record { accepted = p .0; map-room = length-replicate {A = ℕ} 64 0; spare-room = length-replicate {A = ℕ} 64 0; names-room = length-replicate {A = ℕ} 64 0; table-room = length-replicate {A = ℕ} 4096 0; left = p .1 .1 .0; right = p .1 .0 }, (λ i l. getD-replicate 4096 i 0 0 l, (p .1 .1 .1 .1, λ e. p .1 .1 .1 .0 (sym e))))
+    let p = c .before .before .before .before .before .before .before .before .pre in
+    (record { accepted = p .0; map-room = length-replicate {A = ℕ} 64 0; names-room = length-replicate {A = ℕ} 64 0; table-room = length-replicate {A = ℕ} 4096 0; left = p .1 .1 .0; right = p .1 .0 }, (λ i l. getD-replicate 4096 i 0 0 l, (p .1 .1 .1 .1, λ e. p .1 .1 .1 .0 (sym e))))
 
 same-length : tie.Need-same-length
 same-length c = search needs
@@ -51,7 +45,7 @@ same-length-2 : tie.Need-same-length-2
 same-length-2 c = search needs
 
 returns-2 : tie.Need-returns-2
-returns-2 c = let e = c .before .before .before .before .before .before .separate-in2 .ensures in (earliest-swap _ _ _ _ (e .0), e .1)
+returns-2 c = let e = c .before .before .before .before .before .separate-in2 .ensures in (earliest-swap _ _ _ _ (e .0), e .1)
 
 pub separate-spec : {M : Type 1} → statement M
 separate-spec =
@@ -60,12 +54,10 @@ separate-spec =
     slice-aggregate-separate-in
     slice-aggregate-separate-in-2
     slice-aggregate-separate-in-3
-    slice-aggregate-separate-in-4
     separate-in-requires
+    slice-aggregate-separate-in-4
     slice-aggregate-separate-in-5
     slice-aggregate-separate-in-6
-    slice-aggregate-separate-in-7
-    slice-aggregate-separate-in-8
     separate-in-requires-2
     same-length
     returns

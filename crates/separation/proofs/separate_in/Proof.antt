@@ -9,24 +9,24 @@ use Rattle.separation.proofs.separate_in.Tie as tie
 
 identity-requires : tie.Need-identity-requires
 identity-requires c κs =
-    let r = c .before .before .before .before .before .before .before .before .pre .0 in
+    let r = c .before .before .before .before .before .before .before .pre .0 in
     let w = accepted-wellFormed _ (r .accepted) in
     (omega (arith, w .most, r .map-room), w .most)
 
 names-requires : tie.Need-names-requires
 names-requires c κs =
-    let r = c .before .before .before .before .before .before .before .before .before .before .before .before .before .pre .0 in
+    let r = c .before .before .before .before .before .before .before .before .before .before .before .before .pre .0 in
     let w = accepted-wellFormed _ (r .accepted) in
     (omega (arith, w .most, r .map-room, c .before .before .before .before .identity .kept), (omega (arith, w .most, r .names-room), w .most))
 
 settle-rows-requires : tie.Need-settle-rows-requires
 settle-rows-requires c κs =
-    let s = c .before .before .before .before .before .before .before .before .before .before .before .before .before .before .before .before .before .before .before .before in
+    let s = c .before .before .before .before .before .before .before .before .before .before .before .before .before .before .before .before .before .before in
     let r = s .pre .0 in
-    let k = c .before .before .before .before .before .before .before .before .before .before .before .identity in
+    let k = c .before .before .before .before .before .before .before .before .before .before .identity in
     let i = k .ensures .first in
-    let l = c .before .before .before .before .before .before .names in (
-      rooms-kept r (omega (arith, k .kept)) refl (omega (arith, l .kept)) refl,
+    let l = c .before .before .before .before .before .names in (
+      rooms-kept r (omega (arith, k .kept)) (omega (arith, l .kept)) refl,
       record {
         settled = settled-start _ _ _ _ (r .left) (r .right) (s .pre .1 .1 .1) i (identity-compatible _ _ i);
         heeded = heeded-none _ _ _ _ (s .args .refused .now) (accepted-wellFormed _ (r .accepted) .most) (s .pre .1 .0);
@@ -36,15 +36,15 @@ settle-rows-requires c κs =
 
 two-blocks-requires : tie.Need-two-blocks-requires
 two-blocks-requires c κs =
-    let s = c .before .before .before .before .before .before .before .before .before .before .before .before .before .before .before .before .before .before .before .before .before .before .before .before .before .before .before .before .before .before .before in
+    let s = c .before .before .before .before .before .before .before .before .before .before .before .before .before .before .before .before .before .before .before .before .before .before .before .before .before .before .before in
     let r = s .pre .0 in
     let w = accepted-wellFormed _ (r .accepted) in
-    let t = c .before .before .before .before .before .before .before .before .before .before .settle-rows in
-    (omega (arith, w .most, r .map-room, c .before .before .before .before .before .before .before .before .before .before .before .before .before .before .before .before .before .before .before .before .before .before .identity .kept, t .kept), (s .pre .1 .1 .0, (r .left, (w .most, t .ensures .settled .canonical))))
+    let t = c .before .before .before .before .before .before .before .before .settle-rows in
+    (omega (arith, w .most, r .map-room, c .before .before .before .before .before .before .before .before .before .before .before .before .before .before .before .before .before .before .before .identity .kept, t .kept), (s .pre .1 .1 .0, (r .left, (w .most, t .ensures .settled .canonical))))
 
 refine-requires : tie.Need-refine-requires
 refine-requires c κs =
-    let s = c .before .before .before .before .before .before .before .before .before .before .before .before .before .before .before .before .before .before .before .before .before .before .before .before .before .before .before .before .before .before .before .before .before .before .before in
+    let s = c .before .before .before .before .before .before .before .before .before .before .before .before .before .before .before .before .before .before .before .before .before .before .before .before .before .before .before .before .before .before .before in
     (s .pre .0 .accepted, (omega (arith, s .pre .1 .1 .0), c .before .before .before .two-blocks .ensures .1 .0))
 
 same-length : tie.Need-same-length
@@ -59,15 +59,12 @@ same-length-3 c = search needs
 same-length-4 : tie.Need-same-length-4
 same-length-4 c = search needs
 
-same-length-5 : tie.Need-same-length-5
-same-length-5 c = search needs
-
 returns : tie.Need-returns
 returns c =
-    let r = c .before .before .before .before .before .before .before .before .before .before .before .before .before .before .before .before .before .before .before .before .before .before .before .before .before .before .before .before .before .before .before .before .before .before .before .before .before .before .pre .0 in
+    let r = c .before .before .before .before .before .before .before .before .before .before .before .before .before .before .before .before .before .before .before .before .before .before .before .before .before .before .before .before .before .before .before .before .before .before .pre .0 in
     let two = c .before .before .before .before .before .before .two-blocks .ensures in
     let q = c .before .before .refine .ensures in (
-      settled-end _ _ _ (r .left) (r .right) _ (c .before .before .before .before .before .before .before .before .before .before .before .before .before .before .before .before .before .settle-rows .ensures .settled) _ (two .0) _ (q .0),
+      settled-end _ _ _ (r .left) (r .right) _ (c .before .before .before .before .before .before .before .before .before .before .before .before .before .before .before .settle-rows .ensures .settled) _ (two .0) _ (q .0),
       λ x l. q .1 x l ∙ two .1 .1 x l,
     )
 
@@ -84,5 +81,4 @@ separate-in-spec =
     same-length-2
     same-length-3
     same-length-4
-    same-length-5
     returns)

@@ -7,14 +7,14 @@ use Rattle.separation.proofs.search.settle.Statement.{statement}
 use Rattle.separation.proofs.search.settle.Tie as tie
 
 slice-read-if1 : tie.Need-slice-read-if1
-slice-read-if1 c = let s = c .before .before .before .before .before .before .before in omega (arith, accepted-wellFormed _ (s .pre .0 .accepted) .most, s .pre .0 .map-room, s .pre .1 .1 .0)
+slice-read-if1 c = let s = c .before .before .before .before .before .before in omega (arith, accepted-wellFormed _ (s .pre .0 .accepted) .most, s .pre .0 .map-room, s .pre .1 .1 .0)
 
 cast-if1 : tie.Need-cast-if1
-cast-if1 c = omega (arith, c .slice-known5 .given (c .before .before .before .before .before .before .before .args .y))
+cast-if1 c = omega (arith, c .slice-known4 .given (c .before .before .before .before .before .before .args .y))
 
 returns : tie.Need-returns
 returns c =
-    let s = c .before .before .before .before .before .before .before .before in
+    let s = c .before .before .before .before .before .before .before in
     let t = s .pre .1 .1 .1 in
     record { settled = settled-skip _ _ _ _ _ _ (t .settled) (s .pre .1 .0) (s .pre .1 .1 .0) (λ p. absurd (omega (arith, p .1, c .if1 .taken))); heeded = t .heeded; listed = t .listed }
 
@@ -30,9 +30,6 @@ same-length-2 c = search needs
 same-length-3 : tie.Need-same-length-3
 same-length-3 c = search needs
 
-same-length-4 : tie.Need-same-length-4
-same-length-4 c = search needs
-
 returns-2 : tie.Need-returns-2
 returns-2 c = search needs
 
@@ -47,5 +44,4 @@ settle-spec =
     same-length
     same-length-2
     same-length-3
-    same-length-4
     returns-2)
