@@ -2,7 +2,7 @@
 -- against the results of its operation.
 use Prim.Native.Nat.{ℕ, zero, suc, _+_, _-_, _*_, _^_, _≤_, _<_}
 use mathlib.Core.List.{List}
-use mathlib.Core.Logic.{inl, inr}
+use mathlib.Core.Logic.{_⊎_, inl, inr}
 use mathlib.Core.Path.{_≡_, refl, sym, ap, subst, _∙_}
 use native.Mathlib.Decide.{decLt, ℕ-discrete}
 use native.Mathlib.Nat.{pow-zero, pow-suc, mul-le-mul-right}
@@ -12,8 +12,8 @@ use borrow.Author.Tests.{eq-eqb}
 use Rattle.equivalence.specs.Equivalence.{byte, inside}
 use Rattle.equivalence.specs.Kernel.{Canonical, Within, bit, names}
 use Rattle.equivalence.proofs.Kernels.{names-positive}
-use Rattle.closure.specs.Contexts.{OnLine, OnPlane, Contexts, LineFits, PlaneFits, TableFits, Joined, Unless, Halts, Bounded, Marked, Heeds, Meets, Passed}
-use Rattle.closure.specs.Queue.{State, Ready, Grown}
+use Rattle.closure.specs.Contexts.{OnLine, OnPlane, Contexts, LineFits, PlaneFits, TableFits, Joined, Unless, Halts, Bounded, Heeds, Barred, Passed}
+use Rattle.closure.specs.Queue.{State, Grown}
 use Rattle.closure.proofs.Queues.{Since}
 
 -- what a loop has shown of each index passed stays so under f′, and holds at one more
@@ -119,16 +119,21 @@ bounded-since b s = bounded-grown b (s .grown)
 
 -- ---- marks
 
--- the last of the queue and the name in its place
-pub meets-last : {n len : ℕ} {m q : List ℕ} (table : List ℕ) → Ready n len m q → 0 < len → Marked table (byte m (byte q (len - 1))) (byte q (len - 1)) → Meets n table (byte m)
-meets-last {n} {len} {m} {q} table r l h =
-    let y = byte q (len - 1) in
-    let s : y < n = r .queued .small (len - 1) (omega arith) in
-    record { first = byte m y; second = y; first-below = omega (arith, r .queued .canonical .below y s); second-below = s; marked = h; one = r .queued .canonical .root y s }
+-- a mark at one of the two places of a pair of names
+pub barred-marked : {v w a b place : ℕ} {f : ℕ → ℕ} (table : List ℕ) → (v ≡ w → ⊥) → (place ≡ f a * 64 + f b) ⊎ (place ≡ f b * 64 + f a) → (byte table place ≡ 0 → ⊥)
+    → Barred table v w a b f
+barred-marked table two p h = record {
+  two = two;
+  marked = elim p [ inl e ↦ inl (λ z. h (ap (byte table) e ∙ z)) | inr e ↦ inr (λ z. h (ap (byte table) e ∙ z)) ];
+}
 
--- whatever heeds the marks and holds a map that joins a marked pair joins v and w
-pub meets-joins : {n v w : ℕ} {table : List ℕ} {f g : ℕ → ℕ} → Meets n table f → Heeds n table v w g → Within n f g → g v ≡ g w
-meets-joins x h d = h (x .first) (x .second) (x .first-below) (x .second-below) (x .marked) (d (x .first) (x .second) (x .first-below) (x .second-below) (x .one))
+-- whatever heeds the marks, holds a map and joins a and b, whose names in the map are marked, joins v and w
+pub barred-joins : {n v w a b : ℕ} {table : List ℕ} {f g : ℕ → ℕ} → Canonical n f → a < n → b < n → Barred table v w a b f → Heeds n table v w g → Within n f g → g a ≡ g b → g v ≡ g w
+barred-joins {n} {v} {w} {a} {b} {table} {f} {g} c la lb x h d e =
+    let sa : f a < n = omega (arith, c .below a la) in
+    let sb : f b < n = omega (arith, c .below b lb) in
+    let i : g (f a) ≡ g (f b) = d (f a) a sa la (c .root a la) ∙ e ∙ d b (f b) lb sb (sym (c .root b lb)) in
+    elim (x .marked) [ inl k ↦ h (f a) (f b) sa sb k i | inr k ↦ h (f b) (f a) sb sa k (sym i) ]
 
 -- ---- tables
 

@@ -100,11 +100,7 @@ Marked table p q = byte table (p * 64 + q) ≡ 0 → ⊥
 abbrev pub Heeds : ℕ → List ℕ → ℕ → ℕ → (ℕ → ℕ) → Type 0
 Heeds n table v w g = (p q : ℕ) → p < n → q < n → Marked table p q → g p ≡ g q → g v ≡ g w
 
--- f joins a marked pair
-pub record Meets (n : ℕ) (table : List ℕ) (f : ℕ → ℕ) : Type 0 where
-  pub first : ℕ
-  pub second : ℕ
-  pub first-below : first < n
-  pub second-below : second < n
-  pub marked : Marked table first second
-  pub one : f first ≡ f second
+-- v and w are two, and the names of a and b in f are marked, in one order or the other
+pub record Barred (table : List ℕ) (v w a b : ℕ) (f : ℕ → ℕ) : Type 0 where
+  pub two : v ≡ w → ⊥
+  pub marked : Marked table (f a) (f b) ⊎ Marked table (f b) (f a)

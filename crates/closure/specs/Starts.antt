@@ -3,6 +3,7 @@ use Prim.Native.Nat.{ℕ, zero, suc, _+_, _*_, _≤_, _<_}
 use mathlib.Core.Path.{_≡_}
 use mathlib.Core.Bool.{Bool, true, false}
 use mathlib.Core.List.{List}
+use lib.Dec.{eqb}
 use lib.ListN.{length}
 use Rattle.equivalence.specs.Equivalence.{byte}
 use Rattle.equivalence.specs.Kernel.{Canonical, Within, bit, names}
@@ -39,6 +40,10 @@ pub record Collected (test : ℕ → Bool) (n : ℕ) (p : ℕ → ℕ) (k : ℕ)
   pub right : (i : ℕ) → i < k → test (p i) ≡ true
   pub all : (x : ℕ) → x < n → test x ≡ true → (i : ℕ) × ((i < k) × (p i ≡ x))
   pub count : k ≡ tally test n
+
+-- the first k bytes of a slice are the names of f
+abbrev pub NamesListed : ℕ → (ℕ → ℕ) → List ℕ → ℕ → Type 0
+NamesListed n f bytes k = Collected (λ x. eqb (f x) x) n (byte bytes) k
 
 -- the answer to a try that must hold v and w apart: the closure where it does; where not, whatever is compatible and large enough joins them
 pub record Apart (a : Algebra) (x y v w : ℕ) (f f′ : ℕ → ℕ) (r : Bool) : Type 0 where

@@ -11,7 +11,7 @@ ghost use Rattle.equivalence.specs.Kernel.{Canonical, names};
 ghost use Rattle.algebra.specs.Algebra.{algebraOf};
 ghost use Rattle.algebra.specs.Accepted.{Accepted};
 ghost use Rattle.algebra.specs.Translations.{Compatible, Closed};
-ghost use Rattle.closure.specs.Starts.{JoinsPairs, Extends, Heeded, Apart, Tried};
+ghost use Rattle.closure.specs.Starts.{JoinsPairs, Extends, Heeded, NamesListed, Apart, Tried};
 
 pub mod queue;
 pub mod rounds;
@@ -129,7 +129,8 @@ pub fn extend(m: &mut [u8], n: usize, arities: &[u8], cells: &[u8], x: usize, y:
 }
 
 // A congruence m is made to join x and y, unless that joins v and w, if they are two: then the work stops. It stops as well where a pair
-// is joined that is marked in the table of refused pairs: whatever joins such a pair joins v and w. How many blocks it cost.
+// would be joined that is marked in the table of refused pairs: whatever joins such a pair joins v and w. The names of m are in use at first.
+// How many blocks it cost.
 fn try_in(
     m: &mut [u8],
     n: usize,
@@ -142,6 +143,7 @@ fn try_in(
     w: usize,
     queue: &mut [u8],
     live: &mut [u8],
+    count: usize,
 ) -> usize
     requires { ⌜ Accepted (algebraOf n (now arities) (now cells)) ⌝ }
     requires { ⌜ n ≤ length (now m) ⌝ }
@@ -154,9 +156,9 @@ fn try_in(
     requires { ⌜ v < n ⌝ }
     requires { ⌜ w < n ⌝ }
     requires { ⌜ Heeded (algebraOf n (now arities) (now cells)) (now refused) v w (byte (now m)) ⌝ }
+    requires { ⌜ NamesListed n (byte (now m)) (now live) count ⌝ }
     ensures { λ r. ⌜ Tried (algebraOf n (now (arities .entry)) (now (cells .entry))) x y v w (byte (now (m .entry))) (byte (now (m .exit))) r ⌝ }
 {
-    let count = start::names(m, n, live);
     let len = crate::queue::join(m, n, queue, 0, x as u8, y as u8);
     rounds::close(
         m,
@@ -195,6 +197,7 @@ pub fn extend_congruence(
 {
     let mut queue = [0u8; 64];
     let mut live = [0u8; 64];
+    let count = start::names(m, n, &mut live);
     try_in(
         m,
         n,
@@ -207,15 +210,19 @@ pub fn extend_congruence(
         0,
         &mut queue,
         &mut live,
+        count,
     )
 }
 
-// As `extend_congruence` where that holds v and w apart. Where it does not, the answer is false, and m is some map above the old one.
+// As `extend_congruence` where that holds v and w apart. Where it does not, the answer is false, and m is some map above the old one. The
+// names of m, listed, are handed in.
 pub fn extend_apart(
     m: &mut [u8],
     n: usize,
     arities: &[u8],
     cells: &[u8],
+    names: &[u8],
+    count: usize,
     x: usize,
     y: usize,
     refused: &[u8],
@@ -226,6 +233,8 @@ pub fn extend_apart(
     requires { ⌜ n ≤ length (now m) ⌝ }
     requires { ⌜ Canonical n (byte (now m)) ⌝ }
     requires { ⌜ Compatible (algebraOf n (now arities) (now cells)) (byte (now m)) ⌝ }
+    requires { ⌜ 64 ≤ length (now names) ⌝ }
+    requires { ⌜ NamesListed n (byte (now m)) (now names) count ⌝ }
     requires { ⌜ x < n ⌝ }
     requires { ⌜ y < n ⌝ }
     requires { ⌜ v < n ⌝ }
@@ -236,6 +245,7 @@ pub fn extend_apart(
 {
     let mut queue = [0u8; 64];
     let mut live = [0u8; 64];
+    equivalence::blocks::copy(names, &mut live, 64);
     let lost = try_in(
         m,
         n,
@@ -248,6 +258,7 @@ pub fn extend_apart(
         w,
         &mut queue,
         &mut live,
+        count,
     );
     m[v] != m[w]
 }

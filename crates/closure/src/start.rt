@@ -6,7 +6,7 @@ ghost use lib.Dec.{eqb};
 ghost use lib.ListN.{length};
 ghost use Rattle.equivalence.specs.Equivalence.{byte};
 ghost use Rattle.closure.specs.Queue.{state, Ready, Grown};
-ghost use Rattle.closure.specs.Starts.{JoinsPairs, Pushed, Collected};
+ghost use Rattle.closure.specs.Starts.{JoinsPairs, Pushed, Collected, NamesListed};
 
 // Joins the pairs of a flat list. How many elements are queued then.
 pub fn seed(m: &mut [u8], n: usize, queue: &mut [u8], pairs: &[u8]) -> usize
@@ -42,7 +42,7 @@ pub fn names(m: &[u8], n: usize, out: &mut [u8]) -> usize
     requires { ⌜ n ≤ length (now m) ⌝ }
     requires { ⌜ n ≤ length (now out) ⌝ }
     requires { ⌜ n ≤ 64 ⌝ }
-    ensures { λ r. ⌜ Collected (λ x. eqb (byte (now (m .entry)) x) x) n (byte (now (out .exit))) r ⌝ }
+    ensures { λ r. ⌜ NamesListed n (byte (now (m .entry))) (now (out .exit)) r ⌝ }
 {
     let mut len = 0;
     let mut x = 0;

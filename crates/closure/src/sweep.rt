@@ -1,15 +1,16 @@
 // The images of two elements x and y under translations, joined in the map. The other arguments run through the first `count` elements
-// of `live`. A pass ends early where a single block is left, or where v and w, if they are two, have been joined. Where a merge joins a
-// marked pair, v and w are joined with it.
+// of `live`. A pass ends early where a single block is left, or where v and w, if they are two, have been joined. Where a merge would
+// join a marked pair, v and w are joined instead: the work is over.
 ghost use mathlib.Core.Path.{_≡_};
 ghost use mathlib.Core.Bool.{true};
+ghost use mathlib.Core.Logic.{_⊎_};
 ghost use Prim.Native.Nat.{ℕ, _+_, _*_, _<_, _≤_};
 ghost use lib.ListN.{length};
 ghost use Rattle.equivalence.specs.Equivalence.{byte};
 ghost use Rattle.closure.specs.Queue.{state, Ready, Grown};
 ghost use Rattle.algebra.specs.Algebra.{algebraOf};
 ghost use Rattle.algebra.specs.Accepted.{Accepted};
-ghost use Rattle.closure.specs.Contexts.{Listed, OperationsIn, OnLine, OnPlane, OnTable, Contexts, LineFits, PlaneFits, TableFits, Unless, Halts, Bounded, Heeds, Meets, Passed};
+ghost use Rattle.closure.specs.Contexts.{Listed, OperationsIn, OnLine, OnPlane, OnTable, Contexts, LineFits, PlaneFits, TableFits, Unless, Halts, Bounded, Heeds, Barred, Passed};
 
 // Is nothing more to be done?
 pub fn halted(m: &[u8], len: usize, limit: usize, v: usize, w: usize) -> bool
@@ -26,23 +27,35 @@ pub fn halted(m: &[u8], len: usize, limit: usize, v: usize, w: usize) -> bool
     m[v] == m[w]
 }
 
-// Has the last merge joined a marked pair? Only the name that it took away and the name that took its place are looked at.
-fn marked(m: &[u8], n: usize, queue: &[u8], len: usize, refused: &[u8]) -> bool
-    requires { ⌜ Ready n len (now m) (now queue) ⌝ }
-    requires { ⌜ n ≤ 64 ⌝ }
-    requires { ⌜ 0 < len ⌝ }
-    ensures { λ r. ⌜ (r ≡ true → Meets n (now (refused .entry)) (byte (now (m .entry)))) ⌝ }
+// Where the pair of p and q is marked: in the row of the smaller.
+fn mark_place(p: u8, q: u8) -> usize
+    ensures { λ r. ⌜ (r ≡ p * 64 + q) ⊎ (r ≡ q * 64 + p) ⌝ }
 {
-    let y = queue[len - 1] as usize;
-    let x = m[y] as usize;
-    let place = x * 64 + y;
+    if p < q {
+        return p as usize * 64 + q as usize;
+    }
+    q as usize * 64 + p as usize
+}
+
+// Are v and w two, and are the names of a and b marked? Then whatever joins a and b joins v and w.
+fn barred(m: &[u8], a: u8, b: u8, refused: &[u8], v: usize, w: usize) -> bool
+    requires { ⌜ a < length (now m) ⌝ }
+    requires { ⌜ b < length (now m) ⌝ }
+    ensures { λ r. ⌜ (r ≡ true → Barred (now (refused .entry)) v w a b (byte (now (m .entry)))) ⌝ }
+{
+    if v == w {
+        return false;
+    }
+    let x = a as usize;
+    let y = b as usize;
+    let place = mark_place(m[x], m[y]);
     if refused.len() <= place {
         return false;
     }
     refused[place] != 0
 }
 
-// Joins a and b, and where that joins a marked pair, v and w as well.
+// Joins a and b, or where the pair is barred, v and w alone.
 fn step(
     m: &mut [u8],
     n: usize,
@@ -61,19 +74,12 @@ fn step(
     requires { ⌜ v < n ⌝ }
     requires { ⌜ w < n ⌝ }
     ensures { λ r. ⌜ Grown n (λ g. (g a ≡ g b) × Heeds n (now (refused .entry)) v w g) (state (now (m .entry)) (now (queue .entry)) start) (state (now (m .exit)) (now (queue .exit)) r) ⌝ }
-    ensures { λ _. ⌜ byte (now (m .exit)) a ≡ byte (now (m .exit)) b ⌝ }
+    ensures { λ _. ⌜ Unless v w (λ g. g a ≡ g b) (byte (now (m .exit))) ⌝ }
 {
-    let len = crate::queue::join(m, n, queue, start, a, b);
-    if len == start {
-        return len;
+    if barred(m, a, b, refused, v, w) {
+        return crate::queue::join(m, n, queue, start, v as u8, w as u8);
     }
-    if v == w {
-        return len;
-    }
-    if !marked(m, n, queue, len, refused) {
-        return len;
-    }
-    crate::queue::join(m, n, queue, len, v as u8, w as u8)
+    crate::queue::join(m, n, queue, start, a, b)
 }
 
 // The first index from `start` on at which the cells of a line are apart in m, or `count`.

@@ -1,9 +1,9 @@
 -- The search's steps: it starts at the identity, settles a pair (held, taken, passed, or skipped since one of its elements is no first member), and ends,
 -- once every row up to v is settled, with the greatest congruence inside "v's block and the rest" (004, Lemma 10).
-use Prim.Native.Nat.{ℕ, _+_, _*_, _≤_, _<_}
+use Prim.Native.Nat.{ℕ, zero, suc, _+_, _-_, _*_, _≤_, _<_}
 use mathlib.Core.List.{List, _∷_, _++_}
 use mathlib.Core.Logic.{_⊎_, inl, inr}
-use mathlib.Core.Path.{_≡_, refl, sym, ap, _∙_}
+use mathlib.Core.Path.{_≡_, refl, sym, ap, subst, _∙_}
 use native.Mathlib.Decide.{decLt, ℕ-discrete}
 use native.Mathlib.Omega.{arith}
 use lib.ListN.{length, set}
@@ -15,7 +15,7 @@ use Rattle.equivalence.proofs.Kernels.{identity-canonical, identity-within}
 use Rattle.algebra.specs.Algebra.{Algebra}
 use Rattle.algebra.specs.Translations.{result, Compatible, Closed, Refined}
 use Rattle.closure.specs.Starts.{Heeded}
-use Rattle.separation.specs.Search.{Keeps, Before, Refused, Settled, TwoBlocks, Earliest}
+use Rattle.separation.specs.Search.{Keeps, Before, Refused, Settled, TwoBlocks, Earliest, Rooms}
 
 module _ (a : Algebra) (v w : ℕ) where
   pub settled-start : (f : ℕ → ℕ) → v < a .size → w < a .size → ¬ (v ≡ w) → ((x : ℕ) → x < a .size → f x ≡ x) → Compatible a f → Settled a v w 0 1 f
@@ -124,6 +124,15 @@ module _ (a : Algebra) (v w : ℕ) where
         refused = λ p q l j b n g c k h. s .refused p q l j (back p q l j b) n g c k h;
       }
 
+  -- x is no first member: every pair of its row is skipped
+  pub settled-skip-row : (x : ℕ) (f : ℕ → ℕ) → x < a .size → ¬ (f x ≡ x) → Settled a v w x (x + 1) f → Settled a v w (x + 1) (x + 2) f
+  settled-skip-row x f l n s =
+      settled-row x f (skips (a .size - (x + 1)) (x + 1) (omega arith) (omega arith) s)
+    where
+      skips : (d y : ℕ) → y + d ≡ a .size → x < y → Settled a v w x y f → Settled a v w x (a .size) f
+      skips zero y e k t = subst (λ (z : ℕ). Settled a v w x z f) (omega arith) t
+      skips (suc d) y e k t = skips d (y + 1) (omega arith) (omega arith) (settled-skip x y f t k (omega arith) (λ p. n (p .0)))
+
 -- once every pair with v is settled, the rest is 004's Lemma 10
 module _ (a : Algebra) (v w : ℕ) (lv : v < a .size) (lw : w < a .size) (f : ℕ → ℕ) (s : Settled a v w (v + 1) (v + 2) f)
     (e : ℕ → ℕ) (two : TwoBlocks (a .size) v f e) (h : ℕ → ℕ) (r : Refined a e h) where
@@ -209,9 +218,19 @@ module _ (a : Algebra) (v w : ℕ) (f : ℕ → ℕ) where
 pub identity-compatible : (a : Algebra) (f : ℕ → ℕ) → ((x : ℕ) → x < a .size → f x ≡ x) → Compatible a f
 identity-compatible a f e x y lx ly q j l pre post s b c = ap (λ (z : ℕ). f (result a j (pre ++ (z ∷ post)))) (sym (e x lx) ∙ q ∙ e y ly)
 
--- copied away, changed below n, and copied back: the slice is as it was
-pub copied-back : (n : ℕ) (m₀ m₁ m₂ s₀ s₁ : List ℕ) → length m₂ ≡ length m₀ → Filled n (byte m₀) (byte s₀) (byte s₁) → ((z : ℕ) → n ≤ z → byte m₁ z ≡ byte m₀ z)
-    → Filled n (byte s₁) (byte m₁) (byte m₂) → m₂ ≡ m₀
-copied-back n m₀ m₁ m₂ s₀ s₁ long away rest back =
-    ext-getD 0 m₂ m₀ long
-    (λ x l. elim (decLt x n) [ yes k ↦ back .first x k ∙ away .first x k | no k ↦ back .rest x (omega arith) ∙ rest x (omega arith) ])
+-- a slice that is copied whole
+pub copied-whole : (k : ℕ) (from to : List ℕ) {old : ℕ → ℕ} → length from ≡ k → length to ≡ k → Filled k (byte from) old (byte to) → to ≡ from
+copied-whole k from to a b d = ext-getD 0 to from (b ∙ sym a) (λ x l. d .first x (omega arith))
+
+-- slices of other contents and the same lengths are rooms as well
+pub rooms-kept : {n v w : ℕ} {arities cells m names table m′ names′ table′ : List ℕ} → Rooms n arities cells m names table v w
+    → length m′ ≡ length m → length names′ ≡ length names → length table′ ≡ length table → Rooms n arities cells m′ names′ table′ v w
+rooms-kept r a b c =
+    record {
+      accepted = r .accepted;
+      map-room = a ∙ r .map-room;
+      names-room = b ∙ r .names-room;
+      table-room = c ∙ r .table-room;
+      left = r .left;
+      right = r .right;
+    }

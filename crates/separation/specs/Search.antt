@@ -1,5 +1,5 @@
 -- The search for the earliest congruence that holds v and w apart: pairs are settled in their order, each taken where v and w stay apart.
-use Prim.Native.Nat.{ℕ, _≤_, _<_}
+use Prim.Native.Nat.{ℕ, _<_}
 use mathlib.Core.Path.{_≡_}
 use mathlib.Core.Logic.{_⊎_}
 use mathlib.Core.List.{List}
@@ -8,7 +8,7 @@ use Rattle.equivalence.specs.Kernel.{Canonical, Within}
 use Rattle.algebra.specs.Algebra.{Algebra, algebraOf}
 use Rattle.algebra.specs.Accepted.{Accepted}
 use Rattle.algebra.specs.Translations.{Compatible}
-use Rattle.closure.specs.Starts.{Heeded}
+use Rattle.closure.specs.Starts.{Heeded, NamesListed}
 
 -- (p, q) comes before (x, y): by the first element, then by the second
 abbrev pub Before : ℕ → ℕ → ℕ → ℕ → Type 0
@@ -31,9 +31,11 @@ pub record Settled (a : Algebra) (v w x y : ℕ) (f : ℕ → ℕ) : Type 0 wher
   pub refused : (p q : ℕ) → p < q → q < a .size → Before p q x y → ¬ (f p ≡ f q)
       → (g : ℕ → ℕ) → Compatible a g → Keeps (a .size) f g p q → g p ≡ g q → g v ≡ g w
 
--- where the search stands: the pairs before (x, y) are settled, and every congruence above f joins v and w where it joins a marked pair
-abbrev pub Standing : Algebra → ℕ → ℕ → ℕ → ℕ → List ℕ → (ℕ → ℕ) → Type 0
-Standing a v w x y table f = Settled a v w x y f × Heeded a table v w f
+-- where the search stands: the pairs before (x, y) are settled, every congruence above f joins v and w where it joins a marked pair, and the names of f are listed
+pub record Standing (a : Algebra) (v w x y : ℕ) (table names : List ℕ) (count : ℕ) (f : ℕ → ℕ) : Type 0 where
+  pub settled : Settled a v w x y f
+  pub heeded : Heeded a table v w f
+  pub listed : NamesListed (a .size) f names count
 
 -- e has two blocks: the block of v in f, and the rest
 pub record TwoBlocks (n v : ℕ) (f e : ℕ → ℕ) : Type 0 where
@@ -49,11 +51,11 @@ pub record Earliest (a : Algebra) (v w : ℕ) (f : ℕ → ℕ) : Type 0 where
   pub first : (g : ℕ → ℕ) → Compatible a g → ¬ (g v ≡ g w) → (x y : ℕ) → x < y → y < a .size
       → Keeps (a .size) f g x y → Keeps (a .size) g f x y → g x ≡ g y → f x ≡ f y
 
--- what every function of the search asks: an accepted algebra, two elements, room for n bytes in the map and in the spare one, and for 64 rows of marks
-pub record Rooms (n : ℕ) (arities cells m spare table : List ℕ) (v w : ℕ) : Type 0 where
+-- what every function of the search asks: an accepted algebra, two elements, room for 64 bytes in the map and in the list of its names, and for 64 rows of marks
+pub record Rooms (n : ℕ) (arities cells m names table : List ℕ) (v w : ℕ) : Type 0 where
   pub accepted : Accepted (algebraOf n arities cells)
-  pub map-room : n ≤ length m
-  pub spare-room : n ≤ length spare
+  pub map-room : length m ≡ 64
+  pub names-room : length names ≡ 64
   pub table-room : length table ≡ 4096
   pub left : v < n
   pub right : w < n

@@ -10,11 +10,11 @@ ghost use Rattle.separation.specs.Search.{Rooms, Earliest};
 pub mod blocks;
 pub mod search;
 
-// `separate` for v's row first, with room for two maps and for the marks of refused pairs: once every pair with v is settled, the greatest
-// congruence inside "v's block and the rest" is the answer (004, Lemma 10).
+// `separate` for v's row first, with room for a map, the list of its names and the marks of refused pairs: once every pair with v is
+// settled, the greatest congruence inside "v's block and the rest" is the answer (004, Lemma 10).
 fn separate_in(
     m: &mut [u8],
-    spare: &mut [u8],
+    names: &mut [u8],
     n: usize,
     arities: &[u8],
     cells: &[u8],
@@ -23,7 +23,7 @@ fn separate_in(
     w: usize,
     out: &mut [u8],
 )
-    requires { ⌜ Rooms n (now arities) (now cells) (now m) (now spare) (now refused) v w ⌝ }
+    requires { ⌜ Rooms n (now arities) (now cells) (now m) (now names) (now refused) v w ⌝ }
     requires { ⌜ ((i : ℕ) → i < 4096 → byte (now refused) i ≡ 0) ⌝ }
     requires { ⌜ n ≤ length (now out) ⌝ }
     requires { ⌜ (v ≡ w → ⊥) ⌝ }
@@ -31,7 +31,8 @@ fn separate_in(
     ensures { λ _. ⌜ ((x : ℕ) → n ≤ x → byte (now (out .exit)) x ≡ byte (now (out .entry)) x) ⌝ }
 {
     equivalence::blocks::identity(m, n);
-    search::settle_rows(m, spare, n, arities, cells, refused, v, w);
+    let count = closure::start::names(m, n, names);
+    search::settle_rows(m, names, count, n, arities, cells, refused, v, w);
     blocks::two_blocks(m, n, v, out);
     refinement::refine(out, n, arities, cells);
 }
@@ -47,12 +48,12 @@ pub fn separate(n: usize, arities: &[u8], cells: &[u8], v: usize, w: usize, out:
     ensures { λ _. ⌜ ((x : ℕ) → n ≤ x → byte (now (out .exit)) x ≡ byte (now (out .entry)) x) ⌝ }
 {
     let mut m = [0u8; 64];
-    let mut spare = [0u8; 64];
+    let mut names = [0u8; 64];
     let mut refused = [0u8; 4096];
     if v < w {
         separate_in(
             &mut m,
-            &mut spare,
+            &mut names,
             n,
             arities,
             cells,
@@ -64,7 +65,7 @@ pub fn separate(n: usize, arities: &[u8], cells: &[u8], v: usize, w: usize, out:
     } else {
         separate_in(
             &mut m,
-            &mut spare,
+            &mut names,
             n,
             arities,
             cells,

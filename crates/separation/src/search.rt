@@ -1,16 +1,16 @@
-// The pairs are settled in their order, row by row, up to v's row.
-ghost use mathlib.Core.Path.{_≡_};
-ghost use Prim.Native.Nat.{ℕ, _+_, _<_, _≤_};
-ghost use lib.ListN.{length};
+// The pairs are settled in their order, row by row, up to v's row. The names of the map that stands are listed beside it, and each function
+// answers how many there are then.
+ghost use Prim.Native.Nat.{_+_, _<_};
 ghost use Rattle.equivalence.specs.Equivalence.{byte};
 ghost use Rattle.algebra.specs.Algebra.{algebraOf};
 ghost use Rattle.separation.specs.Search.{Rooms, Standing};
 
-// Settles the pair x, y of first members: m takes it where v and w then stay apart. Where they do not, m is put back and the pair is marked:
-// a later try that joins it is over.
+// Settles the pair x, y: it is tried on a copy of m, which m takes over where v and w stay apart. Where they do not, the pair is marked: a
+// later try that would join it is over.
 fn try_pair(
     m: &mut [u8],
-    spare: &mut [u8],
+    names: &mut [u8],
+    count: usize,
     n: usize,
     arities: &[u8],
     cells: &[u8],
@@ -19,25 +19,40 @@ fn try_pair(
     w: usize,
     x: usize,
     y: usize,
-)
-    requires { ⌜ Rooms n (now arities) (now cells) (now m) (now spare) (now refused) v w ⌝ }
+) -> usize
+    requires { ⌜ Rooms n (now arities) (now cells) (now m) (now names) (now refused) v w ⌝ }
     requires { ⌜ x < y ⌝ }
     requires { ⌜ y < n ⌝ }
-    requires { ⌜ Standing (algebraOf n (now arities) (now cells)) v w x y (now refused) (byte (now m)) ⌝ }
-    ensures { λ _. ⌜ Standing (algebraOf n (now (arities .entry)) (now (cells .entry))) v w x (y + 1) (now (refused .exit)) (byte (now (m .exit))) ⌝ }
+    requires { ⌜ Standing (algebraOf n (now arities) (now cells)) v w x y (now refused) (now names) count (byte (now m)) ⌝ }
+    ensures { λ r. ⌜ Standing (algebraOf n (now (arities .entry)) (now (cells .entry))) v w x (y + 1) (now (refused .exit)) (now (names .exit)) r (byte (now (m .exit))) ⌝ }
 {
-    equivalence::blocks::copy(m, spare, n);
-    if closure::extend_apart(m, n, arities, cells, x, y, refused, v, w) {
-        return;
+    let mut spare = [0u8; 64];
+    equivalence::blocks::copy(m, &mut spare, 64);
+    if !closure::extend_apart(
+        &mut spare,
+        n,
+        arities,
+        cells,
+        names,
+        count,
+        x,
+        y,
+        refused,
+        v,
+        w,
+    ) {
+        refused[x * 64 + y] = 1;
+        return count;
     }
-    equivalence::blocks::copy(spare, m, n);
-    refused[x * 64 + y] = 1;
+    equivalence::blocks::copy(&spare, m, 64);
+    closure::start::names(m, n, names)
 }
 
-// Settles the pair x, y. Where one of the two is no first member, the pair of their first members stands for it.
+// Settles the pair x, y. Where y is no first member, the pair of the two first members stands for it.
 fn settle(
     m: &mut [u8],
-    spare: &mut [u8],
+    names: &mut [u8],
+    count: usize,
     n: usize,
     arities: &[u8],
     cells: &[u8],
@@ -46,26 +61,24 @@ fn settle(
     w: usize,
     x: usize,
     y: usize,
-)
-    requires { ⌜ Rooms n (now arities) (now cells) (now m) (now spare) (now refused) v w ⌝ }
+) -> usize
+    requires { ⌜ Rooms n (now arities) (now cells) (now m) (now names) (now refused) v w ⌝ }
     requires { ⌜ x < y ⌝ }
     requires { ⌜ y < n ⌝ }
-    requires { ⌜ Standing (algebraOf n (now arities) (now cells)) v w x y (now refused) (byte (now m)) ⌝ }
-    ensures { λ _. ⌜ Standing (algebraOf n (now (arities .entry)) (now (cells .entry))) v w x (y + 1) (now (refused .exit)) (byte (now (m .exit))) ⌝ }
+    requires { ⌜ Standing (algebraOf n (now arities) (now cells)) v w x y (now refused) (now names) count (byte (now m)) ⌝ }
+    ensures { λ r. ⌜ Standing (algebraOf n (now (arities .entry)) (now (cells .entry))) v w x (y + 1) (now (refused .exit)) (now (names .exit)) r (byte (now (m .exit))) ⌝ }
 {
-    if m[x] as usize != x {
-        return;
-    }
     if m[y] as usize != y {
-        return;
+        return count;
     }
-    try_pair(m, spare, n, arities, cells, refused, v, w, x, y);
+    try_pair(m, names, count, n, arities, cells, refused, v, w, x, y)
 }
 
-// Settles the pairs of row x.
+// Settles the pairs of row x. Where x is no first member, the pairs of the first members stand for them.
 fn settle_row(
     m: &mut [u8],
-    spare: &mut [u8],
+    names: &mut [u8],
+    listed: usize,
     n: usize,
     arities: &[u8],
     cells: &[u8],
@@ -73,37 +86,45 @@ fn settle_row(
     v: usize,
     w: usize,
     x: usize,
-)
-    requires { ⌜ Rooms n (now arities) (now cells) (now m) (now spare) (now refused) v w ⌝ }
+) -> usize
+    requires { ⌜ Rooms n (now arities) (now cells) (now m) (now names) (now refused) v w ⌝ }
     requires { ⌜ x < n ⌝ }
-    requires { ⌜ Standing (algebraOf n (now arities) (now cells)) v w x (x + 1) (now refused) (byte (now m)) ⌝ }
-    ensures { λ _. ⌜ Standing (algebraOf n (now (arities .entry)) (now (cells .entry))) v w (x + 1) (x + 2) (now (refused .exit)) (byte (now (m .exit))) ⌝ }
+    requires { ⌜ Standing (algebraOf n (now arities) (now cells)) v w x (x + 1) (now refused) (now names) listed (byte (now m)) ⌝ }
+    ensures { λ r. ⌜ Standing (algebraOf n (now (arities .entry)) (now (cells .entry))) v w (x + 1) (x + 2) (now (refused .exit)) (now (names .exit)) r (byte (now (m .exit))) ⌝ }
 {
+    if m[x] as usize != x {
+        return listed;
+    }
+    let mut count = listed;
     let mut y = x + 1;
     while y < n {
-        settle(m, spare, n, arities, cells, refused, v, w, x, y);
+        count = settle(m, names, count, n, arities, cells, refused, v, w, x, y);
         y += 1;
     }
+    count
 }
 
 // Settles the rows up to v's.
 pub fn settle_rows(
     m: &mut [u8],
-    spare: &mut [u8],
+    names: &mut [u8],
+    listed: usize,
     n: usize,
     arities: &[u8],
     cells: &[u8],
     refused: &mut [u8],
     v: usize,
     w: usize,
-)
-    requires { ⌜ Rooms n (now arities) (now cells) (now m) (now spare) (now refused) v w ⌝ }
-    requires { ⌜ Standing (algebraOf n (now arities) (now cells)) v w 0 1 (now refused) (byte (now m)) ⌝ }
-    ensures { λ _. ⌜ Standing (algebraOf n (now (arities .entry)) (now (cells .entry))) v w (v + 1) (v + 2) (now (refused .exit)) (byte (now (m .exit))) ⌝ }
+) -> usize
+    requires { ⌜ Rooms n (now arities) (now cells) (now m) (now names) (now refused) v w ⌝ }
+    requires { ⌜ Standing (algebraOf n (now arities) (now cells)) v w 0 1 (now refused) (now names) listed (byte (now m)) ⌝ }
+    ensures { λ r. ⌜ Standing (algebraOf n (now (arities .entry)) (now (cells .entry))) v w (v + 1) (v + 2) (now (refused .exit)) (now (names .exit)) r (byte (now (m .exit))) ⌝ }
 {
+    let mut count = listed;
     let mut x = 0;
     while x <= v {
-        settle_row(m, spare, n, arities, cells, refused, v, w, x);
+        count = settle_row(m, names, count, n, arities, cells, refused, v, w, x);
         x += 1;
     }
+    count
 }

@@ -3,9 +3,16 @@ use native.Mathlib.Omega.{arith}
 use borrow.Author.Needs.{needs}
 use Rattle.algebra.proofs.Accepted.{accepted-wellFormed}
 use Rattle.algebra.specs.Algebra.{algebraOf}
+use Rattle.closure.proofs.Collections.{collected-most, collected-copied}
 use Rattle.closure.proofs.Starting.{tried-apart}
 use Rattle.closure.proofs.extend_apart.Statement.{statement}
 use Rattle.closure.proofs.extend_apart.Tie as tie
+
+slice-aggregate-copy : tie.Need-slice-aggregate-copy
+slice-aggregate-copy c = search needs
+
+copy-requires : tie.Need-copy-requires
+copy-requires c κs = search needs
 
 slice-aggregate-try-in : tie.Need-slice-aggregate-try-in
 slice-aggregate-try-in c = search needs
@@ -15,26 +22,35 @@ slice-aggregate-try-in-2 c = search needs
 
 try-in-requires : tie.Need-try-in-requires
 try-in-requires c κs =
-    let w = accepted-wellFormed (algebraOf (c .before .before .before .before .before .before .before .args .n) (c .before .before .before .before .before .before .before .args .arities .now) (c .before .before .before .before .before .before .before .args .cells .now)) (c .before .before .before .before .before .before .before .pre .0) in
-    let q = c .before .before .before .before .before .before .before .pre .1 .1 in
-    (c .before .before .before .before .before .before .before .pre .0, (c .before .before .before .before .before .before .before .pre .1 .0, (omega (arith, w .most), (omega (arith, w .most), q))))
+    let s = c .before .before .before .before .before .before .before .before .before .before .before in
+    let w = accepted-wellFormed (algebraOf (s .args .n) (s .args .arities .now) (s .args .cells .now)) (s .pre .0) in
+    let q = s .pre .1 .1 in
+    let h = q .1 .1 .1 .0 in
+    let e = q .1 .1 .1 .1 in
+    let live = c .before .before .before .before .copy in
+    (s .pre .0, (s .pre .1 .0, (omega (arith, w .most), (omega (arith, w .most, live .kept), (q .0, (q .1 .0, (e .0, (e .1 .0, (e .1 .1 .0, (e .1 .1 .1 .0, (e .1 .1 .1 .1, collected-copied h (omega (arith, w .most, collected-most h)) (live .ensures))))))))))))
 
 slice-read-result : tie.Need-slice-read-result
-slice-read-result c = omega (arith, c .before .before .before .before .before .try-in .kept .0, c .before .before .before .before .before .before .before .before .before .before .before .before .before .pre .1 .0, c .before .before .before .before .before .before .before .before .before .before .before .before .before .pre .1 .1 .1 .1 .1 .1 .0)
+slice-read-result c = let s = c .before .before .before .before .before .before .before .before .before .before .before .before .before .before .before .before .before in omega (arith, c .before .before .before .before .before .try-in .kept .0, s .pre .1 .0, s .pre .1 .1 .1 .1 .1 .1 .1 .1 .0)
 
 slice-read-result-2 : tie.Need-slice-read-result-2
-slice-read-result-2 c = omega (arith, c .before .before .before .before .before .before .try-in .kept .0, c .before .before .before .before .before .before .before .before .before .before .before .before .before .before .pre .1 .0, c .before .before .before .before .before .before .before .before .before .before .before .before .before .before .pre .1 .1 .1 .1 .1 .1 .1 .0)
+slice-read-result-2 c = let s = c .before .before .before .before .before .before .before .before .before .before .before .before .before .before .before .before .before .before in omega (arith, c .before .before .before .before .before .before .try-in .kept .0, s .pre .1 .0, s .pre .1 .1 .1 .1 .1 .1 .1 .1 .1 .0)
 
 same-length : tie.Need-same-length
 same-length c = search needs
 
 returns : tie.Need-returns
-returns c = let q = c .before .before .before .before .before .before .before .before .before .before .before .before .before .before .pre .1 .1 .1 .1 .1 .1 in (tried-apart (q .0) (q .1 .0) (c .before .before .before .before .before .before .try-in .ensures), c .before .before .before .before .before .before .try-in .ensures .rest)
+returns c =
+    let q = c .before .before .before .before .before .before .before .before .before .before .before .before .before .before .before .before .before .before .pre .1 .1 .1 .1 .1 .1 .1 .1 in
+    let t = c .before .before .before .before .before .before .try-in .ensures in
+    (tried-apart (q .0) (q .1 .0) t, t .rest)
 
 pub extend-apart-spec : {M : Type 1} → statement M
 extend-apart-spec =
     tie.close
     (tie.spec
+    slice-aggregate-copy
+    copy-requires
     slice-aggregate-try-in
     slice-aggregate-try-in-2
     try-in-requires

@@ -8,6 +8,15 @@ use Rattle.closure.proofs.Starting.{tried-closed}
 use Rattle.closure.proofs.extend_congruence.Statement.{statement}
 use Rattle.closure.proofs.extend_congruence.Tie as tie
 
+slice-aggregate-names : tie.Need-slice-aggregate-names
+slice-aggregate-names c = search needs
+
+names-requires : tie.Need-names-requires
+names-requires c κs =
+    let s = c .before .before .before .before .before in
+    let w = accepted-wellFormed (algebraOf (s .args .n) (s .args .arities .now) (s .args .cells .now)) (s .pre .0) in
+    (s .pre .1 .0, (omega (arith, w .most), w .most))
+
 slice-aggregate-try-in : tie.Need-slice-aggregate-try-in
 slice-aggregate-try-in c = search needs
 
@@ -16,17 +25,26 @@ slice-aggregate-try-in-2 c = search needs
 
 try-in-requires : tie.Need-try-in-requires
 try-in-requires c κs =
-    let w = accepted-wellFormed (algebraOf (c .before .before .before .before .before .before .args .n) (c .before .before .before .before .before .before .args .arities .now) (c .before .before .before .before .before .before .args .cells .now)) (c .before .before .before .before .before .before .pre .0) in
-    let q = c .before .before .before .before .before .before .pre .1 .1 in
-    (c .before .before .before .before .before .before .pre .0, (c .before .before .before .before .before .before .pre .1 .0, (omega (arith, w .most), (omega (arith, w .most), (q .0, (q .1 .0, (q .1 .1 .0, (q .1 .1 .1, (w .some, (w .some, λ g k h a b la lb i j. refl))))))))))
+    let s = c .before .before .before .before .before .before .before .before .before .before in
+    let w = accepted-wellFormed (algebraOf (s .args .n) (s .args .arities .now) (s .args .cells .now)) (s .pre .0) in
+    let q = s .pre .1 .1 in
+    let live = c .before .before .before .before .names in
+    (s .pre .0, (s .pre .1 .0, (omega (arith, w .most), (omega (arith, w .most, live .kept), (q .0, (q .1 .0, (q .1 .1 .0, (q .1 .1 .1, (w .some, (w .some, (λ g k h a b la lb i j. refl, live .ensures)))))))))))
 
 same-length : tie.Need-same-length
 same-length c = search needs
 
 returns : tie.Need-returns
-returns c = (tried-closed (c .before .before .before .before .try-in .ensures) (λ j. j .two refl), (c .before .before .before .before .try-in .ensures .lost, c .before .before .before .before .try-in .ensures .rest))
+returns c = let t = c .before .before .before .before .try-in .ensures in (tried-closed t (λ j. j .two refl), (t .lost, t .rest))
 
 pub extend-congruence-spec : {M : Type 1} → statement M
 extend-congruence-spec =
     tie.close
-    (tie.spec slice-aggregate-try-in slice-aggregate-try-in-2 try-in-requires same-length returns)
+    (tie.spec
+    slice-aggregate-names
+    names-requires
+    slice-aggregate-try-in
+    slice-aggregate-try-in-2
+    try-in-requires
+    same-length
+    returns)

@@ -1,8 +1,7 @@
+-- `separate`: arrays of 64 bytes are the rooms, and which element is named first does not matter.
 use Prim.Native.Nat.{ℕ}
 use mathlib.Core.Path.{sym}
 use lib.ListN.{length-replicate, getD-replicate}
-use native.Mathlib.Omega.{arith}
-use Rattle.algebra.proofs.Accepted.{accepted-wellFormed}
 use Rattle.separation.proofs.Settling.{earliest-swap}
 use borrow.Author.Needs.{needs}
 use Rattle.separation.proofs.separate.Statement.{statement}
@@ -20,8 +19,7 @@ slice-aggregate-separate-in-3 c = search needs
 separate-in-requires : tie.Need-separate-in-requires
 separate-in-requires c κs =
     let p = c .before .before .before .before .before .before .before .before .pre in
-    let n = accepted-wellFormed _ (p .0) .most in
-    (record { accepted = p .0; map-room = omega arith; spare-room = omega arith; table-room = length-replicate {A = ℕ} 4096 0; left = p .1 .0; right = p .1 .1 .0 }, (λ i l. getD-replicate 4096 i 0 0 l, (p .1 .1 .1 .1, p .1 .1 .1 .0)))
+    (record { accepted = p .0; map-room = length-replicate {A = ℕ} 64 0; names-room = length-replicate {A = ℕ} 64 0; table-room = length-replicate {A = ℕ} 4096 0; left = p .1 .0; right = p .1 .1 .0 }, (λ i l. getD-replicate 4096 i 0 0 l, (p .1 .1 .1 .1, p .1 .1 .1 .0)))
 
 slice-aggregate-separate-in-4 : tie.Need-slice-aggregate-separate-in-4
 slice-aggregate-separate-in-4 c = search needs
@@ -35,8 +33,7 @@ slice-aggregate-separate-in-6 c = search needs
 separate-in-requires-2 : tie.Need-separate-in-requires-2
 separate-in-requires-2 c κs =
     let p = c .before .before .before .before .before .before .before .before .pre in
-    let n = accepted-wellFormed _ (p .0) .most in
-    (record { accepted = p .0; map-room = omega arith; spare-room = omega arith; table-room = length-replicate {A = ℕ} 4096 0; left = p .1 .1 .0; right = p .1 .0 }, (λ i l. getD-replicate 4096 i 0 0 l, (p .1 .1 .1 .1, λ e. p .1 .1 .1 .0 (sym e))))
+    (record { accepted = p .0; map-room = length-replicate {A = ℕ} 64 0; names-room = length-replicate {A = ℕ} 64 0; table-room = length-replicate {A = ℕ} 4096 0; left = p .1 .1 .0; right = p .1 .0 }, (λ i l. getD-replicate 4096 i 0 0 l, (p .1 .1 .1 .1, λ e. p .1 .1 .1 .0 (sym e))))
 
 same-length : tie.Need-same-length
 same-length c = search needs
@@ -48,9 +45,7 @@ same-length-2 : tie.Need-same-length-2
 same-length-2 c = search needs
 
 returns-2 : tie.Need-returns-2
-returns-2 c =
-    let e = c .before .before .before .before .before .separate-in2 .ensures in
-    (earliest-swap _ _ _ _ (e .0), e .1)
+returns-2 c = let e = c .before .before .before .before .before .separate-in2 .ensures in (earliest-swap _ _ _ _ (e .0), e .1)
 
 pub separate-spec : {M : Type 1} → statement M
 separate-spec =

@@ -1,23 +1,23 @@
--- `line`: the places passed are joined, and everything that joins all of them, and heeds the marks, has made the merges; an early end is one
--- with a single block, or with v and w joined.
+-- `line`: the places passed are joined, unless v and w are, and everything that joins all of them, and heeds the marks, has made the
+-- merges; an early end is one with a single block, or with v and w joined.
 use Prim.Native.Nat.{_-_, _≤_}
 use native.Mathlib.Omega.{arith}
 use Rattle.closure.proofs.Queues.{Since, since-none, since-ready, since-more, grown-more}
-use Rattle.closure.proofs.Sweeps.{line-cell, line-more, line-passed, line-whole, halted-unless, bounded-grown}
-use Rattle.closure.specs.Contexts.{OnLine, Heeds}
+use Rattle.closure.proofs.Sweeps.{line-cell, line-more, line-passed, line-whole, halted-unless, joined-kept, bounded-grown}
+use Rattle.closure.specs.Contexts.{OnLine, Unless, Heeds}
 use Rattle.equivalence.specs.Equivalence.{byte, inside}
 use Rattle.closure.proofs.sweep.line.Statement.{statement}
 use Rattle.closure.proofs.sweep.line.Tie as tie
 
 abbrev Inv-loop : tie.InvT-loop
 Inv-loop m₀ n queue₀ start limit cells live count stride p q refused v w len₀ i₀ m queue len i =
-    (i ≤ count) × Since n (λ g. OnLine cells live count stride p q g × Heeds n refused v w g) m₀ queue₀ start m queue len × OnLine cells live i stride p q (byte m)
+    (i ≤ count) × Since n (λ g. OnLine cells live count stride p q g × Heeds n refused v w g) m₀ queue₀ start m queue len × Unless v w (OnLine cells live i stride p q) (byte m)
 
 abbrev μ-loop : tie.MeasureT-loop
 μ-loop m₀ n queue₀ start limit cells live count stride p q refused v w len₀ i₀ m queue len i = count - i
 
 loop-holds : tie.Need-loop-holds Inv-loop μ-loop
-loop-holds c = (omega arith, since-none _ _ _ (c .before .before .before .before .before .pre .0), λ j l. absurd (omega arith))
+loop-holds c = (omega arith, since-none _ _ _ (c .before .before .before .before .before .pre .0), λ u j l. absurd (omega arith))
 
 apart-from-requires : tie.Need-apart-from-requires Inv-loop μ-loop
 apart-from-requires c κs =
@@ -31,7 +31,7 @@ same-length-2 : tie.Need-same-length-2 Inv-loop μ-loop
 same-length-2 c = omega arith
 
 returns : tie.Need-returns Inv-loop μ-loop
-returns c = (c .before .before .before .before .loop .inv .1 .grown, λ u i h. line-passed (c .before .before .before .before .loop .inv .2) (c .before .apart-from .ensures) i (omega (arith, h, c .if1 .taken)))
+returns c = (c .before .before .before .before .loop .inv .1 .grown, λ u i h. line-passed (c .before .before .before .before .loop .inv .2 u) (c .before .apart-from .ensures) i (omega (arith, h, c .if1 .taken)))
 
 shared-slice-read-shift : tie.Need-shared-slice-read-shift Inv-loop μ-loop
 shared-slice-read-shift c = omega (arith, c .before .if1 .left, c .before .before .before .before .before .before .before .before .before .before .before .pre .1 .1 .0 .live-room)
@@ -128,7 +128,8 @@ loop-again c =
     let d = c .before .before .before .before .before .before .before .step in (
       omega (arith, k),
       since-more (λ g good h. (good .0 j k, good .1)) (l .inv .1) (d .kept .0) (d .kept .1 .1 .0) (d .ensures .0),
-      line-more (s .pre .1 .1 .0) (s .pre .1 .1 .1 .0) (s .pre .1 .1 .1 .1) k (d .ensures .0 .within) (d .ensures .1) (line-passed (l .inv .2) (c .before .before .before .before .before .before .before .before .before .before .before .before .before .before .apart-from .ensures)),
+      λ u. line-more (s .pre .1 .1 .0) (s .pre .1 .1 .1 .0) (s .pre .1 .1 .1 .1) k (d .ensures .0 .within) (d .ensures .1 u)
+          (line-passed (l .inv .2 (joined-kept (s .pre .1 .0 .left) (s .pre .1 .0 .right) (d .ensures .0 .within) u)) (c .before .before .before .before .before .before .before .before .before .before .before .before .before .before .apart-from .ensures)),
     )
 
 same-length-5 : tie.Need-same-length-5 Inv-loop μ-loop
@@ -138,7 +139,7 @@ same-length-6 : tie.Need-same-length-6 Inv-loop μ-loop
 same-length-6 c = omega arith
 
 returns-3 : tie.Need-returns-3 Inv-loop μ-loop
-returns-3 c = (c .before .loop .inv .1 .grown, λ u i l. c .before .loop .inv .2 i (omega arith))
+returns-3 c = (c .before .loop .inv .1 .grown, λ u i l. c .before .loop .inv .2 u i (omega arith))
 
 pub line-spec : {M : Type 1} → statement M
 line-spec =

@@ -59,7 +59,7 @@ same-length-6 : tie.Need-same-length-6
 same-length-6 c = omega arith
 
 returns-3 : tie.Need-returns-3
-returns-3 c = rw (c .before .before .before .before .before .before .before .before .before .if3 .taken) (c .before .before .before .before .step .ensures .0, λ u. c .before .before .before .before .step .ensures .1)
+returns-3 c = rw (c .before .before .before .before .before .before .before .before .before .if3 .taken) (c .before .before .before .before .step .ensures .0, c .before .before .before .before .step .ensures .1)
 
 returns-4 : tie.Need-returns-4
 returns-4 c =

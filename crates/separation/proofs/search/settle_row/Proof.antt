@@ -1,34 +1,47 @@
-use Prim.Native.Nat.{ℕ, _+_, _-_, _≤_, _<_}
-use mathlib.Core.Path.{_≡_, refl, subst}
+-- `settle_row`: the pairs of the row before y are settled.
+use Prim.Native.Nat.{_-_, _≤_, _<_}
+use mathlib.Core.Path.{_≡_, refl}
 use native.Mathlib.Omega.{arith}
 use lib.ListN.{length}
+use Rattle.algebra.proofs.Accepted.{accepted-wellFormed}
 use Rattle.equivalence.specs.Equivalence.{byte}
 use Rattle.algebra.specs.Algebra.{algebraOf}
 use Rattle.separation.specs.Search.{Standing}
-use Rattle.separation.proofs.Settling.{settled-row}
+use Rattle.separation.proofs.Settling.{settled-row, settled-skip-row, rooms-kept}
 use borrow.Author.Needs.{needs}
 use Rattle.separation.proofs.search.settle_row.Statement.{statement}
 use Rattle.separation.proofs.search.settle_row.Tie as tie
 
 abbrev Inv-loop : tie.InvT-loop
-Inv-loop m₀ spare₀ n arities cells refused₀ v w x y₀ m spare refused y =
-    (x < y) × (y ≤ n) × (length m ≡ length m₀) × (length spare ≡ length spare₀) × (length refused ≡ length refused₀) × Standing (algebraOf n arities cells) v w x y refused (byte m)
+Inv-loop m₀ names₀ listed n arities cells refused₀ v w x count₀ y₀ m names refused count y =
+    (x < y) × (y ≤ n) × (length m ≡ length m₀) × (length names ≡ length names₀) × (length refused ≡ length refused₀)
+    × Standing (algebraOf n arities cells) v w x y refused names count (byte m)
 
 abbrev μ-loop : tie.MeasureT-loop
-μ-loop m₀ spare₀ n arities cells refused₀ v w x y₀ m spare refused y = n - y
+μ-loop m₀ names₀ listed n arities cells refused₀ v w x count₀ y₀ m names refused count y = n - y
+
+slice-read-if1 : tie.Need-slice-read-if1 Inv-loop μ-loop
+slice-read-if1 c = let s = c .before .before .before .before .before .before in omega (arith, accepted-wellFormed _ (s .pre .0 .accepted) .most, s .pre .0 .map-room, s .pre .1 .0)
+
+cast-if1 : tie.Need-cast-if1 Inv-loop μ-loop
+cast-if1 c = omega (arith, c .slice-known4 .given (c .before .before .before .before .before .before .args .x))
+
+returns : tie.Need-returns Inv-loop μ-loop
+returns c =
+    let s = c .before .before .before .before .before .before .before in
+    let t = s .pre .1 .1 in
+    record { settled = settled-skip-row _ _ _ _ _ (s .pre .1 .0) (c .if1 .taken) (t .settled); heeded = t .heeded; listed = t .listed }
 
 add-y : tie.Need-add-y Inv-loop μ-loop
 add-y c = search needs
 
 loop-holds : tie.Need-loop-holds Inv-loop μ-loop
-loop-holds c = (omega arith, omega arith, refl, refl, refl, c .before .before .before .before .before .pre .1 .1)
+loop-holds c = (omega arith, omega arith, refl, refl, refl, c .before .before .before .before .before .before .before .pre .1 .1)
 
 settle-requires : tie.Need-settle-requires Inv-loop μ-loop
 settle-requires c κs =
-    let s = c .before .before .before .before .before .before .before .before .before .before in
-    let r = s .pre .0 in
     let i = c .before .before .before .before .loop .inv in
-    (record { accepted = r .accepted; map-room = omega (arith, i .2, r .map-room); spare-room = omega (arith, i .3, r .spare-room); table-room = omega (arith, i .4, r .table-room); left = r .left; right = r .right }, (omega arith, (omega arith, i .5)))
+    (rooms-kept (c .before .before .before .before .before .before .before .before .before .before .before .before .pre .0) (i .2) (i .3) (i .4), (i .0, (c .before .before .before .loop-test .taken, i .5)))
 
 add-y-2 : tie.Need-add-y-2 Inv-loop μ-loop
 add-y-2 c = search needs
@@ -48,11 +61,12 @@ same-length-2 c = search needs
 same-length-3 : tie.Need-same-length-3 Inv-loop μ-loop
 same-length-3 c = search needs
 
-returns : tie.Need-returns Inv-loop μ-loop
-returns c =
-    let i = c .before .loop .inv in
-    let e : c .before .loop .y ≡ c .before .before .before .before .before .before .before .args .n = omega arith in
-    (settled-row _ _ _ _ _ (rw e at (i .5 .0)), i .5 .1)
+returns-2 : tie.Need-returns-2 Inv-loop μ-loop
+returns-2 c =
+    let l = c .before .loop in
+    let t = l .inv .5 in
+    let e : l .y ≡ c .before .before .before .before .before .before .before .before .before .args .n = omega arith in
+    record { settled = settled-row _ _ _ _ _ (rw e at (t .settled)); heeded = t .heeded; listed = t .listed }
 
 pub settle-row-spec : {M : Type 1} → statement M
 settle-row-spec =
@@ -60,6 +74,9 @@ settle-row-spec =
     (tie.spec
     Inv-loop
     μ-loop
+    slice-read-if1
+    cast-if1
+    returns
     add-y
     loop-holds
     settle-requires
@@ -69,4 +86,4 @@ settle-row-spec =
     same-length
     same-length-2
     same-length-3
-    returns)
+    returns-2)

@@ -1,30 +1,32 @@
-use Prim.Native.Nat.{ℕ, _+_, _-_, _≤_, _<_}
-use mathlib.Core.Path.{_≡_, refl, subst}
+-- `settle_rows`: the rows before x are settled.
+use Prim.Native.Nat.{_+_, _-_, _≤_}
+use mathlib.Core.Path.{_≡_, refl}
 use native.Mathlib.Omega.{arith}
 use lib.ListN.{length}
 use Rattle.equivalence.specs.Equivalence.{byte}
 use Rattle.algebra.specs.Algebra.{algebraOf}
 use Rattle.separation.specs.Search.{Standing}
+use Rattle.separation.proofs.Settling.{rooms-kept}
 use borrow.Author.Needs.{needs}
 use Rattle.separation.proofs.search.settle_rows.Statement.{statement}
 use Rattle.separation.proofs.search.settle_rows.Tie as tie
 
 abbrev Inv-loop : tie.InvT-loop
-Inv-loop m₀ spare₀ n arities cells refused₀ v w x₀ m spare refused x =
-    (x ≤ v + 1) × (length m ≡ length m₀) × (length spare ≡ length spare₀) × (length refused ≡ length refused₀) × Standing (algebraOf n arities cells) v w x (x + 1) refused (byte m)
+Inv-loop m₀ names₀ listed n arities cells refused₀ v w count₀ x₀ m names refused count x =
+    (x ≤ v + 1) × (length m ≡ length m₀) × (length names ≡ length names₀) × (length refused ≡ length refused₀)
+    × Standing (algebraOf n arities cells) v w x (x + 1) refused names count (byte m)
 
 abbrev μ-loop : tie.MeasureT-loop
-μ-loop m₀ spare₀ n arities cells refused₀ v w x₀ m spare refused x = v + 1 - x
+μ-loop m₀ names₀ listed n arities cells refused₀ v w count₀ x₀ m names refused count x = v + 1 - x
 
 loop-holds : tie.Need-loop-holds Inv-loop μ-loop
 loop-holds c = (omega arith, refl, refl, refl, c .before .before .before .before .before .pre .1)
 
 settle-row-requires : tie.Need-settle-row-requires Inv-loop μ-loop
 settle-row-requires c κs =
-    let s = c .before .before .before .before .before .before .before .before .before .before in
-    let r = s .pre .0 in
+    let r = c .before .before .before .before .before .before .before .before .before .before .pre .0 in
     let i = c .before .before .before .before .loop .inv in
-    (record { accepted = r .accepted; map-room = omega (arith, i .1, r .map-room); spare-room = omega (arith, i .2, r .spare-room); table-room = omega (arith, i .3, r .table-room); left = r .left; right = r .right }, (omega (arith, r .left), i .4))
+    (rooms-kept r (i .1) (i .2) (i .3), (omega (arith, r .left, c .before .before .before .loop-test .taken), i .4))
 
 add-x : tie.Need-add-x Inv-loop μ-loop
 add-x c = search needs
@@ -34,8 +36,8 @@ loop-less c = search needs
 
 loop-again : tie.Need-loop-again Inv-loop μ-loop
 loop-again c =
-    let l = c .before .before .before .before .before .before .before .before .before .before .before .loop in
-    let e : l .x + 2 ≡ l .x + 1 + 1 = omega arith in
+    let x = c .before .before .before .before .before .before .before .before .before .before .before .loop .x in
+    let e : x + 2 ≡ x + 1 + 1 = omega arith in
     (omega arith, omega arith, omega arith, omega arith, rw e at (c .before .before .before .before .before .before .settle-row .ensures))
 
 same-length : tie.Need-same-length Inv-loop μ-loop
@@ -49,11 +51,11 @@ same-length-3 c = search needs
 
 returns : tie.Need-returns Inv-loop μ-loop
 returns c =
-    let i = c .before .loop .inv in
+    let l = c .before .loop in
     let v = c .before .before .before .before .before .before .before .args .v in
-    let e : c .before .loop .x ≡ v + 1 = omega arith in
+    let e : l .x ≡ v + 1 = omega arith in
     let f : v + 1 + 1 ≡ v + 2 = omega arith in
-    rw (e, f) at (i .4)
+    rw (e, f) at (l .inv .4)
 
 pub settle-rows-spec : {M : Type 1} → statement M
 settle-rows-spec =

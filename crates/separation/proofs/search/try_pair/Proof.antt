@@ -1,22 +1,44 @@
--- `try_pair`: the pair is taken, or the map is as it was and the pair is marked.
-use mathlib.Core.Path.{_≡_}
+-- `try_pair`: the pair is marked, or taken, and then the names are listed anew.
 use native.Mathlib.Omega.{arith}
 use Rattle.algebra.proofs.Accepted.{accepted-wellFormed}
 use Rattle.separation.specs.Search.{Refused}
-use Rattle.separation.proofs.Settling.{settled-take, settled-pass, heeded-up, heeded-mark, copied-back}
+use Rattle.separation.proofs.Settling.{settled-take, settled-pass, heeded-up, heeded-mark, copied-whole}
 use borrow.Author.Needs.{needs}
+use borrow.Author.Tests.{not-true, not-false}
 use Rattle.separation.proofs.search.try_pair.Statement.{statement}
 use Rattle.separation.proofs.search.try_pair.Tie as tie
 
+slice-aggregate-copy : tie.Need-slice-aggregate-copy
+slice-aggregate-copy c = search needs
+
 copy-requires : tie.Need-copy-requires
 copy-requires c κs = search needs
+
+slice-aggregate-extend-apart : tie.Need-slice-aggregate-extend-apart
+slice-aggregate-extend-apart c = search needs
 
 extend-apart-requires : tie.Need-extend-apart-requires
 extend-apart-requires c κs =
     let s = c .before .before .before .before .before .before .before .before .before .before .before .before in
     let r = s .pre .0 in
     let t = s .pre .1 .1 .1 in
-    (r .accepted, (r .map-room, (t .0 .canonical, (t .0 .compatible, (omega arith, (omega arith, (r .left, (r .right, t .1))))))))
+    let w = accepted-wellFormed _ (r .accepted) in
+    let k = c .before .before .before .before .copy in
+    let same = copied-whole 64 (s .args .m .now) (k .last .1 .0) (r .map-room) (omega (arith, k .kept)) (k .ensures) in
+    rw same
+    (r .accepted, (omega (arith, w .most, r .map-room), (t .settled .canonical, (t .settled .compatible, (omega (arith, r .names-room), (t .listed, (omega (arith, s .pre .1 .0, s .pre .1 .1 .0), (s .pre .1 .1 .0, (r .left, (r .right, t .heeded))))))))))
+
+mul-refused : tie.Need-mul-refused
+mul-refused c = let s = c .before .before .before .before .before .before .before .before .before .before .before .before .before .before .before in let w = accepted-wellFormed _ (s .pre .0 .accepted) in omega (arith, w .most, s .pre .1 .0, s .pre .1 .1 .0)
+
+add-refused : tie.Need-add-refused
+add-refused c = let s = c .before .before .before .before .before .before .before .before .before .before .before .before .before .before .before in let w = accepted-wellFormed _ (s .pre .0 .accepted) in omega (arith, w .most, s .pre .1 .0, s .pre .1 .1 .0)
+
+slice-write-refused : tie.Need-slice-write-refused
+slice-write-refused c =
+    let s = c .before .before .before .before .before .before .before .before .before .before .before .before .before .before .before in
+    let w = accepted-wellFormed _ (s .pre .0 .accepted) in
+    omega (arith, w .most, s .pre .0 .table-room, s .pre .1 .0, s .pre .1 .1 .0)
 
 same-length : tie.Need-same-length
 same-length c = search needs
@@ -29,23 +51,31 @@ same-length-3 c = search needs
 
 returns : tie.Need-returns
 returns c =
-    let s = c .before .before .before .before .before .before .before .before .before .before .before .before .before .before .before .before in
+    let s = c .before .before .before .before .before .before .before .before .before .before .before .before .before .before .before in
+    let r = s .pre .0 in
     let t = s .pre .1 .1 .1 in
-    let e = c .before .before .before .extend-apart .ensures .0 in
-    let d = e .closed (c .if1 .taken) in
-    (settled-take _ _ _ _ _ _ (t .0) (omega arith) (omega arith) _ d (e .apart (c .if1 .taken)), heeded-up _ _ _ _ _ (s .args .refused .now) (d .good .0) (t .1))
+    let w = accepted-wellFormed _ (r .accepted) in
+    let k = c .before .before .before .before .before .before .before .copy in
+    let same = copied-whole 64 (s .args .m .now) (k .last .1 .0) (r .map-room) (omega (arith, k .kept)) (k .ensures) in
+    let e = rw same at (c .before .before .extend-apart .ensures .0) in
+    let refused : Refused _ (s .args .v) (s .args .w) _ (s .args .x) (s .args .y) = λ g good up h. e .joined (not-true _ (c .if1 .taken)) g good (up, h) in
+    record {
+      settled = settled-pass _ _ _ _ _ _ (t .settled) (s .pre .1 .0) (s .pre .1 .1 .0) refused;
+      heeded = heeded-mark _ _ _ _ (s .args .refused .now) _ _ (w .most) (s .pre .1 .1 .0) refused (t .heeded);
+      listed = t .listed;
+    }
+
+slice-aggregate-copy-2 : tie.Need-slice-aggregate-copy-2
+slice-aggregate-copy-2 c = search needs
 
 copy-requires-2 : tie.Need-copy-requires-2
 copy-requires-2 c κs = search needs
 
-mul-refused : tie.Need-mul-refused
-mul-refused c = let s = c .before .before .before .before .before .before .before .before .before .before .before .before .before .before .before .before .before .before .before .before .before in let w = accepted-wellFormed _ (s .pre .0 .accepted) in omega (arith, w .most, s .pre .1 .0, s .pre .1 .1 .0)
-
-add-refused : tie.Need-add-refused
-add-refused c = let s = c .before .before .before .before .before .before .before .before .before .before .before .before .before .before .before .before .before .before .before .before .before in let w = accepted-wellFormed _ (s .pre .0 .accepted) in omega (arith, w .most, s .pre .1 .0, s .pre .1 .1 .0)
-
-slice-write-refused : tie.Need-slice-write-refused
-slice-write-refused c = let s = c .before .before .before .before .before .before .before .before .before .before .before .before .before .before .before .before .before .before .before .before .before in let w = accepted-wellFormed _ (s .pre .0 .accepted) in omega (arith, w .most, s .pre .0 .table-room, s .pre .1 .0, s .pre .1 .1 .0)
+names-requires : tie.Need-names-requires
+names-requires c κs =
+    let s = c .before .before .before .before .before .before .before .before .before .before .before .before .before .before .before .before .before .before .before .before .before .before in
+    let w = accepted-wellFormed _ (s .pre .0 .accepted) in
+    (omega (arith, w .most, s .pre .0 .map-room, c .before .before .before .before .copy2 .kept), (omega (arith, w .most, s .pre .0 .names-room), w .most))
 
 same-length-4 : tie.Need-same-length-4
 same-length-4 c = search needs
@@ -58,28 +88,41 @@ same-length-6 c = search needs
 
 returns-2 : tie.Need-returns-2
 returns-2 c =
-    let s = c .before .before .before .before .before .before .before .before .before .before .before .before .before .before .before .before .before .before .before .before .before in
+    let s = c .before .before .before .before .before .before .before .before .before .before .before .before .before .before .before .before .before .before .before .before .before .before .before .before .before in
+    let r = s .pre .0 in
     let t = s .pre .1 .1 .1 in
-    let x = c .before .before .before .before .before .before .before .before .extend-apart .ensures in
-    let same = copied-back (s .args .n) (s .args .m .now) (c .before .before .before .before .before .before .before .before .extend-apart .last .0) (c .before .before .copy2 .last .1 .0) (s .args .spare .now) (c .before .before .before .before .before .before .before .before .before .before .before .before .before .copy .last .1 .0) (omega arith) (c .before .before .before .before .before .before .before .before .before .before .before .before .before .copy .ensures) (x .1) (c .before .before .copy2 .ensures) in
-    let w = accepted-wellFormed _ (s .pre .0 .accepted) in
-    let r : Refused _ (s .args .v) (s .args .w) _ (s .args .x) (s .args .y) = λ g k w h. x .0 .joined (c .before .before .before .before .before .if1 .left) g k (w, h) in
-    rw same (settled-pass _ _ _ _ _ _ (t .0) (omega arith) (omega arith) r, heeded-mark _ _ _ _ (s .args .refused .now) _ _ (w .most) (omega arith) r (t .1))
+    let k = c .before .before .before .before .before .before .before .before .before .before .before .before .before .before .before .before .before .copy in
+    let same = copied-whole 64 (s .args .m .now) (k .last .1 .0) (r .map-room) (omega (arith, k .kept)) (k .ensures) in
+    let x = c .before .before .before .before .before .before .before .before .before .before .before .before .extend-apart in
+    let e = rw same at (x .ensures .0) in
+    let yes = not-false _ (c .before .before .before .before .before .before .before .before .before .before .if1 .left) in
+    let d = e .closed yes in
+    let back = c .before .before .before .before .before .before .before .copy2 in
+    let taken = copied-whole 64 (x .last .0) (back .last .1 .0) (omega (arith, k .kept, x .kept)) (omega (arith, r .map-room, back .kept)) (back .ensures) in
+    record {
+      settled = rw taken (settled-take _ _ _ _ _ _ (t .settled) (s .pre .1 .0) (s .pre .1 .1 .0) _ d (e .apart yes));
+      heeded = rw taken (heeded-up _ _ _ _ _ (s .args .refused .now) (d .good .0) (t .heeded));
+      listed = c .before .before .names .ensures;
+    }
 
 pub try-pair-spec : {M : Type 1} → statement M
 try-pair-spec =
     tie.close
     (tie.spec
+    slice-aggregate-copy
     copy-requires
+    slice-aggregate-extend-apart
     extend-apart-requires
+    mul-refused
+    add-refused
+    slice-write-refused
     same-length
     same-length-2
     same-length-3
     returns
+    slice-aggregate-copy-2
     copy-requires-2
-    mul-refused
-    add-refused
-    slice-write-refused
+    names-requires
     same-length-4
     same-length-5
     same-length-6
