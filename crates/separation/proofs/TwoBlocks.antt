@@ -1,14 +1,18 @@
 -- Why painting by "has v's name" gives the equivalence with v's block and the rest.
 use Prim.Native.Nat.{ℕ, _≤_, _<_}
+use mathlib.Core.List.{List}
 use mathlib.Core.Path.{_≡_, sym, ap, _∙_}
 use native.Mathlib.Decide.{decLt, ℕ-discrete}
 use native.Mathlib.Omega.{arith}
+use lib.ListN.{length}
 use borrow.Author.Tests.{eq-eqb, ne-eqb}
-use Rattle.equivalence.specs.Equivalence.{same}
-use Rattle.equivalence.specs.Kernel.{Canonical}
+use Rattle.equivalence.specs.Kernel.{Canonical, Within}
+use Rattle.algebra.specs.Algebra.{Algebra}
+use Rattle.algebra.specs.Translations.{Compatible}
+use Rattle.closure.specs.Starts.{NamesListed}
+use Rattle.refinement.specs.Splitting.{Represented}
 use Rattle.separation.specs.Blocks.{FirstOther, oneOf}
 use Rattle.separation.specs.Search.{TwoBlocks}
-use borrow.Author.Tests.{eq-eqb, ne-eqb}
 
 pub oneOf-same : (r q b : ℕ) → b ≡ r → oneOf r q b ≡ r
 unfolding oneOf
@@ -51,3 +55,25 @@ module _ (n v q : ℕ) (f e : ℕ → ℕ) (c : Canonical n f) (lv : v < n) (o :
           ap e (painted-other x l s) ∙ painted-other q k (o .other k) ∙ sym (painted-other x l s)
     ];
   }
+
+-- ---- the first members of a congruence within the two blocks
+
+-- what f joins stays in one of the two blocks
+two-within : {n v : ℕ} {f e : ℕ → ℕ} → TwoBlocks n v f e → Within n f e
+two-within {v = v} {f} t x y lx ly p =
+    elim (ℕ-discrete (f x) (f v)) [
+      | yes s ↦ t .same x y lx ly s (sym p ∙ s)
+      | no s ↦ t .rest x y lx ly s (λ q. s (p ∙ q))
+    ]
+
+-- the listed names of a congruence stand for all elements where it is within the two blocks
+pub names-represent : (a : Algebra) {v count : ℕ} {f e : ℕ → ℕ} {names : List ℕ} → Canonical (a .size) f → Compatible a f → TwoBlocks (a .size) v f e → count ≤ length names
+    → NamesListed (a .size) f names count → Represented a names count e
+names-represent a {f = f} c k t r l = record {
+  elements = record { room = r; below = l .small };
+  name = f;
+  canonical = c;
+  compatible = k;
+  within = two-within t;
+  listed = λ x lx. l .all (f x) (omega (arith, c .below x lx)) (eq-eqb (f (f x)) (f x) (c .root x lx));
+}

@@ -11,7 +11,7 @@ pub mod blocks;
 pub mod search;
 
 // `separate` for v's row first, with room for a map, the list of its names and the marks of refused pairs: once every pair with v is
-// settled, the greatest congruence inside "v's block and the rest" is the answer (004, Lemma 10).
+// settled, the greatest congruence inside "v's block and the rest" is the answer (004, Lemma 10). The names of the map stand for all elements.
 fn separate_in(
     m: &mut [u8],
     names: &mut [u8],
@@ -32,9 +32,9 @@ fn separate_in(
 {
     equivalence::blocks::identity(m, n);
     let count = closure::start::names(m, n, names);
-    search::settle_rows(m, names, count, n, arities, cells, refused, v, w);
+    let left = search::settle_rows(m, names, count, n, arities, cells, refused, v, w);
     blocks::two_blocks(m, n, v, out);
-    refinement::refine(out, n, arities, cells);
+    refinement::refine_above(out, n, arities, cells, names, left);
 }
 
 // The earliest congruence that holds v and w apart goes to the first n bytes of out; those past n keep their value.

@@ -2,6 +2,8 @@
 use mathlib.Core.Path.{refl, _∙_}
 use native.Mathlib.Omega.{arith}
 use Rattle.algebra.proofs.Accepted.{accepted-wellFormed}
+use Rattle.closure.proofs.Collections.{collected-most}
+use Rattle.separation.proofs.TwoBlocks.{names-represent}
 use Rattle.separation.proofs.Settling.{settled-start, settled-end, heeded-none, identity-compatible, rooms-kept}
 use borrow.Author.Needs.{needs}
 use Rattle.separation.proofs.separate_in.Statement.{statement}
@@ -42,10 +44,17 @@ two-blocks-requires c κs =
     let t = c .before .before .before .before .before .before .before .before .settle-rows in
     (omega (arith, w .most, r .map-room, c .before .before .before .before .before .before .before .before .before .before .before .before .before .before .before .before .before .before .before .identity .kept, t .kept), (s .pre .1 .1 .0, (r .left, (w .most, t .ensures .settled .canonical))))
 
-refine-requires : tie.Need-refine-requires
-refine-requires c κs =
-    let s = c .before .before .before .before .before .before .before .before .before .before .before .before .before .before .before .before .before .before .before .before .before .before .before .before .before .before .before .before .before .before .before in
-    (s .pre .0 .accepted, (omega (arith, s .pre .1 .1 .0), c .before .before .before .two-blocks .ensures .1 .0))
+refine-above-requires : tie.Need-refine-above-requires
+refine-above-requires c κs =
+    let s = c .before .before .before .before .before .before .before .before .before .before .before .before .before .before .before .before .before .before .before .before .before .before .before .before .before .before .before .before .before .before .before .before in
+    let r = s .pre .0 in
+    let w = accepted-wellFormed _ (r .accepted) in
+    let k = c .before .before .before .before .before .before .before .before .before .before .before .before .before .settle-rows in
+    let most = collected-most (k .ensures .listed) in
+    let two = c .before .before .before .before .two-blocks .ensures in (
+      r .accepted,
+      (omega (arith, s .pre .1 .1 .0), (two .1 .0, (names-represent _ (k .ensures .settled .canonical) (k .ensures .settled .compatible) (two .0) (omega (arith, r .names-room, w .most)) (k .ensures .listed), omega (arith, w .most)))),
+    )
 
 same-length : tie.Need-same-length
 same-length c = search needs
@@ -61,10 +70,10 @@ same-length-4 c = search needs
 
 returns : tie.Need-returns
 returns c =
-    let r = c .before .before .before .before .before .before .before .before .before .before .before .before .before .before .before .before .before .before .before .before .before .before .before .before .before .before .before .before .before .before .before .before .before .before .pre .0 in
-    let two = c .before .before .before .before .before .before .two-blocks .ensures in
-    let q = c .before .before .refine .ensures in (
-      settled-end _ _ _ (r .left) (r .right) _ (c .before .before .before .before .before .before .before .before .before .before .before .before .before .before .before .settle-rows .ensures .settled) _ (two .0) _ (q .0),
+    let r = c .before .before .before .before .before .before .before .before .before .before .before .before .before .before .before .before .before .before .before .before .before .before .before .before .before .before .before .before .before .before .before .before .before .before .before .pre .0 in
+    let two = c .before .before .before .before .before .before .before .two-blocks .ensures in
+    let q = c .before .before .refine-above .ensures in (
+      settled-end _ _ _ (r .left) (r .right) _ (c .before .before .before .before .before .before .before .before .before .before .before .before .before .before .before .before .settle-rows .ensures .settled) _ (two .0) _ (q .0),
       λ x l. q .1 x l ∙ two .1 .1 x l,
     )
 
@@ -76,7 +85,7 @@ separate-in-spec =
     names-requires
     settle-rows-requires
     two-blocks-requires
-    refine-requires
+    refine-above-requires
     same-length
     same-length-2
     same-length-3
