@@ -53,7 +53,7 @@ refine-above-requires c κs =
     let most = collected-most (k .ensures .listed) in
     let two = c .before .before .before .before .two-blocks .ensures in (
       r .accepted,
-      (omega (arith, s .pre .1 .1 .0), (two .1 .0, (names-represent _ (k .ensures .settled .canonical) (k .ensures .settled .compatible) (two .0) (omega (arith, r .names-room, w .most)) (k .ensures .listed), omega (arith, w .most)))),
+      (omega (arith, s .pre .1 .1 .0), (two .1 .0, (names-represent _ (k .ensures .settled .canonical) (k .ensures .settled .compatible) (two .0) (omega (arith, r .names-room, w .most, most, c .before .before .before .before .before .before .before .before .before .before .before .before .before .before .before .before .before .before .before .names .kept, k .kept)) (k .ensures .listed), omega (arith, w .most, most)))),
     )
 
 same-length : tie.Need-same-length
