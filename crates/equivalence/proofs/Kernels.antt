@@ -2,7 +2,7 @@
 use Prim.Native.Nat.{ℕ, zero, suc, _+_, _≤_, _<_}
 use mathlib.Core.List.{List}
 use mathlib.Core.Path.{_≡_, refl, sym, ap, _∙_}
-use native.Mathlib.Decide.{ℕ-discrete}
+use native.Mathlib.Decide.{decLt, ℕ-discrete}
 use native.Mathlib.Omega.{arith}
 use lib.Dec.{eqb}
 use lib.ListN.{length, set}
@@ -135,7 +135,7 @@ module _ (n : ℕ) (f f′ : ℕ → ℕ) (a b : ℕ) (c : Canonical n f) (la : 
   merged-names : names n f′ + 1 ≡ names n f
   merged-names = names-after n (omega (arith, c .below b lb)) (omega arith)
 
-pub relabelled-merged : (n : ℕ) (f f′ : ℕ → ℕ) (a b : ℕ) → Canonical n f → a < n → b < n → f a < f b → Filled n (λ x. relabel (f b) (f a) (f x)) f f′ → Merged n a b f f′
+relabelled-merged : (n : ℕ) (f f′ : ℕ → ℕ) (a b : ℕ) → Canonical n f → a < n → b < n → f a < f b → Filled n (λ x. relabel (f b) (f a) (f x)) f f′ → Merged n a b f f′
 relabelled-merged n f f′ a b c la lb lt r = record {
   canonical = merged-canonical n f f′ a b c la lb lt (r .first);
   within = merged-within n f f′ a b c la lb lt (r .first);
@@ -154,6 +154,14 @@ merged-swap m = record {
   blocks = m .blocks;
   rest = m .rest;
 }
+
+-- the larger of the two names, `old`, becomes the smaller, `new`
+pub relabelled-either : (n : ℕ) (f f′ : ℕ → ℕ) (a b old new : ℕ) → Canonical n f → a < n → b < n → (f a ≡ f b → ⊥) → (f a < f b → old ≡ f b) × (f b ≤ f a → old ≡ f a)
+    → (f a < f b → new ≡ f a) × (f b ≤ f a → new ≡ f b) → Filled n (λ x. relabel old new (f x)) f f′ → Merged n a b f f′
+relabelled-either n f f′ a b old new c la lb d larger smaller r = elim (decLt (f a) (f b)) [
+  | yes l ↦ relabelled-merged n f f′ a b c la lb l (rw (larger .0 l, smaller .0 l) at r)
+  | no l ↦ merged-swap (relabelled-merged n f f′ b a c lb la (omega (arith, d)) (rw (larger .1 (omega arith), smaller .1 (omega arith)) at r))
+]
 
 -- ---- a loop that fills a slice
 

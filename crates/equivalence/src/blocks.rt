@@ -23,7 +23,23 @@ fn relabel_all(m: &mut [u8], n: usize, old: u8, new: u8)
     }
 }
 
-// Puts the blocks of a and b, which are two, under the smaller name.
+// The smaller of two names.
+fn smaller(p: u8, q: u8) -> u8
+    ensures { λ r. ⌜ (p < q → r ≡ p) ⌝ }
+    ensures { λ r. ⌜ (q ≤ p → r ≡ q) ⌝ }
+{
+    if p < q { p } else { q }
+}
+
+// The larger of two names.
+fn larger(p: u8, q: u8) -> u8
+    ensures { λ r. ⌜ (p < q → r ≡ q) ⌝ }
+    ensures { λ r. ⌜ (q ≤ p → r ≡ p) ⌝ }
+{
+    if p < q { q } else { p }
+}
+
+// Puts the blocks of a and b, which are two, under the smaller name. Which name that is cannot be foreseen, so it is chosen without a branch.
 pub fn merge(m: &mut [u8], n: usize, a: usize, b: usize)
     requires { do ⌜ n ≤ (← ⟦m.len()⟧) ⌝ }
     requires { ⌜ a < n ⌝ }
@@ -34,11 +50,9 @@ pub fn merge(m: &mut [u8], n: usize, a: usize, b: usize)
 {
     let p = m[a];
     let q = m[b];
-    if p < q {
-        relabel_all(m, n, q, p);
-    } else {
-        relabel_all(m, n, p, q);
-    }
+    let old = larger(p, q);
+    let new = smaller(p, q);
+    relabel_all(m, n, old, new);
 }
 
 // Puts x and y into one block, if they are not.

@@ -1,7 +1,4 @@
-use Prim.Native.Nat.{_<_}
-use native.Mathlib.Omega.{arith}
-use Rattle.equivalence.specs.Equivalence.{byte}
-use Rattle.equivalence.proofs.Kernels.{relabelled-merged, merged-swap}
+use Rattle.equivalence.proofs.Kernels.{relabelled-either}
 use borrow.Author.Needs.{needs}
 use Rattle.equivalence.proofs.blocks.merge.Statement.{statement}
 use Rattle.equivalence.proofs.blocks.merge.Tie as tie
@@ -12,26 +9,22 @@ slice-read-p c = search needs
 slice-read-q : tie.Need-slice-read-q
 slice-read-q c = search needs
 
+larger-requires : tie.Need-larger-requires
+larger-requires c κs = search needs
+
+smaller-requires : tie.Need-smaller-requires
+smaller-requires c κs = search needs
+
 relabel-all-requires : tie.Need-relabel-all-requires
 relabel-all-requires c κs = search needs
-
-relabel-all-requires-2 : tie.Need-relabel-all-requires-2
-relabel-all-requires-2 c κs = search needs
 
 same-length : tie.Need-same-length
 same-length c = search needs
 
 returns : tie.Need-returns
-returns c = search relabelled-merged
-
-same-length-2 : tie.Need-same-length-2
-same-length-2 c = search needs
-
-returns-2 : tie.Need-returns-2
-returns-2 c =
-    let s = c .before .before .before .before .before .before .before .before in
-    let lt : byte (s .args .m .now) (s .args .b) < byte (s .args .m .now) (s .args .a) = omega arith in
-    merged-swap (search relabelled-merged)
+returns c =
+    let q = c .before .before .before .before .before .before .before .before .before .pre .1 in
+    relabelled-either _ _ _ _ _ _ _ (q .1 .1 .0) (q .0) (q .1 .0) (q .1 .1 .1) (c .before .before .before .before .before .larger .ensures) (c .before .before .before .before .smaller .ensures) (c .before .before .relabel-all .ensures)
 
 pub merge-spec : {M : Type 1} → statement M
 merge-spec =
@@ -39,9 +32,8 @@ merge-spec =
     (tie.spec
     slice-read-p
     slice-read-q
+    larger-requires
+    smaller-requires
     relabel-all-requires
-    relabel-all-requires-2
     same-length
-    returns
-    same-length-2
-    returns-2)
+    returns)
