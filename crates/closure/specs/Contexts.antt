@@ -9,10 +9,6 @@ use Rattle.equivalence.specs.Kernel.{names}
 use Rattle.algebra.specs.Algebra.{Algebra}
 use Rattle.algebra.specs.Translations.{result}
 
--- c is one of the first `count` elements of the list
-abbrev pub Listed : List ℕ → ℕ → ℕ → Type 0
-Listed live count c = (i : ℕ) × ((i < count) × (byte live i ≡ c))
-
 -- every member is in L
 abbrev pub All : (ℕ → Type 0) → List ℕ → Type 0
 All L [] = Unit {0}

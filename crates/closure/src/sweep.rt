@@ -6,11 +6,12 @@ ghost use mathlib.Core.Bool.{true};
 ghost use mathlib.Core.Logic.{_⊎_};
 ghost use Prim.Native.Nat.{ℕ, _+_, _*_, _<_, _≤_};
 ghost use lib.ListN.{length};
+ghost use Rattle.equivalence.specs.Kernel.{Listed};
 ghost use Rattle.equivalence.specs.Equivalence.{byte};
 ghost use Rattle.closure.specs.Queue.{state, Ready, Grown};
 ghost use Rattle.algebra.specs.Algebra.{algebraOf};
 ghost use Rattle.algebra.specs.Accepted.{Accepted};
-ghost use Rattle.closure.specs.Contexts.{Listed, OperationsIn, OnLine, OnPlane, OnTable, Contexts, LineFits, PlaneFits, TableFits, Unless, Halts, Bounded, Heeds, Barred, Passed};
+ghost use Rattle.closure.specs.Contexts.{OperationsIn, OnLine, OnPlane, OnTable, Contexts, LineFits, PlaneFits, TableFits, Unless, Halts, Bounded, Heeds, Barred, Passed};
 
 // Is nothing more to be done?
 pub fn halted(m: &[u8], len: usize, limit: usize, v: usize, w: usize) -> bool

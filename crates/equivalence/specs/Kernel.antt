@@ -3,7 +3,9 @@
 use Prim.Native.Nat.{ℕ, zero, suc, _+_, _≤_, _<_}
 use mathlib.Core.Path.{_≡_}
 use mathlib.Core.Bool.{Bool, true, false}
+use mathlib.Core.List.{List}
 use lib.Dec.{eqb, ltb}
+use lib.ListN.{getD}
 
 -- f names each block by its smallest member: at most the element, and its own name
 pub record Canonical (n : ℕ) (f : ℕ → ℕ) : Type 0 where
@@ -61,3 +63,7 @@ pub record Joined (n i : ℕ) (g f f′ : ℕ → ℕ) : Type 0 where
   pub holds : (x : ℕ) → x < i → f′ x ≡ f′ (g x)
   pub least : (h : ℕ → ℕ) → Within n f h → ((x : ℕ) → x < i → h x ≡ h (g x)) → Within n f′ h
   pub rest : (x : ℕ) → n ≤ x → f′ x ≡ f x
+
+-- c is one of the first `count` elements of a list
+abbrev pub Listed : List ℕ → ℕ → ℕ → Type 0
+Listed list count c = (i : ℕ) × ((i < count) × (getD list i 0 ≡ c))

@@ -10,12 +10,12 @@ use native.Mathlib.Omega.{arith}
 use lib.Dec.{T}
 use lib.ListN.{length, getD, take}
 use Rattle.equivalence.specs.Equivalence.{Map, byte}
-use Rattle.equivalence.specs.Kernel.{Canonical, Within}
+use Rattle.equivalence.specs.Kernel.{Canonical, Within, Listed}
 use Rattle.algebra.specs.Algebra.{Algebra, cellCount, place}
 use Rattle.algebra.specs.Translations.{AllBelow, tableStart, result, Compatible}
 use Rattle.algebra.proofs.Accepted.{WellFormed}
 use Rattle.algebra.proofs.Congruences.{cells-below}
-use Rattle.refinement.specs.Splitting.{Listed, Elements, line, Keeps, KeepsOn, Any, Chosen, Table, Lent, Represented}
+use Rattle.refinement.specs.Splitting.{Elements, line, Keeps, KeepsOn, Any, Chosen, Table, Lent, Represented}
 use Rattle.refinement.proofs.Splits.{keeps-by-first}
 use Rattle.refinement.proofs.Sifting.{still-first}
 use Rattle.refinement.proofs.Tables.{power-one, power-two}

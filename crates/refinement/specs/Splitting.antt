@@ -5,13 +5,9 @@ use mathlib.Core.Bool.{Bool, true, false}
 use mathlib.Core.List.{List}
 use lib.ListN.{length, getD}
 use Rattle.equivalence.specs.Equivalence.{Map, byte}
-use Rattle.equivalence.specs.Kernel.{Canonical, Within, names}
+use Rattle.equivalence.specs.Kernel.{Listed, Canonical, Within, names}
 use Rattle.algebra.specs.Algebra.{Algebra}
 use Rattle.algebra.specs.Translations.{Compatible}
-
--- c is one of the first `count` elements of a list
-abbrev pub Listed : List ℕ → ℕ → ℕ → Type 0
-Listed list count c = (i : ℕ) × ((i < count) × (byte list i ≡ c))
 
 -- the first `count` members of a list are elements
 pub record Elements (n : ℕ) (list : List ℕ) (count : ℕ) : Type 0 where

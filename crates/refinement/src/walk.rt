@@ -6,11 +6,11 @@ ghost use mathlib.Core.Bool.{true};
 ghost use Prim.Native.Nat.{_+_, _*_, _^_, _<_, _≤_};
 ghost use lib.ListN.{length};
 ghost use Rattle.equivalence.specs.Equivalence.{byte};
-ghost use Rattle.equivalence.specs.Kernel.{Canonical};
+ghost use Rattle.equivalence.specs.Kernel.{Canonical, Listed};
 ghost use Rattle.algebra.specs.Accepted.{Accepted};
 ghost use Rattle.algebra.specs.Algebra.{algebraOf};
 ghost use Rattle.algebra.specs.Translations.{Compatible};
-ghost use Rattle.refinement.specs.Splitting.{Listed, Elements, line, Keeps, KeepsOn, Any, Chosen, Lines, Planes, Table, Lent, OnLines, OnPlanes, Sifted, Lists, Split, Represented};
+ghost use Rattle.refinement.specs.Splitting.{Elements, line, Keeps, KeepsOn, Any, Chosen, Lines, Planes, Table, Lent, OnLines, OnPlanes, Sifted, Lists, Split, Represented};
 use super::line::split_line;
 
 // The line of stride d that begins at `base` moved by `step` times r; where `firsts` is set, only if r is a first member.

@@ -3,13 +3,14 @@ use Prim.Native.Nat.{_-_, _≤_}
 use mathlib.Core.Path.{_≡_, sym}
 use native.Mathlib.Omega.{arith}
 use lib.ListN.{length, take}
+use Rattle.equivalence.specs.Kernel.{Listed}
 use Rattle.algebra.proofs.Accepted.{accepted-wellFormed}
 use Rattle.algebra.proofs.Tables.{start-next, start-first, start-room}
 use Rattle.algebra.specs.Algebra.{algebraOf, cellCount, operations}
 use Rattle.closure.proofs.Images.{operation-fits, operation-table, operations-more, operations-whole}
 use Rattle.closure.proofs.Queues.{Since, since-none, since-ready, since-more}
 use Rattle.closure.proofs.Sweeps.{halted-unless, joined-kept, bounded-since}
-use Rattle.closure.specs.Contexts.{Listed, OperationsIn, Unless, Heeds}
+use Rattle.closure.specs.Contexts.{OperationsIn, Unless, Heeds}
 use Rattle.equivalence.proofs.Tests.{left, right}
 use Rattle.equivalence.specs.Equivalence.{byte}
 use Rattle.closure.proofs.sweep.operations.Statement.{statement}

@@ -4,8 +4,9 @@ use mathlib.Core.Bool.{true}
 use mathlib.Core.Path.{_≡_, refl}
 use native.Mathlib.Omega.{arith}
 use lib.ListN.{length}
+use Rattle.equivalence.specs.Kernel.{Listed}
 use Rattle.equivalence.specs.Equivalence.{byte}
-use Rattle.refinement.specs.Splitting.{Listed, Keeps, KeepsOn, Any, Chosen, Lines, Planes, Lists, Split}
+use Rattle.refinement.specs.Splitting.{Keeps, KeepsOn, Any, Chosen, Lines, Planes, Lists, Split}
 use Rattle.refinement.proofs.Splits.{split-none, split-next, split-said, by-index, lent-again}
 use Rattle.refinement.proofs.walk.split_planes.Statement.{statement}
 use Rattle.refinement.proofs.walk.split_planes.Tie as tie
