@@ -19,7 +19,7 @@ use Rattle.algebra.specs.Algebra.{Algebra, algebraOf}
 use Rattle.algebra.proofs.Accepted.{accepted-wellFormed}
 use Rattle.congruence.specs.Calls.{generateCall, containedCall, separateCall, decomposed, decomposeCall}
 use Rattle.congruence.proofs.Calls.{factors-reducible}
-use Rattle.congruence.proofs.Factors.{listed-law}
+use Rattle.theory.proofs.Factors.{listed-law}
 use Rattle.congruence.proofs.Serving.{of-checked}
 use Rattle.congruence.specs.declared.Decomposed.{Decomposed}
 use Rattle.congruence.specs.declared.Decomposed.the-variants.{Factors, Irreducible, Refused as DecomposeRefused}

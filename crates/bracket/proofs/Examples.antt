@@ -9,8 +9,8 @@ use Rattle.algebra.specs.Accepted.{algebraTests}
 use Rattle.algebra.specs.Algebra.{cellCount, operationsOf, operations, arguments, place, value}
 use Rattle.algebra.specs.Congruence.{respects, isCongruence, congruences}
 use Rattle.congruence.specs.Calls.{pairsTest, elementsTest, equalTest, generateCall, containedCall, separateCall, decomposed, factorBytes, decomposeCall}
-use Rattle.congruence.specs.Decompose.{added, gathered, pruned, listed, reducible, commonPair}
-use Rattle.congruence.specs.Extremal.{holdsAll, generated, contained, separated}
+use Rattle.theory.specs.Decompose.{added, gathered, pruned, listed, reducible, commonPair}
+use Rattle.theory.specs.Extremal.{holdsAll, generated, contained, separated}
 use Rattle.bracket.specs.Reading.{ascii, onward, _>>=_, mark, begins, opened}
 use Rattle.bracket.specs.Numbers.{digitAt, number, decimal}
 use Rattle.bracket.specs.Tables.{cell, parted, bracket, table, pair, itemsUpTo, items}

@@ -18,13 +18,13 @@ use Rattle.algebra.specs.Accepted.{algebraTests, Accepted}
 use Rattle.algebra.specs.Algebra.{Algebra, algebraOf, cellCount}
 use Rattle.algebra.proofs.Accepted.{WellFormed, accepted-wellFormed}
 use Rattle.congruence.specs.Calls.{congruenceTest, quotientCall, decomposed, factorBytes, decomposeCall}
-use Rattle.congruence.specs.Decompose.{listed, reducible}
+use Rattle.theory.specs.Decompose.{listed, reducible}
 use Rattle.congruence.specs.Demands.{QuotientDraws11, FactorCalls}
 use Rattle.congruence.proofs.Calls.{factor-calls}
 use Rattle.congruence.proofs.Demands.{listed-right}
 use Rattle.congruence.proofs.Factoring.{of-decomposeTests}
-use Rattle.congruence.proofs.Factors.{decomposed-yes, decomposed-no}
-use Rattle.congruence.proofs.Quotients.{quotientCells-length}
+use Rattle.congruence.proofs.Decomposing.{decomposed-yes, decomposed-no}
+use Rattle.theory.proofs.Quotients.{quotientCells-length}
 use Rattle.congruence.proofs.Serving.{of-quotientTests}
 use Rattle.division.specs.Quotient.{quotientCells}
 use Rattle.claim.specs.Calls.{factorCount, eleven, lastCall, factorCalls, lentAt, lastAnswer, elevens, CallsMade, LentEnough, EveryLastCall11}

@@ -1,18 +1,22 @@
 -- From what the inner functions promise, in kernels, to what the definitions give, in maps: the first n bytes of a slice that is canonical are a map; a
 -- map with the defining property is the definition's; and so the slice afterwards is that map, written over what was lent.
 use Prim.Native.Nat.{ℕ, zero, suc, _+_, _-_, _*_, _≤_, _<_}
-use mathlib.Core.List.{List, [], _∷_}
-use mathlib.Core.Path.{_≡_, sym, ap, _∙_}
+use mathlib.Core.List.{List, [], _∷_, _++_, List·Memᴰ as Member, List·Memᴰ·head as here, List·Memᴰ·cases-cons as cases-cons, Memᴰ·append-right as append-right, List·Memᴰ·append-cases as append-cases}
+use mathlib.Core.Logic.{inl, inr}
+use mathlib.Core.Path.{_≡_, refl, sym, ap, subst, _∙_}
 use native.Mathlib.Omega.{arith}
 use lib.Dec.{T}
 use lib.ListN.{length, take}
 use lib.Seq.{getD-take, length-take-le}
 use Rattle.equivalence.specs.Equivalence.{Map, byte, holds, blocks}
 use Rattle.equivalence.specs.Kernel.{Canonical, Within, Filled, names}
+use Rattle.equivalence.specs.Order.{Pair, pairs}
 use Rattle.equivalence.specs.Refusal.{written}
 use Rattle.equivalence.proofs.Bytes.{names-blocks}
+use Rattle.equivalence.proofs.Earlier.{notLater-by}
 use Rattle.equivalence.proofs.Kernels.{names-same}
 use Rattle.equivalence.proofs.Maps.{holds-of, of-holds, IsMap}
+use Rattle.equivalence.proofs.Pairs.{member-pairs, of-pairs, Sorted, Lex, sorted-pairs}
 use Rattle.equivalence.proofs.Tests.{both, left, right}
 use Rattle.equivalence.proofs.Writing.{filled-written}
 use Rattle.algebra.specs.Algebra.{Algebra}
@@ -20,13 +24,13 @@ use Rattle.algebra.specs.Translations.{Compatible, Closed, Refined}
 use Rattle.algebra.proofs.Accepted.{WellFormed}
 use Rattle.algebra.proofs.Congruences.{IsCongruence}
 use Rattle.algebra.proofs.Translations.{congruence-compatible, compatible-congruence}
-use Rattle.congruence.specs.Extremal.{holdsAll, generated, extended, contained, separated}
-use Rattle.congruence.proofs.Extension.{extended-is}
-use Rattle.congruence.proofs.GreatestCongruence.{contained-is}
-use Rattle.congruence.proofs.LeastCongruence.{Below, generated-is}
-use Rattle.congruence.proofs.Separation.{earliest-separated}
+use Rattle.theory.specs.Extremal.{holdsAll, generated, extended, contained, separated}
+use Rattle.theory.proofs.Extension.{extended-is}
+use Rattle.theory.proofs.GreatestCongruence.{contained-is}
+use Rattle.theory.proofs.LeastCongruence.{Below, generated-is}
+use Rattle.theory.proofs.Separation.{separated-is, lex-asym}
 use Rattle.closure.specs.Starts.{JoinsPairs, Extends}
-use Rattle.separation.specs.Search.{Earliest}
+use Rattle.separation.specs.Search.{Before, Earliest}
 use Rattle.refinement.proofs.Refinements.{canonical-same, compatible-same}
 
 -- ---- the first n bytes of a slice
@@ -78,6 +82,42 @@ holdsAll-joins (x ∷ y ∷ ps) m t (suc j) l =
     let e : 2 * suc j ≡ suc (suc (2 * j)) = omega arith in
     let f : 2 * suc j + 1 ≡ suc (suc (2 * j + 1)) = omega arith in
     ap (λ (i : ℕ). byte m (byte (x ∷ y ∷ ps) i)) e ∙ holdsAll-joins ps m (right (holds m x y) (holdsAll ps m) t) j (omega arith) ∙ ap (λ (i : ℕ). byte m (byte (x ∷ y ∷ ps) i)) (sym f)
+
+-- ---- pairs in their order
+
+-- a pair before p stands among those listed before p
+before-done : (n : ℕ) (done rest : List Pair) (p q : Pair) → pairs n ≡ done ++ (p ∷ rest) → Member q (pairs n) → Lex q p → Member q done
+before-done n done rest p q e m b =
+    elim (append-cases done (subst (λ (l : List Pair). Member q l) e m)) [
+      | inl i ↦ i
+      | inr i ↦ elim (cases-cons i) [
+        | inl z ↦ absurd (never p (subst (λ (r : Pair). Lex r p) z b))
+        | inr o ↦ absurd (lex-asym p q (after done (subst (λ (l : List Pair). Sorted Lex l) e (sorted-pairs n)) o) b)
+      ]
+    ]
+  where
+    never : (p : Pair) → Lex p p → ⊥
+    never p b = elim b [ inl o ↦ omega arith | inr o ↦ omega (arith, o .1) ]
+
+    after : (done : List Pair) → Sorted Lex (done ++ (p ∷ rest)) → Member q rest → Lex p q
+    after [] s o = s .0 q o
+    after (d ∷ done) s o = after done (s .1) o
+
+-- the search's result is what the definition gives
+pub earliest-separated : (a : Algebra) → WellFormed a → (v w : ℕ) (m : Map) → IsMap (a .size) m → Earliest a v w (byte m) → separated a v w ≡ m
+earliest-separated a c v w m p e =
+    separated-is a v w m (record {
+      cong = compatible-congruence a m p (e .compatible);
+      apart = e .apart;
+      earliest = λ d q n. notLater-by m d (a .size) (λ done r rest s agree h.
+          let i = of-pairs (a .size) r (subst (λ (l : List Pair). Member r l) (sym s) (append-right done (here refl))) in
+          let among : (x y : ℕ) → x < y → y < a .size → Before x y (r .0) (r .1) → Member (x, y) done =
+          λ x y l k b. before-done (a .size) done rest r (x, y) s (member-pairs (a .size) x y l k) b in
+          e .first (byte d) (congruence-compatible a d q) n (r .0) (r .1) (i .0) (i .1)
+          (λ x y l k b z. agree (x, y) (among x y l k b) .0 z)
+          (λ x y l k b z. agree (x, y) (among x y l k b) .1 z)
+          h);
+    })
 
 -- ---- what was found is what the definition gives
 

@@ -18,11 +18,12 @@ use Rattle.algebra.specs.Congruence.{isCongruence, Congruence}
 use Rattle.algebra.proofs.Accepted.{WellFormed, accepted-wellFormed, not-yes, wellFormed-accepted}
 use Rattle.algebra.proofs.Congruences.{congruence-is}
 use Rattle.congruence.specs.Calls.{element, congruenceTest, quotientCall, decomposed, factorBytes, decomposeCall}
-use Rattle.congruence.specs.Decompose.{listed, reducible, commonPair}
+use Rattle.theory.specs.Decompose.{listed, reducible, commonPair}
 use Rattle.congruence.specs.Demands.{Answers11, QuotientDraws11, FactorCalls}
 use Rattle.congruence.proofs.Demands.{listed-right}
-use Rattle.congruence.proofs.Factors.{decomposed-yes, decomposed-no, listed-long}
-use Rattle.congruence.proofs.Quotients.{quotientCells-length, quotient-wellFormed}
+use Rattle.theory.proofs.Factors.{listed-long}
+use Rattle.congruence.proofs.Decomposing.{decomposed-yes, decomposed-no}
+use Rattle.theory.proofs.Quotients.{quotientCells-length, quotient-wellFormed}
 use Rattle.division.specs.Quotient.{quotientCells, quotient}
 use Rattle.equivalence.specs.declared.Refusal.{Refusal}
 use Rattle.equivalence.specs.declared.Check.{Check}

@@ -16,7 +16,7 @@ use Rattle.algebra.specs.Accepted.{algebraTests}
 use Rattle.algebra.specs.Algebra.{Algebra}
 use Rattle.algebra.specs.Congruence.{isCongruence}
 use Rattle.congruence.specs.Calls.{mapsIn, mapsTest, certifyCall}
-use Rattle.congruence.specs.Certify.{isMaximalFor, certified}
+use Rattle.theory.specs.Certify.{isMaximalFor, certified}
 use Rattle.congruence.specs.Listing.{listing, SuffixMeets}
 use Rattle.congruence.proofs.Listings.{Begins, begins-sym, begins-is, begins-take, begins-canonical, begins-isIdentity}
 use borrow.Author.Tests.{not-true, not-false}

@@ -23,13 +23,13 @@ use Rattle.equivalence.proofs.Tests.{T?, both, left, right, true-is, false-is}
 use Rattle.algebra.specs.Algebra.{Algebra}
 use Rattle.algebra.proofs.Accepted.{WellFormed}
 use Rattle.algebra.proofs.Congruences.{IsCongruence}
-use Rattle.congruence.specs.Certify.{isMaximalFor}
+use Rattle.theory.specs.Certify.{isMaximalFor}
 use Rattle.congruence.specs.Closures.{Shrunk}
-use Rattle.congruence.specs.Extremal.{extended}
-use Rattle.congruence.proofs.Certificates.{of-isMaximalFor, any-isMaximalFor, maximalFor-of}
-use Rattle.congruence.proofs.Extension.{LeastAbove, extended-law}
+use Rattle.theory.specs.Extremal.{extended}
+use Rattle.theory.proofs.Certificates.{of-isMaximalFor, any-isMaximalFor, maximalFor-of}
+use Rattle.theory.proofs.Extension.{LeastAbove, extended-law}
 use Rattle.congruence.proofs.Listings.{Begins, begins-is, begins-take, begins-written, begins-canonical}
-use Rattle.congruence.proofs.Separation.{MaximalFor}
+use Rattle.theory.proofs.Separation.{MaximalFor}
 
 -- ---- shrinking
 

@@ -22,11 +22,12 @@ use Rattle.algebra.specs.Algebra.{Algebra}
 use Rattle.algebra.proofs.Accepted.{WellFormed}
 use Rattle.equivalence.specs.declared.Check.the-variants.{Passed}
 use Rattle.congruence.specs.Calls.{element, decomposed, factorBytes}
-use Rattle.congruence.specs.Decompose.{gathered, pruned, listed, reducible, commonPair}
+use Rattle.theory.specs.Decompose.{gathered, pruned, listed, reducible, commonPair}
 use Rattle.congruence.specs.Listing.{listing, MapsListed}
 use Rattle.congruence.proofs.Calls.{factorBytes-yes}
-use Rattle.congruence.proofs.CommonPair.{commonPair-one}
-use Rattle.congruence.proofs.Factors.{Gathered, gathered-law, listed-law, split, decomposed-yes, decomposed-no}
+use Rattle.theory.proofs.CommonPair.{commonPair-one}
+use Rattle.theory.proofs.Factors.{Gathered, gathered-law, listed-law, split}
+use Rattle.congruence.proofs.Decomposing.{decomposed-yes, decomposed-no}
 use Rattle.congruence.proofs.Listings.{listing-at, listing-concat, concat-length}
 use Rattle.congruence.proofs.Serving.{of-checked}
 use Rattle.division.specs.Tables.{laid}

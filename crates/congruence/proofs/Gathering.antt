@@ -25,14 +25,14 @@ use Rattle.algebra.specs.Algebra.{Algebra, place}
 use Rattle.algebra.proofs.Accepted.{WellFormed}
 use Rattle.algebra.proofs.Congruences.{IsCongruence}
 use Rattle.congruence.specs.Calls.{element}
-use Rattle.congruence.specs.Decompose.{added, gathered, listed, reducible, commonPair}
-use Rattle.congruence.specs.Demands.{Splitting}
-use Rattle.congruence.specs.Extremal.{separated}
+use Rattle.theory.specs.Decompose.{added, gathered, listed, reducible, commonPair}
+use Rattle.theory.specs.Splitting.{Splitting}
+use Rattle.theory.specs.Extremal.{separated}
 use Rattle.congruence.specs.Gathering.{Step, GatheredRight}
-use Rattle.congruence.proofs.CommonPair.{Common, commonPair-law, refuse-when, unsplit-when, reducible-when}
-use Rattle.congruence.proofs.Factors.{added-law, split, gathered-end, gathered-step}
+use Rattle.theory.proofs.CommonPair.{Common, commonPair-law, refuse-when, unsplit-when, reducible-when}
+use Rattle.theory.proofs.Factors.{added-law, split, gathered-end, gathered-step}
 use Rattle.congruence.proofs.Listings.{Begins, begins-is, begins-refl, begins-written, begins-canonical, begins-meet, begins-isIdentity, begins-firstHeld, onwards, put-laid, laid-snoc, concat-length}
-use Rattle.congruence.proofs.Separation.{separated-law, lex-asym}
+use Rattle.theory.proofs.Separation.{separated-law, lex-asym}
 use Rattle.division.specs.Tables.{laid}
 use borrow.Rule.Slice.PartMut.{putMid}
 use Rattle.congruence.specs.declared.gather.Collected.{Collected}

@@ -1,16 +1,8 @@
 pub mod Bridges
 pub mod Calls
-pub mod Certificates
-pub mod CommonPair
-pub mod Correspondence
+pub mod Decomposing
 pub mod Demands
 pub mod Examples
-pub mod Extension
-pub mod Factors
-pub mod GreatestCongruence
-pub mod LeastCongruence
-pub mod Quotients
-pub mod Separation
 pub mod Listings
 pub mod ListTests
 pub mod Pruning

@@ -19,10 +19,10 @@ use Rattle.equivalence.proofs.Meets.{meet-map, meetAll-map}
 use Rattle.equivalence.proofs.Tests.{T?, left, pick-yes, pick-no}
 use Rattle.equivalence.proofs.Writing.{written-length}
 use Rattle.algebra.specs.Algebra.{place}
-use Rattle.congruence.specs.Decompose.{pruned, listed}
+use Rattle.theory.specs.Decompose.{pruned, listed}
 use Rattle.congruence.specs.Listing.{listing, MapsListed, SuffixMeets, inTurn}
-use Rattle.congruence.proofs.Certificates.{isIdentity-meets, of-isIdentity-meets}
-use Rattle.congruence.proofs.Factors.{pruned-drop, pruned-keep}
+use Rattle.theory.proofs.Certificates.{isIdentity-meets, of-isIdentity-meets}
+use Rattle.theory.proofs.Factors.{pruned-drop, pruned-keep}
 use Rattle.congruence.proofs.Listings.{Begins, begins-sym, begins-is, begins-take, begins-written, begins-canonical, begins-meet, meetAll-append, meetAll-snoc, listing-length, listing-at, listed-map, listed-room, listed-begins, onwards, part-rest, laid-snoc, concat-length}
 use Rattle.division.specs.Tables.{laid}
 

@@ -22,7 +22,7 @@ use Rattle.algebra.specs.Congruence.{isCongruence}
 use Rattle.algebra.proofs.Accepted.{every-at, accepted-wellFormed}
 use Rattle.congruence.specs.Calls.{pairsTest, elementsTest, equalTest, congruenceTest, mapsIn, mapsTest}
 use Rattle.congruence.specs.Listing.{listing, MapsListed}
-use Rattle.congruence.proofs.LeastCongruence.{Below}
+use Rattle.theory.proofs.LeastCongruence.{Below}
 use Rattle.congruence.proofs.ListTests.{of-every-listing}
 use Rattle.equivalence.specs.declared.Refusal.{Refusal}
 use Rattle.equivalence.specs.declared.Refusal.the-variants.{Range, NotMap, Space, Equal, NotCongruence}

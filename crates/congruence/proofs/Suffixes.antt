@@ -14,7 +14,7 @@ use Rattle.equivalence.specs.Refusal.{written}
 use Rattle.equivalence.proofs.Maps.{IsMap, whole-map}
 use Rattle.equivalence.proofs.Meets.{meet-map, meetAll-map}
 use Rattle.algebra.specs.Algebra.{place}
-use Rattle.congruence.specs.Decompose.{listed}
+use Rattle.theory.specs.Decompose.{listed}
 use Rattle.congruence.specs.Listing.{listing, MapsListed, SuffixMeets}
 use Rattle.congruence.proofs.Listings.{Begins, begins-is, begins-written, begins-canonical, begins-meet, meet-comm, listing-length, listing-from, listed-map, listed-room, listed-begins, laid-stretch, laid-later}
 use Rattle.division.specs.Tables.{laid}

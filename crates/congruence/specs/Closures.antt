@@ -6,7 +6,7 @@ use mathlib.Core.List.{List}
 use Rattle.equivalence.specs.Equivalence.{Map, byte}
 use Rattle.equivalence.specs.Kernel.{Canonical, Within}
 use Rattle.algebra.specs.Algebra.{Algebra}
-use Rattle.congruence.specs.Extremal.{extended}
+use Rattle.theory.specs.Extremal.{extended}
 
 -- x and y are joined by the closure of m with any pair that m holds apart
 abbrev pub HeldByClosures : Algebra → Map → ℕ → ℕ → Type 0

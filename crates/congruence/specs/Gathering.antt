@@ -9,7 +9,7 @@ use Rattle.equivalence.specs.Equivalence.{whole, isIdentity, meet}
 use Rattle.equivalence.specs.Lists.{concat}
 use Rattle.equivalence.specs.Refusal.{written}
 use Rattle.algebra.specs.Algebra.{Algebra}
-use Rattle.congruence.specs.Decompose.{added, gathered, reducible, commonPair}
+use Rattle.theory.specs.Decompose.{added, gathered, reducible, commonPair}
 use Rattle.congruence.specs.declared.gather.Collected.{Collected}
 use Rattle.congruence.specs.declared.gather.Collected.the-variants.{All, Joined}
 

@@ -11,7 +11,7 @@ ghost use Rattle.equivalence.specs.Order.{pairs};
 ghost use Rattle.algebra.specs.Algebra.{algebraOf};
 ghost use Rattle.algebra.specs.Accepted.{Accepted};
 ghost use Rattle.algebra.specs.Congruence.{Congruence, isCongruence};
-ghost use Rattle.congruence.specs.Certify.{isMaximalFor, certified};
+ghost use Rattle.theory.specs.Certify.{isMaximalFor, certified};
 ghost use Rattle.congruence.specs.Closures.{Shrunk};
 ghost use Rattle.congruence.specs.Listing.{listing, MapsListed, SuffixMeets};
 use crate::extremal::extended_into;

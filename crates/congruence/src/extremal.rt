@@ -8,7 +8,7 @@ ghost use Rattle.equivalence.specs.Kernel.{Canonical};
 ghost use Rattle.equivalence.specs.Refusal.{written};
 ghost use Rattle.algebra.specs.Algebra.{algebraOf};
 ghost use Rattle.algebra.specs.Accepted.{Accepted};
-ghost use Rattle.congruence.specs.Extremal.{generated, extended, contained, separated};
+ghost use Rattle.theory.specs.Extremal.{generated, extended, contained, separated};
 
 // The least congruence that holds the pairs of a flat list goes to out. How many merges made it.
 pub fn generated_into(n: usize, arities: &[u8], cells: &[u8], pairs: &[u8], out: &mut [u8]) -> u8

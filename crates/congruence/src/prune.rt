@@ -8,7 +8,7 @@ ghost use Rattle.equivalence.specs.Equivalence.{byte};
 ghost use Rattle.equivalence.specs.Kernel.{Canonical};
 ghost use Rattle.equivalence.specs.Lists.{concat};
 ghost use Rattle.equivalence.specs.Refusal.{written};
-ghost use Rattle.congruence.specs.Decompose.{pruned};
+ghost use Rattle.theory.specs.Decompose.{pruned};
 ghost use Rattle.congruence.specs.Listing.{listing, MapsListed, SuffixMeets, inTurn};
 use crate::meets::meet_with;
 use crate::meets::meets_in_identity;

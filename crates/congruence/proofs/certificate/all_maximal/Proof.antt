@@ -6,7 +6,7 @@ use lib.ListN.{length}
 use Rattle.equivalence.specs.Lists.{any}
 use Rattle.equivalence.specs.Order.{pairs}
 use Rattle.algebra.specs.Algebra.{algebraOf}
-use Rattle.congruence.specs.Certify.{isMaximalFor}
+use Rattle.theory.specs.Certify.{isMaximalFor}
 use Rattle.congruence.proofs.ListTests.{Tested, tested-none, tested-all, tested-fits, tested-fails, tested-more, turn-congruence}
 use borrow.Author.Needs.{needs}
 use Rattle.congruence.proofs.certificate.all_maximal.Statement.{statement}

@@ -14,7 +14,7 @@ use Rattle.algebra.specs.Algebra.{Algebra}
 use Rattle.algebra.specs.Congruence.{congruences}
 use Rattle.algebra.proofs.Accepted.{WellFormed}
 use Rattle.algebra.proofs.Congruences.{IsCongruence, member-congruences, of-congruences, identity-congruence, join-congruence}
-use Rattle.congruence.specs.Extremal.{contained}
+use Rattle.theory.specs.Extremal.{contained}
 
 pub record GreatestInside (a : Algebra) (e m : Map) : Type 0 where
   pub cong : IsCongruence a m

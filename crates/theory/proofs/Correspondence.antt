@@ -14,7 +14,7 @@ use Rattle.algebra.specs.Congruence.{respects}
 use Rattle.algebra.proofs.Accepted.{WellFormed}
 use Rattle.algebra.proofs.Arguments.{Args, args-set, args-map}
 use Rattle.algebra.proofs.Congruences.{Respects, IsCongruence, value-below}
-use Rattle.congruence.proofs.Quotients.{onBlocks, operations-quotient, block-value, pulled, pulled-holds, of-pulled, pulled-inside, pulled-congruence}
+use Rattle.theory.proofs.Quotients.{onBlocks, operations-quotient, block-value, pulled, pulled-holds, of-pulled, pulled-inside, pulled-congruence}
 use Rattle.division.specs.Quotient.{quotientCells, quotient}
 
 module _ (a : Algebra) (c : WellFormed a) (m : Map) (p : IsCongruence a m) where

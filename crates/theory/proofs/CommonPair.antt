@@ -20,12 +20,12 @@ use Rattle.algebra.specs.Algebra.{Algebra}
 use Rattle.algebra.specs.Congruence.{congruences}
 use Rattle.algebra.proofs.Accepted.{WellFormed}
 use Rattle.algebra.proofs.Congruences.{IsCongruence, congruence-is, congruence-of, member-congruences, of-congruences}
-use Rattle.congruence.specs.Decompose.{gathered, listed, reducible, commonPair}
-use Rattle.congruence.specs.Demands.{Splitting}
-use Rattle.congruence.specs.Extremal.{holdsAll, generated}
-use Rattle.congruence.proofs.Factors.{gathered-law, pruned-law, listed-law}
-use Rattle.congruence.proofs.LeastCongruence.{generated-law}
-use Rattle.congruence.proofs.Separation.{MaximalFor}
+use Rattle.theory.specs.Decompose.{gathered, listed, reducible, commonPair}
+use Rattle.theory.specs.Splitting.{Splitting}
+use Rattle.theory.specs.Extremal.{holdsAll, generated}
+use Rattle.theory.proofs.Factors.{gathered-law, pruned-law, listed-law}
+use Rattle.theory.proofs.LeastCongruence.{generated-law}
+use Rattle.theory.proofs.Separation.{MaximalFor}
 
 -- every congruence but the identity holds x and y
 abbrev pub Common : Algebra → ℕ → ℕ → Type 0

@@ -21,13 +21,9 @@ use Rattle.equivalence.proofs.Tests.{T?, both, pick-yes, pick-no}
 use Rattle.algebra.specs.Algebra.{Algebra}
 use Rattle.algebra.proofs.Accepted.{WellFormed}
 use Rattle.algebra.proofs.Congruences.{congruence-is, congruence-of}
-use Rattle.congruence.specs.Calls.{element, decomposed}
-use Rattle.congruence.specs.Decompose.{added, gathered, pruned, listed, reducible, commonPair}
-use Rattle.congruence.specs.Demands.{Splitting}
-use Rattle.congruence.proofs.Separation.{MaximalFor, separated-law}
-use Rattle.equivalence.specs.declared.Element.{Element}
-use Rattle.congruence.specs.declared.Decomposed.{Decomposed}
-use Rattle.congruence.specs.declared.Decomposed.the-variants.{Factors, Irreducible}
+use Rattle.theory.specs.Decompose.{added, gathered, pruned, listed, reducible}
+use Rattle.theory.specs.Splitting.{Splitting}
+use Rattle.theory.proofs.Separation.{MaximalFor, separated-law}
 
 -- ms refines the meet d so far to the identity
 pub record Gathered (a : Algebra) (d : Map) (ms : List Map) : Type 0 where
@@ -190,21 +186,6 @@ module _ (a : Algebra) (c : WellFormed a) where
           let e = s .each (r .0) (r .1) in
           subst (λ (z : Map). Holds z (p .0) (p .1)) (r .2)
           (p .4 .joined (getD ms (r .0) []) (congruence-is a (getD ms (r .0) []) (e .0)) (λ x y l k g. ap (byte (getD ms (r .0) [])) (fine x y l k g)) (λ g. e .1 (g ∙ is))))))
-
-  pub decomposed-yes : T (reducible a) → decomposed a ≡ Factors (length (listed a))
-  unfolding decomposed
-  decomposed-yes t = pick-yes (reducible a) (Factors (length (listed a))) (Irreducible (element (commonPair a .0)) (element (commonPair a .1))) t
-
-  pub decomposed-no : ¬ T (reducible a) → decomposed a ≡ Irreducible (element (commonPair a .0)) (element (commonPair a .1))
-  unfolding decomposed
-  decomposed-no t = pick-no (reducible a) (Factors (length (listed a))) (Irreducible (element (commonPair a .0)) (element (commonPair a .1))) t
-
-  -- refusal 11 comes just where nothing splits the algebra
-  pub irreducible-of : ((ms : List Map) → ¬ Splitting a ms) → decomposed a ≡ Irreducible (element (commonPair a .0)) (element (commonPair a .1))
-  irreducible-of h = decomposed-no (λ t. h (listed a) (split t))
-
-  pub of-irreducible : (x y : Element) → decomposed a ≡ Irreducible x y → (ms : List Map) → ¬ Splitting a ms
-  of-irreducible x y e = unsplit (λ t. let d = decomposed-yes t in let z : _≡_ {A = ℕ} 0 1 = cc in omega arith)
 
 pub gathered-end : (k : ℕ) (a : Algebra) (d : Map) → Discrete (a .size) d → gathered k a d ≡ []
 unfolding gathered

@@ -7,7 +7,7 @@ use Rattle.equivalence.specs.Equivalence.{Map, meet, meetAll, whole, isIdentity
 use Rattle.equivalence.specs.Order.{Pair, firstHeld}
 use Rattle.algebra.specs.Algebra.{Algebra}
 use Rattle.algebra.specs.Congruence.{congruences}
-use Rattle.congruence.specs.Extremal.{separated}
+use Rattle.theory.specs.Extremal.{separated}
 
 -- Separate's congruence for the first pair still joined by d
 unfoldable pub added : Algebra → Map → Map

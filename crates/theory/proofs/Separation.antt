@@ -1,29 +1,25 @@
 -- Separate: the earliest congruence that holds two elements apart is one, only one map is it, and every strictly larger congruence joins them.
--- The search of the crate `separation` gives it.
 use Prim.Native.Nat.{ℕ, _<_}
 use mathlib.Core.Bool.{not}
-use mathlib.Core.List.{List, [], _∷_, _++_, List·Memᴰ as Member, List·Memᴰ·head as here, List·Memᴰ·cases-cons as cases-cons, Memᴰ·append-right as append-right, List·Memᴰ·append-cases as append-cases}
+use mathlib.Core.List.{List·Memᴰ as Member}
 use mathlib.Core.Logic.{inl, inr, _≢_}
-use mathlib.Core.Path.{_≡_, refl, sym, subst}
+use mathlib.Core.Path.{_≡_}
 use native.Mathlib.Omega.{arith}
 use lib.Dec.{T, T-not, not-T}
-use Rattle.equivalence.specs.Equivalence.{Map, byte, holds, identity}
+use Rattle.equivalence.specs.Equivalence.{Map, holds, identity}
 use Rattle.equivalence.specs.Lists.{keep}
-use Rattle.equivalence.specs.Order.{Pair, pairs, notLater}
+use Rattle.equivalence.specs.Order.{Pair, notLater}
 use Rattle.equivalence.proofs.Best.{Best, best-is, best-of}
-use Rattle.equivalence.proofs.Earlier.{notLater-total, notLater-trans, notLater-anti, larger-notLater, notLater-by}
+use Rattle.equivalence.proofs.Earlier.{notLater-total, notLater-trans, notLater-anti, larger-notLater}
 use Rattle.equivalence.proofs.Lists.{keep-member, of-keep}
-use Rattle.equivalence.proofs.Maps.{Holds, holds-of, of-holds, IsMap, Inside, identity-discrete}
-use Rattle.equivalence.proofs.Pairs.{member-pairs, of-pairs, Sorted, Lex, sorted-pairs}
+use Rattle.equivalence.proofs.Maps.{Holds, holds-of, of-holds, Inside, identity-discrete}
+use Rattle.equivalence.proofs.Pairs.{Lex}
 use Rattle.equivalence.proofs.Tests.{T?}
 use Rattle.algebra.specs.Algebra.{Algebra}
 use Rattle.algebra.specs.Congruence.{congruences}
 use Rattle.algebra.proofs.Accepted.{WellFormed}
 use Rattle.algebra.proofs.Congruences.{IsCongruence, member-congruences, of-congruences, identity-congruence}
-use Rattle.algebra.proofs.Translations.{congruence-compatible, compatible-congruence}
-use Rattle.congruence.specs.Extremal.{separated}
-use Rattle.division.specs.Tables.{joined}
-use Rattle.separation.specs.Search.{Before, Earliest}
+use Rattle.theory.specs.Extremal.{separated}
 
 -- m holds x and y apart, and each strictly larger congruence joins them
 pub record MaximalFor (a : Algebra) (m : Map) (x y : ℕ) : Type 0 where
@@ -89,37 +85,3 @@ lex-asym p q b c = elim b [
   | inl o ↦ elim c [ inl i ↦ omega arith | inr i ↦ omega (arith, i .0) ]
   | inr o ↦ elim c [ inl i ↦ omega (arith, o .0) | inr i ↦ omega (arith, o .1, i .1) ]
 ]
-
--- a pair before p stands among those listed before p
-before-done : (n : ℕ) (done rest : List Pair) (p q : Pair) → pairs n ≡ done ++ (p ∷ rest) → Member q (pairs n) → Lex q p → Member q done
-before-done n done rest p q e m b =
-    elim (append-cases done (subst (λ (l : List Pair). Member q l) e m)) [
-      | inl i ↦ i
-      | inr i ↦ elim (cases-cons i) [
-        | inl z ↦ absurd (never p (subst (λ (r : Pair). Lex r p) z b))
-        | inr o ↦ absurd (lex-asym p q (after done (subst (λ (l : List Pair). Sorted Lex l) e (sorted-pairs n)) o) b)
-      ]
-    ]
-  where
-    never : (p : Pair) → Lex p p → ⊥
-    never p b = elim b [ inl o ↦ omega arith | inr o ↦ omega (arith, o .1) ]
-
-    after : (done : List Pair) → Sorted Lex (done ++ (p ∷ rest)) → Member q rest → Lex p q
-    after [] s o = s .0 q o
-    after (d ∷ done) s o = after done (s .1) o
-
--- the search's result is what the definition gives
-pub earliest-separated : (a : Algebra) → WellFormed a → (v w : ℕ) (m : Map) → IsMap (a .size) m → Earliest a v w (byte m) → separated a v w ≡ m
-earliest-separated a c v w m p e =
-    separated-is a v w m (record {
-      cong = compatible-congruence a m p (e .compatible);
-      apart = e .apart;
-      earliest = λ d q n. notLater-by m d (a .size) (λ done r rest s agree h.
-          let i = of-pairs (a .size) r (subst (λ (l : List Pair). Member r l) (sym s) (append-right done (here refl))) in
-          let among : (x y : ℕ) → x < y → y < a .size → Before x y (r .0) (r .1) → Member (x, y) done =
-          λ x y l k b. before-done (a .size) done rest r (x, y) s (member-pairs (a .size) x y l k) b in
-          e .first (byte d) (congruence-compatible a d q) n (r .0) (r .1) (i .0) (i .1)
-          (λ x y l k b z. agree (x, y) (among x y l k b) .0 z)
-          (λ x y l k b z. agree (x, y) (among x y l k b) .1 z)
-          h);
-    })

@@ -20,12 +20,11 @@ use Rattle.algebra.specs.Algebra.{Algebra}
 use Rattle.algebra.specs.Congruence.{respects, isCongruence, congruences}
 use Rattle.algebra.proofs.Accepted.{WellFormed}
 use Rattle.algebra.proofs.Congruences.{IsCongruence, congruence-is, congruence-of, member-congruences, of-congruences}
-use Rattle.congruence.specs.Certify.{isMaximalFor, certified}
-use Rattle.congruence.specs.Decompose.{listed}
-use Rattle.congruence.proofs.Extension.{LeastAbove}
-use Rattle.congruence.proofs.Factors.{listed-law, two-at-least}
-use Rattle.congruence.proofs.Separation.{MaximalFor}
-use Rattle.division.specs.Tables.{joined}
+use Rattle.theory.specs.Certify.{isMaximalFor, certified}
+use Rattle.theory.specs.Decompose.{listed}
+use Rattle.theory.proofs.Extension.{LeastAbove}
+use Rattle.theory.proofs.Factors.{listed-law, two-at-least}
+use Rattle.theory.proofs.Separation.{MaximalFor}
 
 module _ (a : Algebra) (m : Map) where
   pub of-isMaximalFor : IsCongruence a m → (p : Pair) → T (isMaximalFor a m p) → MaximalFor a m p.0 p.1

@@ -17,7 +17,7 @@ use Rattle.algebra.specs.Algebra.{Algebra}
 use Rattle.algebra.specs.Congruence.{congruences}
 use Rattle.algebra.proofs.Accepted.{WellFormed}
 use Rattle.algebra.proofs.Congruences.{IsCongruence, member-congruences, of-congruences, meetAll-congruence}
-use Rattle.congruence.specs.Extremal.{holdsAll, generated}
+use Rattle.theory.specs.Extremal.{holdsAll, generated}
 
 -- the numbers of a flat list of pairs are elements
 abbrev pub Below : ℕ → List ℕ → Type 0

@@ -15,7 +15,7 @@ use Rattle.algebra.specs.Algebra.{Algebra}
 use Rattle.algebra.specs.Congruence.{congruences}
 use Rattle.algebra.proofs.Accepted.{WellFormed}
 use Rattle.algebra.proofs.Congruences.{IsCongruence, member-congruences, of-congruences, meetAll-congruence}
-use Rattle.congruence.specs.Extremal.{extended}
+use Rattle.theory.specs.Extremal.{extended}
 
 -- s is the least congruence that holds p and what t holds
 pub record LeastAbove (a : Algebra) (t : Map) (p : Pair) (s : Map) : Type 0 where

@@ -17,15 +17,9 @@ use Rattle.algebra.specs.Congruence.{respects}
 use Rattle.algebra.proofs.Accepted.{WellFormed}
 use Rattle.algebra.proofs.Arguments.{Args, args-set, arguments-long, place-law, args-map}
 use Rattle.algebra.proofs.Congruences.{IsCongruence, congruence-is, value-below, respects-all}
-use Rattle.congruence.specs.Calls.{element, decomposed}
-use Rattle.congruence.specs.Decompose.{commonPair}
-use Rattle.congruence.specs.Demands.{Splitting}
-use Rattle.congruence.proofs.Factors.{irreducible-of}
-use Rattle.congruence.proofs.Separation.{MaximalFor}
+use Rattle.theory.specs.Splitting.{Splitting}
+use Rattle.theory.proofs.Separation.{MaximalFor}
 use Rattle.division.specs.Quotient.{quotientTable, quotientCells, quotient}
-use Rattle.equivalence.specs.declared.Element.{Element}
-use Rattle.congruence.specs.declared.Decomposed.{Decomposed}
-use Rattle.congruence.specs.declared.Decomposed.the-variants.{Factors, Irreducible}
 
 unfoldable pub onBlocks : ℕ → Map → Operation → Operation
 onBlocks n m f = record { arity = f .arity; table = quotientTable n m f }
@@ -183,7 +177,3 @@ module _ (a : Algebra) (c : WellFormed a) (m : Map) (p : IsCongruence a m) where
       (of-pulled (getD ms (r .0) []) q x y l k
       (h .joined (pulled (getD ms (r .0) [])) (pulled-congruence (getD ms (r .0) []) q) (pulled-inside (getD ms (r .0) []) q)
       (λ g. e .1 (pulled-is (getD ms (r .0) []) q g)))))))
-
-  pub quotient-irreducible : (x y : ℕ) → x < a .size → y < a .size → MaximalFor a m x y
-      → decomposed (quotient a m) ≡ Irreducible (element (commonPair (quotient a m) .0)) (element (commonPair (quotient a m) .1))
-  quotient-irreducible x y l k h = irreducible-of (quotient a m) quotient-wellFormed (quotient-unsplit x y l k h)
