@@ -96,7 +96,7 @@ few-factors : (a : Algebra) (lent : List ℕ) (k : ℕ) (c : Check) → c ≡ lo
 unfolding answered
 few-factors a lent k Passed e g =
     let w = accepted-wellFormed a (of-checked a (spaceTest ((a .size - 1) * a .size) (length lent) ∷ []) e .0) in
-    rw (factors-reducible a w k g .1) (listed-law a w .few)
+    rw (factors-reducible a k g .1) (listed-law a w .few)
 few-factors a lent k (Failed r) e g = let z : _≡_ {A = ℕ} 0 1 = cc in absurd (omega arith)
 
 pub factors-few : (a : Algebra) (lent map : List ℕ) (d : Decomposed) → (d, map) ≡ decomposeCall a lent → (k : ℕ) → d ≡ Factors k → k < a .size

@@ -157,7 +157,7 @@ module _ (a : Algebra) (accepted : Accepted a) where
         irreducible = (of-irreducible a well (element (commonPair a .0)) (element (commonPair a .1)), irreducible-of a well);
         pair = λ e. pair-right (of-irreducible a well (element (commonPair a .0)) (element (commonPair a .1)) e);
         otherwise = λ n. elim (T? (reducible a)) [
-          | yes t ↦ (decomposed-yes a well t, listed-right t)
+          | yes t ↦ (decomposed-yes a t, listed-right t)
           | no t ↦ absurd (n (irreducible-of a well (unsplit a well t)))
         ];
       }

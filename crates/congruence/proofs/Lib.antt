@@ -1,15 +1,5 @@
-pub mod Bridges
-pub mod Calls
+pub mod Serving
 pub mod Decomposing
 pub mod Demands
+pub mod Calls
 pub mod Examples
-pub mod Listings
-pub mod ListTests
-pub mod Pruning
-pub mod Gathering
-pub mod Suffixes
-pub mod Serving
-pub mod Factoring
-pub mod Closures
-pub mod Superfluous
-pub mod Certifying
