@@ -25,12 +25,13 @@ use Rattle.congruence.specs.declared.Decomposed.{Decomposed}
 use Rattle.congruence.specs.declared.Decomposed.the-variants.{Factors, Irreducible, Refused as DecomposeRefused}
 use Rattle.congruence.specs.declared.Generated.{Generated}
 use Rattle.congruence.specs.declared.Generated.the-variants.{Merges, Refused as GenerateRefused}
-use Rattle.bracket.specs.Reading.{ascii}
-use Rattle.bracket.specs.Lines.{generate, contained, separate, decompose}
+use Rattle.reader.specs.Reading.{ascii}
+use Rattle.reader.specs.Lines.{generate, contained, separate, decompose}
 use Rattle.bracket.specs.Answers.{spaced, spacedBrackets, line, refusedLine, mapLine, generatedLine, factorsLine, answer}
-use Rattle.bracket.specs.Promises.{Laid, lineFor, FactorsRoom, LineFits, MapFits, FactorsFit, ZeroFactors, Zeros}
-use Rattle.bracket.specs.declared.requests.Asked.{Asked}
-use Rattle.bracket.specs.declared.requests.Asked.the-variants.{Generate, Contained, Separate, Decompose, Nothing}
+use Rattle.reader.specs.Promises.{Laid}
+use Rattle.bracket.specs.Promises.{lineFor, FactorsRoom, LineFits, MapFits, FactorsFit, ZeroFactors, Zeros}
+use Rattle.reader.specs.declared.requests.Asked.{Asked}
+use Rattle.reader.specs.declared.requests.Asked.the-variants.{Generate, Contained, Separate, Decompose, Nothing}
 
 -- the first of many zeros
 take-zeros : (k m : ℕ) → k ≤ m → take {A = ℕ} k (replicate m 0) ≡ replicate k 0
