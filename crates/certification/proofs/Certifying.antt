@@ -14,7 +14,7 @@ use Rattle.equivalence.proofs.Tests.{both, left, right, T-of, not-T-of, true-is
 use Rattle.algebra.specs.Algebra.{Algebra}
 use Rattle.algebra.specs.Congruence.{isCongruence}
 use Rattle.theory.specs.Certify.{isMaximalFor, certified}
-use Rattle.listing.specs.Listing.{listing, SuffixMeets}
+use Rattle.listing.specs.Listing.{SuffixMeets}
 use Rattle.listing.proofs.Listings.{Begins, begins-sym, begins-is, begins-take, begins-canonical, begins-isIdentity}
 use borrow.Author.Tests.{not-true, not-false}
 

@@ -25,10 +25,7 @@ use Rattle.theory.proofs.Factors.{listed-long}
 use Rattle.congruence.proofs.Decomposing.{decomposed-yes, decomposed-no, factorBytes-yes}
 use Rattle.theory.proofs.Quotients.{quotientCells-length, quotient-wellFormed}
 use Rattle.division.specs.Quotient.{quotientCells, quotient}
-use Rattle.equivalence.specs.declared.Refusal.{Refusal}
-use Rattle.equivalence.specs.declared.Check.{Check}
-use Rattle.equivalence.specs.declared.Check.the-variants.{Passed, Failed}
-use Rattle.equivalence.specs.declared.Element.{Element}
+use Rattle.equivalence.specs.declared.Check.the-variants.{Passed}
 use Rattle.congruence.specs.declared.Divided.{Divided}
 use Rattle.congruence.specs.declared.Divided.the-variants.{Blocks, Refused as DivideRefused}
 use Rattle.congruence.specs.declared.Decomposed.{Decomposed}

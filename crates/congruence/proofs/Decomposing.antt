@@ -24,7 +24,6 @@ use Rattle.decomposition.specs.Factored.{Factored}
 use Rattle.decomposition.specs.declared.Found.{Found}
 use Rattle.decomposition.specs.declared.Found.the-variants.{Factors as Counted, Irreducible as Paired}
 use Rattle.congruence.specs.Calls.{element, decomposed, factorBytes}
-use Rattle.congruence.specs.declared.Decomposed.{Decomposed}
 use Rattle.congruence.specs.declared.Decomposed.the-variants.{Factors, Irreducible}
 
 module _ (a : Algebra) where

@@ -34,8 +34,6 @@ use Rattle.theory.proofs.GreatestCongruence.{contained-law}
 use Rattle.theory.proofs.LeastCongruence.{Below, generated-law}
 use Rattle.theory.proofs.Quotients.{onBlocks, block-value}
 use Rattle.theory.proofs.Separation.{MaximalFor, separated-earliest, separated-law}
-use Rattle.congruence.specs.declared.Decomposed.{Decomposed}
-use Rattle.congruence.specs.declared.Decomposed.the-variants.{Factors, Irreducible}
 
 -- ---- demand 2
 

@@ -1,5 +1,4 @@
 -- Document 01's examples as the calls answer them, computed from the definitions; `theory` has them for the definitions below the calls.
-use mathlib.Core.Bool.{true, false}
 use mathlib.Core.List.{[], _∷_}
 use mathlib.Core.Path.{_≡_, refl}
 use Rattle.equivalence.specs.Equivalence.{isMap, holds, inside, roots, blocks, blockOf, mapOf, identity, whole, same, isIdentity, meet, meetAll, maps, best}
@@ -15,11 +14,8 @@ use Rattle.theory.specs.Extremal.{holdsAll, generated, separated}
 use Rattle.theory.proofs.Examples.{u, c, bare, minimum}
 use Rattle.congruence.specs.Calls.{element, pairsTest, congruenceTest, generateCall, quotientCall, decomposed}
 use Rattle.equivalence.specs.declared.Refusal.the-variants.{Range, Space, NotCongruence}
-use Rattle.congruence.specs.declared.Generated.{Generated}
 use Rattle.congruence.specs.declared.Generated.the-variants.{Merges, Refused as GenerateRefused}
-use Rattle.congruence.specs.declared.Divided.{Divided}
 use Rattle.congruence.specs.declared.Divided.the-variants.{Blocks, Refused as DivideRefused}
-use Rattle.congruence.specs.declared.Decomposed.{Decomposed}
 use Rattle.congruence.specs.declared.Decomposed.the-variants.{Factors, Irreducible}
 
 pub record Examples : Type 0 where

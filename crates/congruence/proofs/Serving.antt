@@ -29,7 +29,6 @@ use Rattle.equivalence.specs.declared.Refusal.{Refusal}
 use Rattle.equivalence.specs.declared.Refusal.the-variants.{Range, NotMap, Space, Equal, NotCongruence}
 use Rattle.equivalence.specs.declared.Check.{Check}
 use Rattle.equivalence.specs.declared.Check.the-variants.{Passed, Failed}
-use Rattle.congruence.specs.declared.Certified.{Certified}
 use Rattle.congruence.specs.declared.Certified.the-variants.{Yes, No, Refused as CertifyRefused}
 
 -- ---- the algebra's tests, and those behind them

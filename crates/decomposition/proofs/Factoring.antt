@@ -6,7 +6,7 @@ use native.Mathlib.Nat.{mul-le-mul-right}
 use native.Mathlib.Omega.{arith}
 use lib.Dec.{T}
 use lib.ListN.{length, getD, drop}
-use Rattle.equivalence.specs.Equivalence.{Map, blocks, whole, same}
+use Rattle.equivalence.specs.Equivalence.{Map, blocks, whole}
 use Rattle.equivalence.specs.Lists.{concat, stretch}
 use Rattle.equivalence.specs.Refusal.{written}
 use Rattle.equivalence.proofs.BlockNumbers.{blocks-some}
@@ -20,7 +20,6 @@ use Rattle.listing.specs.Listing.{listing, MapsListed}
 use Rattle.theory.proofs.CommonPair.{commonPair-one}
 use Rattle.theory.proofs.Factors.{Gathered, gathered-law, listed-law, split}
 use Rattle.listing.proofs.Listings.{listing-at, listing-concat, concat-length}
-use Rattle.division.specs.Tables.{laid}
 use Rattle.decomposition.specs.Factored.{Factored}
 use Rattle.decomposition.specs.declared.Found.the-variants.{Factors, Irreducible}
 

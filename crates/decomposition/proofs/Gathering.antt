@@ -21,7 +21,7 @@ use Rattle.equivalence.proofs.Meets.{meet-map, meet-holds, of-meet, AllHold}
 use Rattle.equivalence.proofs.Pairs.{of-pairs, firstHeld-law, firstHeld-first}
 use Rattle.equivalence.proofs.Tests.{T-of, not-T-of}
 use Rattle.equivalence.proofs.Writing.{written-length}
-use Rattle.algebra.specs.Algebra.{Algebra, place}
+use Rattle.algebra.specs.Algebra.{Algebra}
 use Rattle.algebra.proofs.Accepted.{WellFormed}
 use Rattle.algebra.proofs.Congruences.{IsCongruence}
 use Rattle.theory.specs.Decompose.{added, gathered, listed, reducible, commonPair}

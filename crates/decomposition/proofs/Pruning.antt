@@ -10,7 +10,7 @@ use native.Mathlib.Omega.{arith}
 use lib.Dec.{T}
 use lib.ListN.{length, getD, take, drop, length-append, drop-of-length-le, length-drop}
 use lib.Seq.{ext-getD, length-take-le, drop-cons}
-use Rattle.equivalence.specs.Equivalence.{Map, byte, whole, isIdentity, meet, meetAll, maps}
+use Rattle.equivalence.specs.Equivalence.{Map, byte, whole, isIdentity, meet, meetAll}
 use Rattle.equivalence.specs.Kernel.{Canonical}
 use Rattle.equivalence.specs.Lists.{concat, stretch}
 use Rattle.equivalence.specs.Refusal.{written}
@@ -18,8 +18,7 @@ use Rattle.equivalence.proofs.Maps.{whole-map}
 use Rattle.equivalence.proofs.Meets.{meet-map, meetAll-map}
 use Rattle.equivalence.proofs.Tests.{T?, left, pick-yes, pick-no}
 use Rattle.equivalence.proofs.Writing.{written-length}
-use Rattle.algebra.specs.Algebra.{place}
-use Rattle.theory.specs.Decompose.{pruned, listed}
+use Rattle.theory.specs.Decompose.{pruned}
 use Rattle.listing.specs.Listing.{listing, MapsListed, SuffixMeets}
 use Rattle.decomposition.specs.Turns.{inTurn}
 use Rattle.theory.proofs.Certificates.{isIdentity-meets, of-isIdentity-meets}

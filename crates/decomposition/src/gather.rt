@@ -1,7 +1,7 @@
 // Decompose's first loop: congruences that meet in the identity, one after the other in working storage.
 ghost use mathlib.Core.Path.{_≡_};
 ghost use mathlib.Core.Bool.{false};
-ghost use Prim.Native.Nat.{ℕ, _+_, _-_, _*_, _<_, _≤_};
+ghost use Prim.Native.Nat.{_-_, _*_, _≤_};
 ghost use lib.ListN.{length};
 ghost use Rattle.equivalence.specs.Equivalence.{byte, isIdentity};
 ghost use Rattle.equivalence.specs.Kernel.{Canonical};

@@ -1,7 +1,7 @@
 // Decompose of an accepted algebra: congruences are gathered, and those not needed are dropped. Working storage: 63 maps, the meets of 64
 // suffixes, and one meet.
 ghost use mathlib.Core.Path.{_≡_};
-ghost use Prim.Native.Nat.{ℕ, _+_, _-_, _*_, _<_, _≤_};
+ghost use Prim.Native.Nat.{_-_, _*_, _≤_};
 ghost use lib.ListN.{length};
 ghost use Rattle.algebra.specs.Algebra.{algebraOf};
 ghost use Rattle.algebra.specs.Accepted.{Accepted};

@@ -1,7 +1,7 @@
 // Meets of the maps of a list. A list of maps is a slice, map i in the n bytes from i × n on; a map alone is the first n bytes of a slice.
 ghost use mathlib.Core.Path.{_≡_};
-ghost use Prim.Native.Nat.{ℕ, _+_, _*_, _≤_, _<_};
-ghost use lib.ListN.{length, take, drop};
+ghost use Prim.Native.Nat.{_+_, _*_, _≤_};
+ghost use lib.ListN.{length, drop};
 ghost use Rattle.equivalence.specs.Equivalence.{byte, isIdentity, whole, meet};
 ghost use Rattle.equivalence.specs.Kernel.{Canonical};
 ghost use Rattle.equivalence.specs.Refusal.{written};

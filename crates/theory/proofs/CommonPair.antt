@@ -1,6 +1,6 @@
 -- The pair that refusal 11 carries: the first that every congruence but the identity holds.
-use Prim.Native.Nat.{ℕ, zero, suc, _≤_, _<_}
-use mathlib.Core.Bool.{Bool, true, not}
+use Prim.Native.Nat.{ℕ, _≤_, _<_}
+use mathlib.Core.Bool.{Bool, not}
 use mathlib.Core.List.{List, [], _∷_, List·Memᴰ as Member, List·Memᴰ·head as here, List·Memᴰ·not-nil as not-nil}
 use mathlib.Core.Logic.{_⊎_, _≢_}
 use mathlib.Core.Path.{_≡_, refl, sym, ap, subst, _∙_}
@@ -12,19 +12,16 @@ use Rattle.equivalence.specs.Lists.{every, keep, first}
 use Rattle.equivalence.specs.Order.{Pair, pairs, firstHeld}
 use Rattle.equivalence.proofs.BlockNumbers.{blocks-some}
 use Rattle.equivalence.proofs.Lists.{of-every, keep-member, of-keep, member-at, member-index}
-use Rattle.equivalence.proofs.Maps.{Holds, holds-of, of-holds, map-ext, Discrete, identity-discrete, discrete-identity, whole-map, whole-holds, isIdentity-of, of-isIdentity}
-use Rattle.equivalence.proofs.Meets.{meetAll-map, meetAll-holds, of-meetAll, Meets, meets-of, of-meets}
+use Rattle.equivalence.proofs.Maps.{Holds, Discrete, identity-discrete, discrete-identity, whole-map, whole-holds, isIdentity-of, of-isIdentity}
+use Rattle.equivalence.proofs.Meets.{meetAll-holds, of-meetAll, Meets, meets-of, of-meets}
 use Rattle.equivalence.proofs.Pairs.{of-pairs, Lex, firstHeld-law, firstHeld-first, pairs-one}
-use Rattle.equivalence.proofs.Tests.{both, left}
 use Rattle.algebra.specs.Algebra.{Algebra}
 use Rattle.algebra.specs.Congruence.{congruences}
 use Rattle.algebra.proofs.Accepted.{WellFormed}
 use Rattle.algebra.proofs.Congruences.{IsCongruence, congruence-is, congruence-of, member-congruences, of-congruences}
 use Rattle.theory.specs.Decompose.{gathered, listed, reducible, commonPair}
 use Rattle.theory.specs.Splitting.{Splitting}
-use Rattle.theory.specs.Extremal.{holdsAll, generated}
 use Rattle.theory.proofs.Factors.{gathered-law, pruned-law, listed-law}
-use Rattle.theory.proofs.LeastCongruence.{generated-law}
 use Rattle.theory.proofs.Separation.{MaximalFor}
 
 -- every congruence but the identity holds x and y
