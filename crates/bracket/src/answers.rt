@@ -1,5 +1,4 @@
 // The answers to requests: what a service answers, written as a line.
-use reader::requests::Asked;
 use crate::writing::write_factors;
 use crate::writing::write_generated;
 use crate::writing::write_irreducible;
@@ -8,6 +7,7 @@ use crate::writing::write_refused;
 use congruence::Decomposed;
 use congruence::Generated;
 use equivalence::Written;
+use reader::requests::Asked;
 ghost use Rattle.algebra.specs.Algebra.{algebraOf};
 ghost use Rattle.reader.specs.Lines.{generate, contained, separate, decompose};
 ghost use Rattle.bracket.specs.Answers.{generatedLine, mapLine, factorsLine, answer};
