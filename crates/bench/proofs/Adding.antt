@@ -18,9 +18,9 @@ use Rattle.algebra.specs.Accepted.{Accepted}
 use Rattle.algebra.specs.Algebra.{Algebra}
 use Rattle.algebra.proofs.Accepted.{accepted-wellFormed}
 use Rattle.algebra.proofs.Congruences.{congruence-is, congruence-of}
-use Rattle.congruence.specs.Extremal.{extended}
-use Rattle.congruence.proofs.Bridges.{front-byte}
-use Rattle.congruence.proofs.Extension.{LeastAbove, extended-law}
+use Rattle.theory.specs.Extremal.{extended}
+use Rattle.extremal.proofs.Bridges.{front-byte}
+use Rattle.theory.proofs.Extension.{LeastAbove, extended-law}
 use Rattle.bench.specs.Calls.{tallyTest, benched, addTests, clearTests, mapByAdd, lostByAdd, addCall, clearCall}
 use Rattle.bench.specs.Growth.{MapGrown, SheetGrown}
 use Rattle.bench.specs.Promises.{LeastExtension}

@@ -10,7 +10,7 @@ use Rattle.algebra.specs.Accepted.{algebraTests}
 use Rattle.algebra.specs.Algebra.{Algebra, algebraOf, cellCount, operationsOf, operations, arguments, place, value}
 use Rattle.algebra.specs.Congruence.{respects, isCongruence, congruences}
 use Rattle.congruence.specs.Calls.{elementsTest}
-use Rattle.congruence.specs.Extremal.{extended}
+use Rattle.theory.specs.Extremal.{extended}
 use Rattle.bench.specs.Calls.{sheetTest, benchTest, tallyTest, benched, startCall, mapByAdd, lostByAdd, placeTests, addTests, addCall, clearTests, clearCall}
 use Rattle.bench.specs.State.{mapOn, redrawn, zeroSheet, zeroBench, freshBench, sheetOf, withSheet, withMap, raisedBy, blocksLost}
 use Rattle.bench.specs.declared.Answer.the-variants.{Done, Refused}

@@ -15,7 +15,7 @@ use Rattle.equivalence.proofs.Tests.{right, pick-yes, pick-no}
 use Rattle.equivalence.specs.declared.Check.the-variants.{Passed}
 use Rattle.equivalence.specs.declared.Refusal.{Refusal}
 use Rattle.algebra.specs.Algebra.{Algebra}
-use Rattle.congruence.specs.Extremal.{extended}
+use Rattle.theory.specs.Extremal.{extended}
 use Rattle.bench.specs.Calls.{mapByAdd, lostByAdd, startCall}
 use Rattle.bench.specs.Lessons.{Call, Start, Add, Clear, called, Made, Lesson, isDone, next, played, StartsAccepted, sizeAfter, additions, drawn, mapAfter, lostAfter, IsLeast, EachLeast, AsTold, LessonTheorem}
 use Rattle.bench.specs.State.{mapOn, redrawn, zeroSheet, noSheet, freshBench, sheetOf, withSheet, withMap, raisedBy, blocksLost}

@@ -10,7 +10,7 @@ use Rattle.equivalence.specs.declared.Refusal.the-variants.{Range, NotMap, Tall
 use Rattle.algebra.specs.Accepted.{algebraTests}
 use Rattle.algebra.specs.Algebra.{Algebra}
 use Rattle.congruence.specs.Calls.{elementsTest}
-use Rattle.congruence.specs.Extremal.{extended}
+use Rattle.theory.specs.Extremal.{extended}
 use Rattle.bench.specs.State.{mapOn, zeroBench, freshBench, sheetOf, withMap, raisedBy, blocksLost}
 use Rattle.bench.specs.declared.Answer.the-variants.{Done, Refused}
 use Rattle.bench.specs.declared.Bench.{Bench}

@@ -5,7 +5,7 @@ use mathlib.Core.Path.{_≡_}
 use lib.ListN.{take}
 use Rattle.equivalence.specs.Refusal.{written}
 use Rattle.algebra.specs.Algebra.{Algebra}
-use Rattle.congruence.specs.Extremal.{extended}
+use Rattle.theory.specs.Extremal.{extended}
 use Rattle.bench.specs.State.{mapOn, redrawn, blocksLost}
 use Rattle.bench.specs.declared.Sheet.{Sheet}
 

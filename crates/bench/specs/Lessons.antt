@@ -9,7 +9,7 @@ use Rattle.equivalence.specs.Equivalence.{Map, identity}
 use Rattle.equivalence.specs.Refusal.{lowest, sizeTest}
 use Rattle.equivalence.specs.declared.Check.the-variants.{Passed}
 use Rattle.algebra.specs.Algebra.{Algebra}
-use Rattle.congruence.specs.Extremal.{extended}
+use Rattle.theory.specs.Extremal.{extended}
 use Rattle.bench.specs.Calls.{startCall, addCall, clearCall}
 use Rattle.bench.specs.Promises.{LeastExtension}
 use Rattle.bench.specs.State.{mapOn, sheetOf, blocksLost}

@@ -130,7 +130,7 @@ fn extend_map(
     requires { ⌜ y < n ⌝ }
     ensures { λ r. ⌜ MapGrown (algebraOf n (now (arities .entry)) (now (cells .entry))) x y (now (map .entry)) (now (map .exit)) r ⌝ }
 {
-    congruence::extremal::extended_into(map, n, arities, cells, x, y)
+    extremal::extended_into(map, n, arities, cells, x, y)
 }
 
 // The sheet with the least congruence of the algebra that holds its map and the pair.

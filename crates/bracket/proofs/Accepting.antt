@@ -18,10 +18,10 @@ use Rattle.equivalence.proofs.Tests.{T?, or-left, or-right, eq→eqb, pick}
 use Rattle.algebra.specs.Accepted.{Accepted}
 use Rattle.algebra.specs.Algebra.{Algebra, algebraOf, cellCount}
 use Rattle.algebra.proofs.Accepted.{WellFormed, every-at, accepted-wellFormed, wellFormed-accepted}
-use Rattle.bracket.specs.Reading.{ascii, Read, found, fault, Reader, onward, _>>=_, _>>_, done, mark, begins}
-use Rattle.bracket.specs.Numbers.{number}
-use Rattle.bracket.specs.Tables.{cell, parted, bracket, table}
-use Rattle.bracket.specs.Lines.{Progress, defined, refused, close, sizeLine, tested, afterSize, sized, arity, lastTable, operationTests, cellTest, withOperation, afterTable, afterArity, operation, Request, request}
+use Rattle.reader.specs.Reading.{ascii, Read, found, fault, Reader, onward, _>>=_, _>>_, done, mark, begins}
+use Rattle.reader.specs.Numbers.{number}
+use Rattle.reader.specs.Tables.{cell, parted, bracket, table}
+use Rattle.reader.specs.Lines.{Progress, defined, refused, close, sizeLine, tested, afterSize, sized, arity, lastTable, operationTests, cellTest, withOperation, afterTable, afterArity, operation, Request, request}
 use Rattle.bracket.specs.Transcript.{State, Step, goes, ends, afterLine, afterRequest, firstStep, operationStep, requestStep, step}
 
 -- what is found has a property

@@ -19,18 +19,19 @@ use Rattle.algebra.specs.Algebra.{Algebra, algebraOf}
 use Rattle.algebra.proofs.Accepted.{accepted-wellFormed}
 use Rattle.congruence.specs.Calls.{generateCall, containedCall, separateCall, decomposed, decomposeCall}
 use Rattle.congruence.proofs.Calls.{factors-reducible}
-use Rattle.congruence.proofs.Factors.{listed-law}
+use Rattle.theory.proofs.Factors.{listed-law}
 use Rattle.congruence.proofs.Serving.{of-checked}
 use Rattle.congruence.specs.declared.Decomposed.{Decomposed}
 use Rattle.congruence.specs.declared.Decomposed.the-variants.{Factors, Irreducible, Refused as DecomposeRefused}
 use Rattle.congruence.specs.declared.Generated.{Generated}
 use Rattle.congruence.specs.declared.Generated.the-variants.{Merges, Refused as GenerateRefused}
-use Rattle.bracket.specs.Reading.{ascii}
-use Rattle.bracket.specs.Lines.{generate, contained, separate, decompose}
+use Rattle.reader.specs.Reading.{ascii}
+use Rattle.reader.specs.Lines.{generate, contained, separate, decompose}
 use Rattle.bracket.specs.Answers.{spaced, spacedBrackets, line, refusedLine, mapLine, generatedLine, factorsLine, answer}
-use Rattle.bracket.specs.Promises.{Laid, lineFor, FactorsRoom, LineFits, MapFits, FactorsFit, ZeroFactors, Zeros}
-use Rattle.bracket.specs.declared.requests.Asked.{Asked}
-use Rattle.bracket.specs.declared.requests.Asked.the-variants.{Generate, Contained, Separate, Decompose, Nothing}
+use Rattle.reader.specs.Promises.{Laid}
+use Rattle.bracket.specs.Promises.{lineFor, FactorsRoom, LineFits, MapFits, FactorsFit, ZeroFactors, Zeros}
+use Rattle.reader.specs.declared.requests.Asked.{Asked}
+use Rattle.reader.specs.declared.requests.Asked.the-variants.{Generate, Contained, Separate, Decompose, Nothing}
 
 -- the first of many zeros
 take-zeros : (k m : ℕ) → k ≤ m → take {A = ℕ} k (replicate m 0) ≡ replicate k 0
@@ -96,7 +97,7 @@ few-factors : (a : Algebra) (lent : List ℕ) (k : ℕ) (c : Check) → c ≡ lo
 unfolding answered
 few-factors a lent k Passed e g =
     let w = accepted-wellFormed a (of-checked a (spaceTest ((a .size - 1) * a .size) (length lent) ∷ []) e .0) in
-    rw (factors-reducible a w k g .1) (listed-law a w .few)
+    rw (factors-reducible a k g .1) (listed-law a w .few)
 few-factors a lent k (Failed r) e g = let z : _≡_ {A = ℕ} 0 1 = cc in absurd (omega arith)
 
 pub factors-few : (a : Algebra) (lent map : List ℕ) (d : Decomposed) → (d, map) ≡ decomposeCall a lent → (k : ℕ) → d ≡ Factors k → k < a .size

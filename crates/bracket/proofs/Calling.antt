@@ -11,7 +11,7 @@ use Rattle.bracket.specs.Transcript.{firstStep, step}
 use Rattle.bracket.specs.Steps.{stateOf, Sound, Lent, Stepping, idle, canStep, Begun, Taken}
 use Rattle.bracket.specs.declared.run.Standing.{Standing}
 use Rattle.bracket.specs.declared.run.Stepped.{Stepped}
-use Rattle.bracket.proofs.Words.{and-left, and-right}
+use Rattle.reader.proofs.Words.{and-left, and-right}
 
 -- the tests in turn
 module _ (text : ℕ) (s : Standing) (arities room out : ℕ) where

@@ -9,12 +9,12 @@ use Rattle.algebra.specs.Accepted.{algebraTests}
 use Rattle.algebra.specs.Algebra.{cellCount, operationsOf, operations, arguments, place, value}
 use Rattle.algebra.specs.Congruence.{respects, isCongruence, congruences}
 use Rattle.congruence.specs.Calls.{pairsTest, elementsTest, equalTest, generateCall, containedCall, separateCall, decomposed, factorBytes, decomposeCall}
-use Rattle.congruence.specs.Decompose.{added, gathered, pruned, listed, reducible, commonPair}
-use Rattle.congruence.specs.Extremal.{holdsAll, generated, contained, separated}
-use Rattle.bracket.specs.Reading.{ascii, onward, _>>=_, mark, begins, opened}
-use Rattle.bracket.specs.Numbers.{digitAt, number, decimal}
-use Rattle.bracket.specs.Tables.{cell, parted, bracket, table, pair, itemsUpTo, items}
-use Rattle.bracket.specs.Lines.{close, spacedNumber, sizeLine, tested, afterSize, sized, arity, lastTable, operationTests, cellTest, withOperation, afterTable, afterArity, operation, listing, generating, containing, twoNumbers, request}
+use Rattle.theory.specs.Decompose.{added, gathered, pruned, listed, reducible, commonPair}
+use Rattle.theory.specs.Extremal.{holdsAll, generated, contained, separated}
+use Rattle.reader.specs.Reading.{ascii, onward, _>>=_, mark, begins, opened}
+use Rattle.reader.specs.Numbers.{digitAt, number, decimal}
+use Rattle.reader.specs.Tables.{cell, parted, bracket, table, pair, itemsUpTo, items}
+use Rattle.reader.specs.Lines.{close, spacedNumber, sizeLine, tested, afterSize, sized, arity, lastTable, operationTests, cellTest, withOperation, afterTable, afterArity, operation, listing, generating, containing, twoNumbers, request}
 use Rattle.bracket.specs.Answers.{spaced, bracketed, spacedBrackets, line, refusedLine, mapLine, generatedLine, factorsLine, answer}
 use Rattle.bracket.specs.Transcript.{afterLine, afterRequest, firstStep, operationStep, requestStep, step, output, run, transcript}
 

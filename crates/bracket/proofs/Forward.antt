@@ -11,11 +11,11 @@ use Rattle.equivalence.specs.Refusal.{lowest}
 use Rattle.equivalence.specs.declared.Check.{Check}
 use Rattle.equivalence.specs.declared.Check.the-variants.{Passed, Failed}
 use Rattle.algebra.specs.Algebra.{Algebra}
-use Rattle.bracket.specs.Reading.{ascii, Read, found, fault, Reader, byteAt, onward, _>>=_, _>>_, done, failed, mark, begins, opened}
-use Rattle.bracket.specs.Numbers.{digitAt, threeAt, number}
-use Rattle.bracket.specs.Tables.{cell, parted, bracket, table, pair, itemsUpTo, items}
-use Rattle.bracket.specs.Lines.{Progress, defined, refused, close, spacedNumber, tested, arity, lastTable, cellTest, operationTests, withOperation, afterTable, afterArity, operation, Request, generate, contained, separate, decompose, listing, generating, containing, twoNumbers, request}
-use Rattle.bracket.proofs.Asking.{from-contained, from-separate, from-decompose}
+use Rattle.reader.specs.Reading.{ascii, Read, found, fault, Reader, byteAt, onward, _>>=_, _>>_, done, failed, mark, begins, opened}
+use Rattle.reader.specs.Numbers.{digitAt, threeAt, number}
+use Rattle.reader.specs.Tables.{cell, parted, bracket, table, pair, itemsUpTo, items}
+use Rattle.reader.specs.Lines.{Progress, defined, refused, close, spacedNumber, tested, arity, lastTable, cellTest, operationTests, withOperation, afterTable, afterArity, operation, Request, generate, contained, separate, decompose, listing, generating, containing, twoNumbers, request}
+use Rattle.reader.proofs.Asking.{from-contained, from-separate, from-decompose}
 use Rattle.bracket.specs.Transcript.{State, Step, goes, ends, afterLine, afterRequest, operationStep, requestStep, step}
 
 -- where something is found, it is found k bytes further at least

@@ -8,11 +8,11 @@ use native.Mathlib.Omega.{arith}
 use borrow.Author.Tests.{eq-eqb, eqb-true}
 use lib.Dec.{eqb}
 use lib.ListN.{length}
-use Rattle.bracket.specs.Reading.{Read, found, fault, byteAt, begins}
-use Rattle.bracket.specs.Numbers.{digitAt, number, decimal}
-use Rattle.bracket.proofs.Digits.{digit-below, digit-above, digit-here, number-none, number-zero, number-one, number-two, number-large, number-three}
+use Rattle.reader.specs.Reading.{Read, found, fault, byteAt, begins}
+use Rattle.reader.specs.Numbers.{digitAt, number, decimal}
+use Rattle.reader.proofs.Digits.{digit-below, digit-above, digit-here, number-none, number-zero, number-one, number-two, number-large, number-three}
 use Rattle.bracket.proofs.Spacing.{decimal-one, decimal-two, decimal-three}
-use Rattle.bracket.proofs.Words.{and-left, and-right}
+use Rattle.reader.proofs.Words.{and-left, and-right}
 
 -- a digit's byte
 digit-byte : (text : List ℕ) (at : ℕ) → digitAt text at ≤ 9 → byteAt text at ≡ 48 + digitAt text at

@@ -12,11 +12,11 @@ use lib.Seq.{take-suc, take-all}
 use Rattle.equivalence.specs.Lists.{upTo, stretch}
 use Rattle.equivalence.specs.Refusal.{numberOf}
 use Rattle.equivalence.specs.declared.Refusal.{Refusal}
-use Rattle.bracket.specs.Reading.{ascii}
-use Rattle.bracket.specs.Numbers.{decimal}
+use Rattle.reader.specs.Reading.{ascii}
+use Rattle.reader.specs.Numbers.{decimal}
 use Rattle.bracket.specs.Answers.{spaced, bracketed, spacedBrackets, line, refusedLine}
-use Rattle.bracket.specs.Promises.{Laid}
-use Rattle.bracket.proofs.Laying.{laid-none, laid-more}
+use Rattle.reader.specs.Promises.{Laid}
+use Rattle.reader.proofs.Laying.{laid-none, laid-more}
 
 -- one, two or three digits
 pub decimal-one : (v : ℕ) → v < 10 → decimal v ≡ (48 + v) ∷ []

@@ -17,22 +17,23 @@ use Rattle.equivalence.specs.declared.Refusal.{Refusal}
 use Rattle.equivalence.specs.declared.Refusal.the-variants.{Size, Text}
 use Rattle.equivalence.specs.declared.Check.the-variants.{Passed, Failed}
 use Rattle.algebra.specs.Algebra.{Algebra, algebraOf}
-use Rattle.bracket.specs.Reading.{ascii, begins}
-use Rattle.bracket.specs.Lines.{refused, sizeLine, tested, afterSize, sized, operation, request}
+use Rattle.reader.specs.Reading.{ascii, begins}
+use Rattle.reader.specs.Lines.{refused, sizeLine, tested, afterSize, sized, operation, request}
 use Rattle.bracket.specs.Answers.{refusedLine}
 use Rattle.bracket.specs.Transcript.{State, goes, afterLine, afterRequest, firstStep, operationStep, requestStep, step}
-use Rattle.bracket.specs.Promises.{bit, NumberRead, Laid, passing, progressOf, operationProgress, OperationRead, requestOf, goesOn, lineFor, Requested}
+use Rattle.reader.specs.Promises.{bit, NumberRead, Laid, passing, progressOf, operationProgress, OperationRead, requestOf, goesOn, Requested}
+use Rattle.bracket.specs.Promises.{lineFor}
 use Rattle.bracket.specs.Steps.{stateOf, stepOf, Sound, Lent, Stepping}
-use Rattle.bracket.specs.declared.lines.OperationLine.{OperationLine}
-use Rattle.bracket.specs.declared.reading.Number.{Number}
-use Rattle.bracket.specs.declared.requests.Asked.{Asked}
-use Rattle.bracket.specs.declared.requests.Asked.the-variants.{Generate, Contained, Separate, Decompose, Nothing}
-use Rattle.bracket.specs.declared.requests.RequestLine.{RequestLine}
+use Rattle.reader.specs.declared.lines.OperationLine.{OperationLine}
+use Rattle.reader.specs.declared.reading.Number.{Number}
+use Rattle.reader.specs.declared.requests.Asked.{Asked}
+use Rattle.reader.specs.declared.requests.Asked.the-variants.{Generate, Contained, Separate, Decompose, Nothing}
+use Rattle.reader.specs.declared.requests.RequestLine.{RequestLine}
 use Rattle.bracket.specs.declared.run.Standing.{Standing}
 use Rattle.bracket.specs.declared.run.Stepped.{Stepped}
-use Rattle.bracket.proofs.Laying.{laid-none, laid-part, laid-front}
-use Rattle.bracket.proofs.SpacedNumbers.{found-number, missing-number}
-use Rattle.bracket.proofs.Words.{begins-within}
+use Rattle.reader.proofs.Laying.{laid-none, laid-part, laid-front}
+use Rattle.reader.proofs.SpacedNumbers.{found-number, missing-number}
+use Rattle.reader.proofs.Words.{begins-within}
 
 -- a run that did not get past its size line
 abbrev unbegun : Standing

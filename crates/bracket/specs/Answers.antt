@@ -13,9 +13,9 @@ use Rattle.congruence.specs.declared.Generated.{Generated}
 use Rattle.congruence.specs.declared.Generated.the-variants.{Merges, Refused as GenerateRefused}
 use Rattle.congruence.specs.declared.Decomposed.{Decomposed}
 use Rattle.congruence.specs.declared.Decomposed.the-variants.{Factors, Irreducible, Refused as DecomposeRefused}
-use Rattle.bracket.specs.Reading.{ascii}
-use Rattle.bracket.specs.Numbers.{decimal}
-use Rattle.bracket.specs.Lines.{Request, generate, contained, separate, decompose}
+use Rattle.reader.specs.Reading.{ascii}
+use Rattle.reader.specs.Numbers.{decimal}
+use Rattle.reader.specs.Lines.{Request, generate, contained, separate, decompose}
 
 -- numbers, each after a space
 unfoldable pub spaced : List ℕ → List ℕ

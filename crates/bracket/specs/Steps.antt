@@ -7,7 +7,7 @@ use lib.Dec.{T, leb}
 use lib.ListN.{length, take}
 use Rattle.algebra.specs.Algebra.{algebraOf}
 use Rattle.bracket.specs.Transcript.{State, Step, goes, ends, firstStep, step}
-use Rattle.bracket.specs.Promises.{bit, Laid}
+use Rattle.reader.specs.Promises.{bit, Laid}
 use Rattle.bracket.specs.declared.run.Standing.{Standing}
 use Rattle.bracket.specs.declared.run.Stepped.{Stepped}
 

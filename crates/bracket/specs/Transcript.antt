@@ -6,8 +6,8 @@ use lib.Dec.{leb, ltb}
 use lib.ListN.{length}
 use Rattle.equivalence.specs.declared.Refusal.the-variants.{Text}
 use Rattle.algebra.specs.Algebra.{Algebra}
-use Rattle.bracket.specs.Reading.{ascii, Read, found, fault, begins}
-use Rattle.bracket.specs.Lines.{Progress, defined, refused, sized, operation, Request, request}
+use Rattle.reader.specs.Reading.{ascii, Read, found, fault, begins}
+use Rattle.reader.specs.Lines.{Progress, defined, refused, sized, operation, Request, request}
 use Rattle.bracket.specs.Answers.{refusedLine, answer}
 
 -- where a run stands: at the start of a line, behind the lines that gave this algebra, before or after the first request

@@ -1,5 +1,4 @@
 // The answers to requests: what a service answers, written as a line.
-use crate::requests::Asked;
 use crate::writing::write_factors;
 use crate::writing::write_generated;
 use crate::writing::write_irreducible;
@@ -8,10 +7,12 @@ use crate::writing::write_refused;
 use congruence::Decomposed;
 use congruence::Generated;
 use equivalence::Written;
+use reader::requests::Asked;
 ghost use Rattle.algebra.specs.Algebra.{algebraOf};
-ghost use Rattle.bracket.specs.Lines.{generate, contained, separate, decompose};
+ghost use Rattle.reader.specs.Lines.{generate, contained, separate, decompose};
 ghost use Rattle.bracket.specs.Answers.{generatedLine, mapLine, factorsLine, answer};
-ghost use Rattle.bracket.specs.Promises.{Laid, lineFor, LineFits, MapFits, FactorsFit, ZeroFactors, Zeros};
+ghost use Rattle.reader.specs.Promises.{Laid};
+ghost use Rattle.bracket.specs.Promises.{lineFor, LineFits, MapFits, FactorsFit, ZeroFactors, Zeros};
 
 // The line for Generate's answer, which wrote the map.
 fn write_generate(answer: Generated, map: &[u8], out: &mut [u8]) -> usize

@@ -1,8 +1,5 @@
-// Bracket text: reader, writer, and the answer to each line of a run.
+// Bracket text: writer, and the answer to each line of a run; `reader` reads.
 
 mod answers;
-mod lines;
-mod reading;
-mod requests;
 pub mod run;
 mod writing;

@@ -1,11 +1,11 @@
 // A run over a text, line by line: where it stands, and what each line writes.
 use crate::answers::answer;
-use crate::lines::read_operation;
-use crate::lines::read_size;
-use crate::reading::begins_with;
-use crate::requests::goes_on;
-use crate::requests::read_request;
 use crate::writing::write_refused;
+use reader::lines::read_operation;
+use reader::lines::read_size;
+use reader::reading::begins_with;
+use reader::requests::goes_on;
+use reader::requests::read_request;
 ghost use mathlib.Core.Path.{_≡_};
 ghost use mathlib.Core.List.{List};
 ghost use Prim.Native.Nat.{ℕ, _+_, _≤_, _<_};

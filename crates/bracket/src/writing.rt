@@ -3,11 +3,12 @@ ghost use mathlib.Core.Path.{_≡_};
 ghost use mathlib.Core.List.{[], _∷_, _++_, map};
 ghost use Prim.Native.Nat.{ℕ, _+_, _*_, _≤_, _<_};
 ghost use lib.ListN.{length};
-ghost use Rattle.bracket.specs.Numbers.{decimal};
+ghost use Rattle.reader.specs.Numbers.{decimal};
 ghost use Rattle.equivalence.specs.Lists.{upTo, stretch};
-ghost use Rattle.bracket.specs.Reading.{ascii};
+ghost use Rattle.reader.specs.Reading.{ascii};
 ghost use Rattle.bracket.specs.Answers.{spaced, bracketed, spacedBrackets, line, refusedLine};
-ghost use Rattle.bracket.specs.Promises.{Laid, FactorsRoom};
+ghost use Rattle.reader.specs.Promises.{Laid};
+ghost use Rattle.bracket.specs.Promises.{FactorsRoom};
 
 // One byte.
 fn write_byte(out: &mut [u8], put: usize, b: u8) -> usize

@@ -18,14 +18,13 @@ use Rattle.algebra.specs.Accepted.{algebraTests, Accepted}
 use Rattle.algebra.specs.Algebra.{Algebra, algebraOf, cellCount}
 use Rattle.algebra.proofs.Accepted.{WellFormed, accepted-wellFormed}
 use Rattle.congruence.specs.Calls.{congruenceTest, quotientCall, decomposed, factorBytes, decomposeCall}
-use Rattle.congruence.specs.Decompose.{listed, reducible}
+use Rattle.theory.specs.Decompose.{listed, reducible}
 use Rattle.congruence.specs.Demands.{QuotientDraws11, FactorCalls}
 use Rattle.congruence.proofs.Calls.{factor-calls}
 use Rattle.congruence.proofs.Demands.{listed-right}
-use Rattle.congruence.proofs.Factoring.{of-decomposeTests}
-use Rattle.congruence.proofs.Factors.{decomposed-yes, decomposed-no}
-use Rattle.congruence.proofs.Quotients.{quotientCells-length}
-use Rattle.congruence.proofs.Serving.{of-quotientTests}
+use Rattle.congruence.proofs.Decomposing.{decomposed-yes, decomposed-no}
+use Rattle.theory.proofs.Quotients.{quotientCells-length}
+use Rattle.congruence.proofs.Serving.{of-quotientTests, of-decomposeTests}
 use Rattle.division.specs.Quotient.{quotientCells}
 use Rattle.claim.specs.Calls.{factorCount, eleven, lastCall, factorCalls, lentAt, lastAnswer, elevens, CallsMade, LentEnough, EveryLastCall11}
 use Rattle.equivalence.specs.declared.Refusal.{Refusal}
@@ -138,8 +137,8 @@ module _ (a : Algebra) (lent : List ℕ) where
             let w = accepted-wellFormed a (t .0) in
             rw (decompose-passed e)
             elim (T? (reducible a)) [
-              | yes r ↦ rw (decomposed-yes a w r) (omega (arith, t .1, mul-le-mul-right (a .size) (listed-right a (t .0) r .few)))
-              | no r ↦ rw (decomposed-no a w r) (omega arith)
+              | yes r ↦ rw (decomposed-yes a r) (omega (arith, t .1, mul-le-mul-right (a .size) (listed-right a (t .0) r .few)))
+              | no r ↦ rw (decomposed-no a r) (omega arith)
             ]
         | inr e ↦ rw (decompose-failed (e .0) (e .1)) (omega arith)
       ]
@@ -153,7 +152,7 @@ module _ (a : Algebra) (lent : List ℕ) where
             let w = accepted-wellFormed a (of-tests′ e .0) in
             let p = decompose-passed e in
             elim (T? (reducible a)) [
-              | yes r ↦ let d = decomposed-yes a w r in let z : _≡_ {A = ℕ} 0 1 = cc in absurd (omega arith)
+              | yes r ↦ let d = decomposed-yes a r in let z : _≡_ {A = ℕ} 0 1 = cc in absurd (omega arith)
               | no r ↦ rw (p, pick-no (reducible a) (concat (listed a)) [] r)
             ]
         | inr e ↦ rw (decompose-failed (e .0) (e .1))

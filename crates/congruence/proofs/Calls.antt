@@ -11,23 +11,21 @@ use Rattle.equivalence.specs.Lists.{concat, stretch}
 use Rattle.equivalence.specs.Refusal.{lowest, mapTest, spaceTest, written}
 use Rattle.equivalence.proofs.Refusals.{lowest-none, lowest-next, lowest-append, serve-passed}
 use Rattle.equivalence.proofs.Stretches.{stretch-concat}
-use Rattle.equivalence.proofs.Tests.{T?, pick-yes}
+use Rattle.equivalence.proofs.Tests.{T?}
 use Rattle.algebra.specs.Accepted.{algebraTests, Accepted}
 use Rattle.algebra.specs.Algebra.{Algebra, algebraOf, cellCount}
 use Rattle.algebra.specs.Congruence.{isCongruence, Congruence}
 use Rattle.algebra.proofs.Accepted.{WellFormed, accepted-wellFormed, not-yes, wellFormed-accepted}
 use Rattle.algebra.proofs.Congruences.{congruence-is}
 use Rattle.congruence.specs.Calls.{element, congruenceTest, quotientCall, decomposed, factorBytes, decomposeCall}
-use Rattle.congruence.specs.Decompose.{listed, reducible, commonPair}
+use Rattle.theory.specs.Decompose.{listed, reducible, commonPair}
 use Rattle.congruence.specs.Demands.{Answers11, QuotientDraws11, FactorCalls}
 use Rattle.congruence.proofs.Demands.{listed-right}
-use Rattle.congruence.proofs.Factors.{decomposed-yes, decomposed-no, listed-long}
-use Rattle.congruence.proofs.Quotients.{quotientCells-length, quotient-wellFormed}
+use Rattle.theory.proofs.Factors.{listed-long}
+use Rattle.congruence.proofs.Decomposing.{decomposed-yes, decomposed-no, factorBytes-yes}
+use Rattle.theory.proofs.Quotients.{quotientCells-length, quotient-wellFormed}
 use Rattle.division.specs.Quotient.{quotientCells, quotient}
-use Rattle.equivalence.specs.declared.Refusal.{Refusal}
-use Rattle.equivalence.specs.declared.Check.{Check}
-use Rattle.equivalence.specs.declared.Check.the-variants.{Passed, Failed}
-use Rattle.equivalence.specs.declared.Element.{Element}
+use Rattle.equivalence.specs.declared.Check.the-variants.{Passed}
 use Rattle.congruence.specs.declared.Divided.{Divided}
 use Rattle.congruence.specs.declared.Divided.the-variants.{Blocks, Refused as DivideRefused}
 use Rattle.congruence.specs.declared.Decomposed.{Decomposed}
@@ -56,16 +54,12 @@ module _ (a : Algebra) (accepted : Accepted a) (lent : List ℕ) (room : (a .siz
   decompose-bytes = ap (λ (r : Decomposed × List ℕ). r .1) decompose-served
 
 -- where Decompose counts factors, the algebra is reducible and the count is the list's
-pub factors-reducible : (a : Algebra) → WellFormed a → (k : ℕ) → decomposed a ≡ Factors k → T (reducible a) × (k ≡ length (listed a))
-factors-reducible a c k e =
+pub factors-reducible : (a : Algebra) (k : ℕ) → decomposed a ≡ Factors k → T (reducible a) × (k ≡ length (listed a))
+factors-reducible a k e =
     elim (T? (reducible a)) [
-      | yes t ↦ let d = decomposed-yes a c t in (t, cc)
-      | no t ↦ let d = decomposed-no a c t in let z : _≡_ {A = ℕ} 0 1 = cc in absurd (omega arith)
+      | yes t ↦ let d = decomposed-yes a t in (t, cc)
+      | no t ↦ let d = decomposed-no a t in let z : _≡_ {A = ℕ} 0 1 = cc in absurd (omega arith)
     ]
-
-pub factorBytes-yes : (a : Algebra) → T (reducible a) → factorBytes a ≡ concat (listed a)
-unfolding factorBytes
-factorBytes-yes a t = pick-yes (reducible a) (concat (listed a)) [] t
 
 -- ---- Quotient
 
@@ -131,7 +125,7 @@ module _ (a : Algebra) (accepted : Accepted a) where
       let well : WellFormed a = accepted-wellFormed a accepted in
       let answer : decomposeCall a lent .0 ≡ decomposed a = decompose-answer a accepted lent room in
       let listing : (k i : ℕ) → decomposed a ≡ Factors k → i < k → stretch (a .size) (decomposeCall a lent .1) i ≡ getD (listed a) i [] =
-      λ k i e l. let r = factors-reducible a well k e in
+      λ k i e l. let r = factors-reducible a k e in
       rw (decompose-bytes a accepted lent room, factorBytes-yes a (r .0))
       (stretch-concat (a .size) (listed a) (drop (length (concat (listed a))) lent) (listed-long a well) i (omega (arith, r .1))) in
       record {
@@ -139,7 +133,7 @@ module _ (a : Algebra) (accepted : Accepted a) where
         listing = listing;
         quotients = λ k i e l.
             let d : decomposed a ≡ Factors k = sym answer ∙ e in
-            let r = factors-reducible a well k d in
+            let r = factors-reducible a k d in
             let f = listed-right a accepted (r .0) in
             let j : i < length (listed a) = omega (arith, r .1) in
             rw (listing k i d l) (quotient-draws11 (getD (listed a) i []) (f .congruences i j) (f .irreducible i j));

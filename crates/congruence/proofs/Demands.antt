@@ -21,20 +21,19 @@ use Rattle.algebra.proofs.Accepted.{WellFormed, accepted-wellFormed}
 use Rattle.algebra.proofs.Arguments.{of-arguments}
 use Rattle.algebra.proofs.Congruences.{congruence-is, congruence-of}
 use Rattle.congruence.specs.Calls.{element}
-use Rattle.congruence.specs.Certify.{certified}
-use Rattle.congruence.specs.Decompose.{listed, reducible, commonPair}
-use Rattle.congruence.specs.Demands.{LeastCongruence, GreatestCongruence, MeetRight, JoinRight, QuotientAtMembers, MaximalApart, EarliestCongruence, Unsplit, HeldByAll, FirstCommonPair, FactorsRight, FactorTheorem}
-use Rattle.congruence.specs.Extremal.{generated, contained, separated}
-use Rattle.congruence.proofs.Certificates.{listed-certified}
-use Rattle.congruence.proofs.CommonPair.{Common, FirstCommon, commonPair-law, commonPair-one}
-use Rattle.congruence.proofs.Factors.{listed-law, two-at-least, unsplit, decomposed-yes, irreducible-of, of-irreducible}
-use Rattle.congruence.proofs.GreatestCongruence.{contained-law}
-use Rattle.congruence.proofs.LeastCongruence.{Below, generated-law}
-use Rattle.congruence.proofs.Quotients.{onBlocks, block-value, quotient-irreducible}
-use Rattle.congruence.proofs.Separation.{MaximalFor, separated-earliest, separated-law}
-use Rattle.division.specs.Tables.{joined}
-use Rattle.congruence.specs.declared.Decomposed.{Decomposed}
-use Rattle.congruence.specs.declared.Decomposed.the-variants.{Factors, Irreducible}
+use Rattle.theory.specs.Certify.{certified}
+use Rattle.theory.specs.Decompose.{listed, reducible, commonPair}
+use Rattle.theory.specs.Splitting.{Unsplit}
+use Rattle.congruence.specs.Demands.{LeastCongruence, GreatestCongruence, MeetRight, JoinRight, QuotientAtMembers, MaximalApart, EarliestCongruence, HeldByAll, FirstCommonPair, FactorsRight, FactorTheorem}
+use Rattle.theory.specs.Extremal.{generated, contained, separated}
+use Rattle.theory.proofs.Certificates.{listed-certified}
+use Rattle.theory.proofs.CommonPair.{Common, FirstCommon, commonPair-law, commonPair-one}
+use Rattle.theory.proofs.Factors.{listed-law, two-at-least, unsplit}
+use Rattle.congruence.proofs.Decomposing.{decomposed-yes, irreducible-of, of-irreducible, quotient-irreducible}
+use Rattle.theory.proofs.GreatestCongruence.{contained-law}
+use Rattle.theory.proofs.LeastCongruence.{Below, generated-law}
+use Rattle.theory.proofs.Quotients.{onBlocks, block-value}
+use Rattle.theory.proofs.Separation.{MaximalFor, separated-earliest, separated-law}
 
 -- ---- demand 2
 
@@ -156,7 +155,7 @@ module _ (a : Algebra) (accepted : Accepted a) where
         irreducible = (of-irreducible a well (element (commonPair a .0)) (element (commonPair a .1)), irreducible-of a well);
         pair = λ e. pair-right (of-irreducible a well (element (commonPair a .0)) (element (commonPair a .1)) e);
         otherwise = λ n. elim (T? (reducible a)) [
-          | yes t ↦ (decomposed-yes a well t, listed-right t)
+          | yes t ↦ (decomposed-yes a t, listed-right t)
           | no t ↦ absurd (n (irreducible-of a well (unsplit a well t)))
         ];
       }

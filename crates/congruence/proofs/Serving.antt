@@ -1,6 +1,6 @@
 -- The tests of the services: the algebra's and then each other one, where it applies and where it is passed over; and the answer with the lent
 -- bytes, where a test declines and where all pass.
-use Prim.Native.Nat.{ℕ, _≤_, _<_, _/_, _%_}
+use Prim.Native.Nat.{ℕ, _-_, _*_, _≤_, _<_, _/_, _%_}
 use mathlib.Core.Bool.{Bool, true, false, not, _||_}
 use mathlib.Core.List.{List, [], _∷_, _++_}
 use mathlib.Core.Logic.{inl, inr}
@@ -12,22 +12,24 @@ use lib.Dec.{T, eqb, ltb, T-not, not-T, eqb→eq, ltb→lt, lt→ltb}
 use lib.ListN.{length, getD}
 use Rattle.equivalence.specs.Equivalence.{Map, isMap, blocks}
 use Rattle.equivalence.specs.Lists.{every}
-use Rattle.equivalence.specs.Refusal.{Test, lowest, mapTest, spaceTest, written, serve}
+use Rattle.equivalence.specs.Refusal.{Test, lowest, mapTest, spaceTest, answered, written, serve}
 use Rattle.equivalence.proofs.Maps.{isMap-of}
 use Rattle.equivalence.proofs.Refusals.{space-passed, lowest-next, lowest-here, of-passed, lowest-append, lowest-failed, passed-append, serve-passed, serve-failed, of-mapTest, space-refused, of-spaceTest}
-use Rattle.equivalence.proofs.Tests.{T?, or-left, or-right, or-cases, eq→eqb, T-of, not-T-of}
+use Rattle.equivalence.proofs.Tests.{T?, pick-yes, pick-no, or-left, or-right, or-cases, eq→eqb, T-of, not-T-of}
 use Rattle.algebra.specs.Accepted.{algebraTests, Accepted}
 use Rattle.algebra.specs.Algebra.{Algebra, cellCount}
 use Rattle.algebra.specs.Congruence.{isCongruence}
 use Rattle.algebra.proofs.Accepted.{every-at, accepted-wellFormed}
-use Rattle.congruence.specs.Calls.{pairsTest, elementsTest, equalTest, congruenceTest, mapsIn, mapsTest}
-use Rattle.congruence.specs.Listing.{listing, MapsListed}
-use Rattle.congruence.proofs.LeastCongruence.{Below}
-use Rattle.congruence.proofs.ListTests.{of-every-listing}
+use Rattle.congruence.specs.Calls.{pairsTest, elementsTest, equalTest, congruenceTest, mapsIn, mapsTest, certifyCall}
+use Rattle.theory.specs.Certify.{certified}
+use Rattle.listing.specs.Listing.{listing, MapsListed}
+use Rattle.theory.proofs.LeastCongruence.{Below}
+use Rattle.listing.proofs.ListTests.{of-every-listing}
 use Rattle.equivalence.specs.declared.Refusal.{Refusal}
 use Rattle.equivalence.specs.declared.Refusal.the-variants.{Range, NotMap, Space, Equal, NotCongruence}
 use Rattle.equivalence.specs.declared.Check.{Check}
 use Rattle.equivalence.specs.declared.Check.the-variants.{Passed, Failed}
+use Rattle.congruence.specs.declared.Certified.the-variants.{Yes, No, Refused as CertifyRefused}
 
 -- ---- the algebra's tests, and those behind them
 
@@ -219,6 +221,11 @@ module _ (a : Algebra) (room : ℕ) where
       let q = of-passed (mapTest (a .size) m) (spaceTest wanted room ∷ congruenceTest a m ∷ []) (p .1) in
       (p .0, isMap-of (a .size) m (of-mapTest (a .size) m (q .0)), of-spaceTest wanted room (of-passed (spaceTest wanted room) (congruenceTest a m ∷ []) (q .1) .0))
 
+pub of-decomposeTests : (a : Algebra) (room : ℕ) → Passed ≡ lowest (algebraTests a ++ (spaceTest ((a .size - 1) * a .size) room ∷ [])) → Accepted a × ((a .size - 1) * a .size ≤ room)
+of-decomposeTests a room e =
+    let p = of-checked a (spaceTest ((a .size - 1) * a .size) room ∷ []) e in
+    (p .0, of-spaceTest ((a .size - 1) * a .size) room (of-passed (spaceTest ((a .size - 1) * a .size) room) [] (p .1) .0))
+
 pub of-certifyTests : (a : Algebra) (bytes : List ℕ) → Passed ≡ lowest (algebraTests a ++ (mapsTest (a .size) bytes ∷ [])) → Accepted a × MapsListed (a .size) (length bytes / a .size) bytes
 of-certifyTests a bytes e =
     let p = of-checked a (mapsTest (a .size) bytes ∷ []) e in
@@ -235,3 +242,19 @@ module _ {ℓ} {A : Type ℓ} (refused : Refusal → A) (tests : List Test) (ans
   -- all pass, and the new bytes are written
   pub granted : {given : A} {after : List ℕ} → Passed ≡ lowest tests → given ≡ answer → after ≡ written new lent → (given, after) ≡ serve refused tests answer new lent
   granted e f g = rw (f, g) (sym (serve-passed refused tests answer new lent (sym e)))
+
+-- ---- Certify's answer
+
+module _ (a : Algebra) (bytes : List ℕ) where
+  pub certify-declined : (r : Refusal) → Failed r ≡ lowest (algebraTests a ++ (mapsTest (a .size) bytes ∷ [])) → CertifyRefused r ≡ certifyCall a bytes
+  unfolding certifyCall answered
+  certify-declined r e = rw (← e)
+
+  module _ (passed : Passed ≡ lowest (algebraTests a ++ (mapsTest (a .size) bytes ∷ []))) {r : Bool} (e : r ≡ certified a (listing (a .size) (length bytes / a .size) bytes)) where
+    pub certify-yes : r ≡ true → Yes ≡ certifyCall a bytes
+    unfolding certifyCall answered mapsIn listing
+    certify-yes f = rw (← passed) (sym (pick-yes (certified a (mapsIn (a .size) bytes)) Yes No (T-of (sym e ∙ f))))
+
+    pub certify-no : r ≡ false → No ≡ certifyCall a bytes
+    unfolding certifyCall answered mapsIn listing
+    certify-no f = rw (← passed) (sym (pick-no (certified a (mapsIn (a .size) bytes)) Yes No (not-T-of (sym e ∙ f))))

@@ -14,10 +14,10 @@ use Rattle.equivalence.specs.declared.Written.the-variants.{Done, Refused as Wr
 use Rattle.algebra.specs.Algebra.{Algebra, cellCount}
 use Rattle.algebra.specs.Accepted.{algebraTests}
 use Rattle.algebra.specs.Congruence.{isCongruence}
-use Rattle.congruence.specs.Extremal.{generated, contained, separated}
+use Rattle.theory.specs.Extremal.{generated, contained, separated}
 use Rattle.division.specs.Quotient.{quotientCells}
-use Rattle.congruence.specs.Decompose.{listed, reducible, commonPair}
-use Rattle.congruence.specs.Certify.{certified}
+use Rattle.theory.specs.Decompose.{listed, reducible, commonPair}
+use Rattle.theory.specs.Certify.{certified}
 use Rattle.congruence.specs.declared.Generated.{Generated}
 use Rattle.congruence.specs.declared.Generated.the-variants.{Merges, Refused as GenerateRefused}
 use Rattle.congruence.specs.declared.Divided.{Divided}

@@ -2,7 +2,7 @@
 use Prim.Native.Nat.{ℕ, _≤_, _<_, _-_, _*_}
 use mathlib.Core.Path.{_≡_}
 use mathlib.Core.Logic.{_⊎_, _↔_}
-use mathlib.Core.List.{List, [], _∷_, map}
+use mathlib.Core.List.{List, [], map}
 use mathlib.Core.List.{List·Memᴰ as Member}
 use lib.Dec.{T}
 use lib.ListN.{length, getD, take}
@@ -12,9 +12,10 @@ use Rattle.equivalence.specs.Order.{Pair, notLater}
 use Rattle.equivalence.specs.declared.Element.{Element}
 use Rattle.algebra.specs.Algebra.{Algebra, algebraOf, Operation, operations, arguments, value, cellCount}
 use Rattle.algebra.specs.Congruence.{Congruence}
-use Rattle.congruence.specs.Extremal.{holdsAll}
+use Rattle.theory.specs.Extremal.{holdsAll}
 use Rattle.division.specs.Quotient.{quotientTable, quotient}
-use Rattle.congruence.specs.Decompose.{listed, commonPair}
+use Rattle.theory.specs.Decompose.{listed, commonPair}
+use Rattle.theory.specs.Splitting.{Unsplit}
 use Rattle.congruence.specs.Calls.{element, decomposed, decomposeCall, quotientCall}
 use Rattle.congruence.specs.declared.Decomposed.the-variants.{Factors, Irreducible}
 use Rattle.congruence.specs.declared.Divided.the-variants.{Blocks}
@@ -62,16 +63,6 @@ pub record EarliestCongruence (a : Algebra) (v w : ℕ) (m : Map) : Type 0 where
   pub congruence : Congruence a m
   pub maximal : MaximalApart a m v w
   pub earliest : (c : Map) → Congruence a c → ¬ T (holds c v w) → T (notLater (a .size) m c)
-
--- a non-empty list of congruences, none the identity, that meets in the identity
-pub record Splitting (a : Algebra) (ms : List Map) : Type 0 where
-  pub some : 0 < length ms
-  pub each : (i : ℕ) → i < length ms → Congruence a (getD ms i []) × ¬ (getD ms i [] ≡ identity (a .size))
-  pub meets : meetAll (a .size) ms ≡ identity (a .size)
-
--- no such list splits the algebra
-abbrev pub Unsplit : Algebra → Type 0
-Unsplit a = (ms : List Map) → ¬ Splitting a ms
 
 -- Decompose answers 11, with the common pair
 abbrev pub Answers11 : Algebra → Type 0

@@ -1,9 +1,3 @@
-pub mod Extremal
-pub mod Decompose
-pub mod Certify
-pub mod Closures
 pub mod Calls
 pub mod Outcome
 pub mod Demands
-pub mod Listing
-pub mod Gathering

@@ -10,7 +10,7 @@ ghost use Rattle.equivalence.specs.Refusal.{lowest, mapTest, spaceTest};
 ghost use Rattle.algebra.specs.Algebra.{algebraOf, cellCount};
 ghost use Rattle.algebra.specs.Accepted.{algebraTests};
 ghost use Rattle.congruence.specs.Calls.{pairsTest, elementsTest, equalTest, congruenceTest, mapsTest};
-ghost use Rattle.congruence.specs.Listing.{listing};
+ghost use Rattle.listing.specs.Listing.{listing};
 use equivalence::Check;
 use equivalence::Refusal;
 

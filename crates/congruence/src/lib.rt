@@ -2,16 +2,11 @@
 ghost use mathlib.Core.Path.{_≡_};
 ghost use Rattle.algebra.specs.Algebra.{algebraOf};
 ghost use Rattle.congruence.specs.Calls.{decomposeCall, generateCall, containedCall, separateCall, quotientCall, certifyCall};
+use decomposition::Found;
 use equivalence::Check;
 use equivalence::Written;
 
-mod certificate;
 mod checks;
-pub mod extremal;
-mod factor;
-mod gather;
-mod meets;
-mod prune;
 
 // What Generate answers: how many merges made the congruence.
 pub enum Generated {
@@ -110,7 +105,11 @@ pub fn decompose(n: usize, arities: &[u8], cells: &[u8], out: &mut [u8]) -> Deco
     if let Check::Failed(reason) = check {
         return Decomposed::Refused(reason);
     }
-    factor::factors(n, arities, cells, out)
+    let found = decomposition::factors(n, arities, cells, out);
+    match found {
+        Found::Factors(count) => Decomposed::Factors(count),
+        Found::Irreducible(x, y) => Decomposed::Irreducible(x, y),
+    }
 }
 
 // Whether a list of maps, n bytes each, consists of congruences that meet in the identity, none of which can be left out, each maximal for some pair.
@@ -123,7 +122,7 @@ pub fn certify(n: usize, arities: &[u8], cells: &[u8], maps: &[u8]) -> Certified
     if let Check::Failed(reason) = check {
         return Certified::Refused(reason);
     }
-    if certificate::is_certified(n, arities, cells, maps.len() / n, maps) {
+    if certification::is_certified(n, arities, cells, maps.len() / n, maps) {
         return Certified::Yes;
     }
     Certified::No

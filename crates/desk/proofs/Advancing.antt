@@ -7,7 +7,7 @@ use native.Mathlib.Omega.{arith}
 use borrow.Author.Tests.{not-false}
 use borrow.Rule.Slice.PartMut.{putMid}
 use lib.ListN.{length, take, drop, length-append, length-take, length-drop}
-use Rattle.bracket.specs.Promises.{bit}
+use Rattle.reader.specs.Promises.{bit}
 use Rattle.bracket.specs.Transcript.{step}
 use Rattle.bracket.specs.Steps.{stateOf, Lent, Stepping, Begun, Taken}
 use Rattle.bracket.proofs.Calling.{sound-able}

@@ -5,7 +5,7 @@ ghost use mathlib.Core.Path.{_≡_};
 ghost use mathlib.Core.Bool.{not, false};
 ghost use Prim.Native.Nat.{ℕ, _+_, _-_, _≤_, _<_};
 ghost use lib.ListN.{length};
-ghost use Rattle.bracket.specs.Promises.{bit};
+ghost use Rattle.reader.specs.Promises.{bit};
 ghost use Rattle.desk.specs.Running.{Running};
 
 // One byte more than the program takes, so that a longer input shows.

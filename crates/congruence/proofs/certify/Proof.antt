@@ -2,8 +2,7 @@
 use mathlib.Core.Path.{sym, _∙_}
 use native.Mathlib.Omega.{arith}
 use Rattle.algebra.specs.Algebra.{algebraOf}
-use Rattle.congruence.proofs.Certifying.{certify-declined, certify-yes, certify-no}
-use Rattle.congruence.proofs.Serving.{of-certifyTests}
+use Rattle.congruence.proofs.Serving.{of-certifyTests, certify-declined, certify-yes, certify-no}
 use borrow.Author.Needs.{needs}
 use Rattle.congruence.proofs.certify.Statement.{statement}
 use Rattle.congruence.proofs.certify.Tie as tie

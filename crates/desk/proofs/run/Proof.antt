@@ -3,7 +3,7 @@ use Prim.Native.Nat.{_+_, _-_}
 use mathlib.Core.Path.{_≡_, refl}
 use borrow.Author.Needs.{needs}
 use lib.ListN.{length}
-use Rattle.bracket.specs.Promises.{bit}
+use Rattle.reader.specs.Promises.{bit}
 use Rattle.desk.specs.Running.{Running}
 use Rattle.desk.proofs.Advancing.{running-begins, running-less}
 use Rattle.desk.proofs.run.Statement.{statement}

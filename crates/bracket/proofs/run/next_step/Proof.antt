@@ -1,5 +1,5 @@
 -- `run::next_step` meets its contract, by the laws of Stepping.
-use Rattle.bracket.specs.Reading.{ascii}
+use Rattle.reader.specs.Reading.{ascii}
 use Rattle.bracket.proofs.Stepping.{step-asked, step-operation, step-request, operation-room}
 use borrow.Author.Needs.{needs}
 use Rattle.bracket.proofs.run.next_step.Statement.{statement}

@@ -1,5 +1,5 @@
 -- `writing::write_byte` meets its contract, by the laws of Laying.
-use Rattle.bracket.proofs.Laying.{laid-one}
+use Rattle.reader.proofs.Laying.{laid-one}
 use borrow.Author.Needs.{needs}
 use Rattle.bracket.proofs.writing.write_byte.Statement.{statement}
 use Rattle.bracket.proofs.writing.write_byte.Tie as tie

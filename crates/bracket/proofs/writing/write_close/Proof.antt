@@ -1,5 +1,5 @@
 -- `writing::write_close` meets its contract.
-use Rattle.bracket.specs.Reading.{ascii}
+use Rattle.reader.specs.Reading.{ascii}
 use borrow.Author.Needs.{needs}
 use Rattle.bracket.proofs.writing.write_close.Statement.{statement}
 use Rattle.bracket.proofs.writing.write_close.Tie as tie

@@ -1,5 +1,5 @@
 -- `writing::write_refused` meets its contract, by the laws of Spacing.
-use Rattle.bracket.specs.Reading.{ascii}
+use Rattle.reader.specs.Reading.{ascii}
 use Rattle.bracket.proofs.Spacing.{refused-written}
 use borrow.Author.Needs.{needs}
 use Rattle.bracket.proofs.writing.write_refused.Statement.{statement}

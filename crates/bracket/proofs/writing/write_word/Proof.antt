@@ -1,5 +1,5 @@
 -- `writing::write_word` meets its contract, by the laws of Laying.
-use Rattle.bracket.proofs.Laying.{Lettered, lettered-none, lettered-more, lettered-all}
+use Rattle.reader.proofs.Laying.{Lettered, lettered-none, lettered-more, lettered-all}
 use borrow.Author.Needs.{needs}
 use Prim.Native.Nat.{_-_}
 use lib.ListN.{length}

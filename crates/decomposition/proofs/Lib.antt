@@ -1,0 +1,3 @@
+pub mod Gathering
+pub mod Pruning
+pub mod Factoring

@@ -1,0 +1,37 @@
+-- `prune`: the meets of the suffixes, then every map in its turn.
+use native.Mathlib.Omega.{arith}
+use borrow.Author.Needs.{needs}
+use Rattle.decomposition.proofs.prune.prune.Statement.{statement}
+use Rattle.decomposition.proofs.prune.prune.Tie as tie
+
+suffix-meets-requires : tie.Need-suffix-meets-requires
+suffix-meets-requires c κs = search needs
+
+keep-needed-requires : tie.Need-keep-needed-requires
+keep-needed-requires c κs =
+    let p = c .before .before .before .before .before .before .before .before .before .before .before .before .before .before .pre in
+    let w = c .before .before .before .before .before .before .before .suffix-meets in
+    (p .0, (w .ensures, (omega (arith, w .kept .1 .1 .1 .1 .0), (omega (arith, w .kept .1 .1 .1 .0), omega arith))))
+
+same-length : tie.Need-same-length
+same-length c = search needs
+
+same-length-2 : tie.Need-same-length-2
+same-length-2 c = search needs
+
+same-length-3 : tie.Need-same-length-3
+same-length-3 c = search needs
+
+returns : tie.Need-returns
+returns c = search needs
+
+pub prune-spec : {M : Type 1} → statement M
+prune-spec =
+    tie.close
+    (tie.spec
+    suffix-meets-requires
+    keep-needed-requires
+    same-length
+    same-length-2
+    same-length-3
+    returns)

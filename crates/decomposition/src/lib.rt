@@ -1,0 +1,83 @@
+// Decompose of an accepted algebra: congruences are gathered, and those not needed are dropped. Working storage: 63 maps, the meets of 64
+// suffixes, and one meet.
+ghost use mathlib.Core.Path.{_≡_};
+ghost use Prim.Native.Nat.{_-_, _*_, _≤_};
+ghost use lib.ListN.{length};
+ghost use Rattle.algebra.specs.Algebra.{algebraOf};
+ghost use Rattle.algebra.specs.Accepted.{Accepted};
+ghost use Rattle.decomposition.specs.Factored.{Factored};
+use crate::gather::Collected;
+use crate::gather::gather;
+use crate::prune::prune;
+use equivalence::Element;
+
+mod gather;
+mod prune;
+
+// What was found: how many factors there are; or, of an irreducible algebra, the first pair common to all congruences but the identity.
+pub enum Found {
+    Factors(u8),
+    Irreducible(Element, Element),
+}
+
+// `factors` for two elements or more, on lent storage.
+fn factors_in(
+    n: usize,
+    arities: &[u8],
+    cells: &[u8],
+    maps: &mut [u8],
+    suffixes: &mut [u8],
+    met: &mut [u8],
+    out: &mut [u8],
+) -> Found
+    requires { ⌜ Accepted (algebraOf n (now arities) (now cells)) ⌝ }
+    requires { ⌜ 2 ≤ n ⌝ }
+    requires { ⌜ length (now maps) ≡ 4032 ⌝ }
+    requires { ⌜ length (now suffixes) ≡ 4096 ⌝ }
+    requires { ⌜ length (now met) ≡ 64 ⌝ }
+    requires { ⌜ (n - 1) * n ≤ length (now out) ⌝ }
+    ensures { λ r. ⌜ Factored (algebraOf n (now (arities .entry)) (now (cells .entry))) r (now (out .entry)) (now (out .exit)) ⌝ }
+{
+    let found = gather(n, arities, cells, met, maps);
+    match found {
+        Collected::Joined(x, y) => Found::Irreducible(x, y),
+        Collected::All(count) => {
+            let kept = prune(n, count, maps, suffixes, met, out);
+            Found::Factors(kept as u8)
+        }
+    }
+}
+
+// The same, on arrays, whose lengths are known from their types.
+fn factors_on(
+    n: usize,
+    arities: &[u8],
+    cells: &[u8],
+    maps: &mut [u8; 4032],
+    suffixes: &mut [u8; 4096],
+    met: &mut [u8; 64],
+    out: &mut [u8],
+) -> Found
+    requires { ⌜ Accepted (algebraOf n (now arities) (now cells)) ⌝ }
+    requires { ⌜ 2 ≤ n ⌝ }
+    requires { ⌜ (n - 1) * n ≤ length (now out) ⌝ }
+    ensures { λ r. ⌜ Factored (algebraOf n (now (arities .entry)) (now (cells .entry))) r (now (out .entry)) (now (out .exit)) ⌝ }
+{
+    factors_in(n, arities, cells, maps, suffixes, met, out)
+}
+
+// The factors go to the start of out, one map after the other, and their count is the answer; an irreducible algebra is answered with its pair,
+// 0 and 0 for n = 1, and nothing is written.
+pub fn factors(n: usize, arities: &[u8], cells: &[u8], out: &mut [u8]) -> Found
+    requires { ⌜ Accepted (algebraOf n (now arities) (now cells)) ⌝ }
+    requires { ⌜ (n - 1) * n ≤ length (now out) ⌝ }
+    ensures { λ r. ⌜ Factored (algebraOf n (now (arities .entry)) (now (cells .entry))) r (now (out .entry)) (now (out .exit)) ⌝ }
+{
+    if n < 2 {
+        return Found::Irreducible(Element(0), Element(0));
+    }
+    let mut maps = [0u8; 4032];
+    let mut suffixes = [0u8; 4096];
+    let mut met = [0u8; 64];
+    factors_on(n, arities, cells, &mut maps, &mut suffixes, &mut met, out)
+}

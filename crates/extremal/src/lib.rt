@@ -1,0 +1,65 @@
+// The least, the greatest and the earliest congruence of an accepted algebra, written at the start of a lent slice. Bytes past the first n keep their value.
+ghost use mathlib.Core.Path.{_≡_};
+ghost use Prim.Native.Nat.{ℕ, _+_, _-_, _<_, _≤_};
+ghost use lib.Dec.{T};
+ghost use lib.ListN.{length, take};
+ghost use Rattle.equivalence.specs.Equivalence.{byte, isMap, blocks};
+ghost use Rattle.equivalence.specs.Kernel.{Canonical};
+ghost use Rattle.equivalence.specs.Refusal.{written};
+ghost use Rattle.algebra.specs.Algebra.{algebraOf};
+ghost use Rattle.algebra.specs.Accepted.{Accepted};
+ghost use Rattle.theory.specs.Extremal.{generated, extended, contained, separated};
+
+// The least congruence that holds the pairs of a flat list goes to out. How many merges made it.
+pub fn generated_into(n: usize, arities: &[u8], cells: &[u8], pairs: &[u8], out: &mut [u8]) -> u8
+    requires { ⌜ Accepted (algebraOf n (now arities) (now cells)) ⌝ }
+    requires { ⌜ ((i : ℕ) → i < length (now pairs) → byte (now pairs) i < n) ⌝ }
+    requires { ⌜ n ≤ length (now out) ⌝ }
+    ensures { λ _. ⌜ now (out .exit) ≡ written (generated (algebraOf n (now (arities .entry)) (now (cells .entry))) (now (pairs .entry))) (now (out .entry)) ⌝ }
+    ensures { λ r. ⌜ r ≡ n - blocks n (generated (algebraOf n (now (arities .entry)) (now (cells .entry))) (now (pairs .entry))) ⌝ }
+{
+    closure::generate(out, n, arities, cells, pairs) as u8
+}
+
+// The map m becomes the least congruence that holds what m holds, and x and y. How many blocks that cost.
+pub fn extended_into(
+    m: &mut [u8],
+    n: usize,
+    arities: &[u8],
+    cells: &[u8],
+    x: usize,
+    y: usize,
+) -> usize
+    requires { ⌜ Accepted (algebraOf n (now arities) (now cells)) ⌝ }
+    requires { ⌜ n ≤ length (now m) ⌝ }
+    requires { ⌜ Canonical n (byte (now m)) ⌝ }
+    requires { ⌜ x < n ⌝ }
+    requires { ⌜ y < n ⌝ }
+    ensures { λ _. ⌜ now (m .exit) ≡ written (extended (algebraOf n (now (arities .entry)) (now (cells .entry))) (take n (now (m .entry))) x y) (now (m .entry)) ⌝ }
+    ensures { λ r. ⌜ r + blocks n (extended (algebraOf n (now (arities .entry)) (now (cells .entry))) (take n (now (m .entry))) x y) ≡ blocks n (take n (now (m .entry))) ⌝ }
+{
+    closure::extend(m, n, arities, cells, x, y)
+}
+
+// The greatest congruence inside a map goes to out.
+pub fn contained_into(n: usize, arities: &[u8], cells: &[u8], map: &[u8], out: &mut [u8])
+    requires { ⌜ Accepted (algebraOf n (now arities) (now cells)) ⌝ }
+    requires { ⌜ T (isMap n (now map)) ⌝ }
+    requires { ⌜ n ≤ length (now out) ⌝ }
+    ensures { λ _. ⌜ now (out .exit) ≡ written (contained (algebraOf n (now (arities .entry)) (now (cells .entry))) (now (map .entry))) (now (out .entry)) ⌝ }
+{
+    equivalence::blocks::copy(map, out, n);
+    refinement::refine(out, n, arities, cells);
+}
+
+// The earliest congruence that holds v and w apart goes to out.
+pub fn separated_into(n: usize, arities: &[u8], cells: &[u8], v: usize, w: usize, out: &mut [u8])
+    requires { ⌜ Accepted (algebraOf n (now arities) (now cells)) ⌝ }
+    requires { ⌜ v < n ⌝ }
+    requires { ⌜ w < n ⌝ }
+    requires { ⌜ (v ≡ w → ⊥) ⌝ }
+    requires { ⌜ n ≤ length (now out) ⌝ }
+    ensures { λ _. ⌜ now (out .exit) ≡ written (separated (algebraOf n (now (arities .entry)) (now (cells .entry))) v w) (now (out .entry)) ⌝ }
+{
+    separation::separate(n, arities, cells, v, w, out);
+}

@@ -1,0 +1,3 @@
+pub mod Listings
+pub mod ListTests
+pub mod Suffixes

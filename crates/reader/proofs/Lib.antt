@@ -1,0 +1,10 @@
+pub mod Readers
+pub mod Words
+pub mod Digits
+pub mod Laying
+pub mod Storing
+pub mod Listing
+pub mod SpacedNumbers
+pub mod Judging
+pub mod Defining
+pub mod Asking

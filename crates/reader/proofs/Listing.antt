@@ -1,0 +1,131 @@
+-- Any count of items, each after a space, read into storage one by one.
+use Prim.Native.Nat.{ℕ, zero, suc, _+_, _≤_}
+use mathlib.Core.Bool.{Bool, true, false}
+use mathlib.Core.List.{List, [], _++_, append-assoc, append-nil}
+use mathlib.Core.Path.{_≡_, refl, ap, sym, _∙_}
+use native.Mathlib.Omega.{arith}
+use borrow.Author.Tests.{eq-eqb, ne-eqb}
+use lib.ListN.{length}
+use Rattle.reader.specs.Reading.{ascii, Read, found, fault, Reader, byteAt, onward, _>>=_, done, begins}
+use Rattle.reader.specs.Tables.{itemsUpTo, items}
+use Rattle.reader.specs.Promises.{readOf, Laid, Reached, Roomy, Stored}
+use Rattle.reader.specs.declared.reading.Spot.{Spot}
+use Rattle.reader.proofs.Laying.{laid-none, laid-more}
+use Rattle.reader.proofs.Readers.{within-text, then-found, then-fault, opened-body, opened-other}
+use Rattle.reader.proofs.Storing.{spot}
+
+-- a list in front of what a reader found
+abbrev before : List ℕ → Read (List ℕ) → Read (List ℕ)
+before xs r = onward (λ ys next. found (xs ++ ys) next) r
+
+before-none : (r : Read (List ℕ)) → r ≡ before [] r
+unfolding onward
+before-none (found ys next) = refl
+before-none fault = refl
+
+before-twice : (xs ys : List ℕ) (r : Read (List ℕ)) → before xs (before ys r) ≡ before (xs ++ ys) r
+unfolding onward
+before-twice xs ys (found zs next) = ap (λ (l : List ℕ). found l next) (sym (append-assoc xs ys zs))
+before-twice xs ys fault = refl
+
+module _ (item : Reader (List ℕ)) (text : List ℕ) (at : ℕ) where
+  -- no space, no item more
+  items-end : (k : ℕ) → (byteAt text at ≡ 32 → ⊥) → itemsUpTo k item text at ≡ found [] at
+  unfolding itemsUpTo begins ascii
+  items-end zero h = refl
+  items-end (suc k) h =
+      opened-other (ascii " ") (_>>=_ item (λ xs. _>>=_ (itemsUpTo k item) (λ ys. done (xs ++ ys)))) (done []) text at
+      (simp (ne-eqb (byteAt text at) 32 h))
+
+  module _ (h : byteAt text at ≡ 32) (k : ℕ) where
+    items-next : itemsUpTo (suc k) item text at ≡ _>>=_ item (λ xs. _>>=_ (itemsUpTo k item) (λ ys. done (xs ++ ys))) text (at + 1)
+    unfolding itemsUpTo begins ascii
+    items-next =
+        opened-body (ascii " ") (_>>=_ item (λ xs. _>>=_ (itemsUpTo k item) (λ ys. done (xs ++ ys)))) (done []) text at
+        (simp (eq-eqb (byteAt text at) 32 h))
+
+    items-fault : item text (at + 1) ≡ fault → itemsUpTo (suc k) item text at ≡ fault
+    items-fault e = items-next ∙ then-fault item (λ xs. _>>=_ (itemsUpTo k item) (λ ys. done (xs ++ ys))) text (at + 1) e
+
+    items-more : (xs : List ℕ) (next : ℕ) → item text (at + 1) ≡ found xs next → itemsUpTo (suc k) item text at ≡ before xs (itemsUpTo k item text next)
+    unfolding _>>=_
+    items-more xs next e = items-next ∙ then-found item (λ xs. _>>=_ (itemsUpTo k item) (λ ys. done (xs ++ ys))) text (at + 1) xs next e
+
+-- some items are read, from `at` to `next`, and stored, from `put` to `so-far`; `fuel` bounds how many may follow
+pub record Listed (text : List ℕ) (at : ℕ) (lent : List ℕ) (put : ℕ) (item : Reader (List ℕ)) (cells : List ℕ) (next so-far : ℕ) : Type 0 where
+  pub new : List ℕ
+  pub fuel : ℕ
+  pub enough : length text ≤ fuel + next
+  pub value : items item text at ≡ before new (itemsUpTo fuel item text next)
+  pub laid : Laid lent put new cells so-far
+  pub reached : Reached text at next
+  pub paced : so-far + at ≤ put + next
+
+module _ (text : List ℕ) (at : ℕ) (lent : List ℕ) (put : ℕ) (item : Reader (List ℕ)) where
+  pub listed-none : Roomy text at lent put → Listed text at lent put item lent at put
+  unfolding items
+  listed-none w =
+      record {
+        new = [];
+        fuel = length text;
+        enough = omega arith;
+        value = before-none (itemsUpTo (length text) item text at);
+        laid = laid-none lent put (omega arith);
+        reached = omega arith;
+        paced = omega arith;
+      }
+
+  module _ (cells : List ℕ) (next so-far : ℕ) (l : Listed text at lent put item cells next so-far) (b : ℕ) (eb : b ≡ byteAt text next) where
+    pub listed-all : (b ≡ 32 → ⊥) → Stored text at lent put (items item text at) cells (spot true next so-far)
+    unfolding onward
+    listed-all h =
+        record {
+          new = l .new;
+          value =
+              l .value ∙ ap (before (l .new)) (items-end item text next (l .fuel) (λ g. h (eb ∙ g)))
+              ∙ ap (λ (x : List ℕ). found x next) (append-nil (l .new));
+          laid = l .laid;
+          reached = l .reached;
+          paced = l .paced;
+        }
+
+    module _ (h : b ≡ 32) (after : List ℕ) (r : Spot) (s : Stored text (next + 1) cells so-far (item text (next + 1)) after r) where
+      -- an item is left to read, so the fuel is not used up
+      fuel-left : (k : ℕ) × (l .fuel ≡ suc k)
+      fuel-left = go (l .fuel) (l .enough)
+        where
+          go : (f : ℕ) → length text ≤ f + next → (k : ℕ) × (f ≡ suc k)
+          go zero e = absurd (omega (arith, within-text text next (omega arith)))
+          go (suc k) e = (k, refl)
+
+      pub listed-fault : r .ok ≡ false → Stored text at lent put (items item text at) after (spot false (r .at) (r .put))
+      unfolding onward
+      listed-fault e =
+          record {
+            new = l .new ++ s .new;
+            value =
+                l .value
+                ∙ ap (before (l .new))
+                (ap (λ (k : ℕ). itemsUpTo k item text next) (fuel-left .1)
+                ∙ items-fault item text next (sym eb ∙ h) (fuel-left .0) (s .value ∙ ap (λ (o : Bool). readOf o (s .new) (r .at)) e));
+            laid = laid-more lent put (l .new) cells so-far (s .new) after (r .put) (l .laid) (s .laid);
+            reached = omega (arith, s .reached, l .reached);
+            paced = omega (arith, s .paced, l .paced);
+          }
+
+      pub listed-more : r .ok ≡ true → Listed text at lent put item after (r .at) (r .put)
+      listed-more e =
+          record {
+            new = l .new ++ s .new;
+            fuel = fuel-left .0;
+            enough = omega (arith, l .enough, fuel-left .1, s .reached .past);
+            value =
+                l .value
+                ∙ ap (before (l .new))
+                (ap (λ (k : ℕ). itemsUpTo k item text next) (fuel-left .1)
+                ∙ items-more item text next (sym eb ∙ h) (fuel-left .0) (s .new) (r .at) (s .value ∙ ap (λ (o : Bool). readOf o (s .new) (r .at)) e))
+                ∙ before-twice (l .new) (s .new) (itemsUpTo (fuel-left .0) item text (r .at));
+            laid = laid-more lent put (l .new) cells so-far (s .new) after (r .put) (l .laid) (s .laid);
+            reached = omega (arith, s .reached, l .reached);
+            paced = omega (arith, s .paced, l .paced);
+          }

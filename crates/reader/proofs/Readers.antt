@@ -1,0 +1,53 @@
+-- Readers one after another: what the first finds decides what the second is asked.
+use Prim.Native.Nat.{ℕ, _+_, _<_}
+use Prim.Native.Char.{Char, code}
+use mathlib.Core.Bool.{true, false}
+use mathlib.Core.List.{List}
+use mathlib.Core.Path.{_≡_}
+use native.Mathlib.Decide.{decLt}
+use native.Mathlib.Omega.{arith}
+use borrow.Author.Tests.{eq-eqb, ne-eqb}
+use lib.ListN.{length, List·getD-eq-default}
+use Rattle.reader.specs.Reading.{Reader, found, fault, byteAt, onward, _>>=_, _>>_, mark, begins, opened}
+
+-- past the end no byte but 0 stands
+pub within-text : (text : List ℕ) (at : ℕ) → 0 < byteAt text at → at < length text
+within-text text at h =
+    elim (decLt at (length text)) [
+      | yes l ↦ l
+      | no l ↦ absurd (omega (arith, List·getD-eq-default text 0 {n = at} (omega arith)))
+    ]
+
+module _ {A B : Type 0} (first : Reader A) (next : A → Reader B) (text : List ℕ) (at : ℕ) where
+  pub then-found : (a : A) (after : ℕ) → first text at ≡ found a after → _>>=_ first next text at ≡ next a text after
+  unfolding _>>=_ onward
+  then-found a after e = rw e
+
+  pub then-fault : first text at ≡ fault → _>>=_ first next text at ≡ fault
+  unfolding _>>=_ onward
+  then-fault e = rw e
+
+module _ (c : Char) (text : List ℕ) (at : ℕ) where
+  pub mark-found : byteAt text at ≡ code c → mark c text at ≡ found tt (at + 1)
+  unfolding mark
+  mark-found e = simp (mark, eq-eqb (byteAt text at) (code c) e)
+
+  pub mark-fault : (byteAt text at ≡ code c → ⊥) → mark c text at ≡ fault
+  unfolding mark
+  mark-fault e = simp (mark, ne-eqb (byteAt text at) (code c) e)
+
+  -- a byte and then more
+  pub marked : {B : Type 0} (next : Reader B) → byteAt text at ≡ code c → _>>_ (mark c) next text at ≡ next text (at + 1)
+  marked next e = then-found (mark c) (λ _. next) text at tt (at + 1) (mark-found e)
+
+  pub unmarked : {B : Type 0} (next : Reader B) → (byteAt text at ≡ code c → ⊥) → _>>_ (mark c) next text at ≡ fault
+  unmarked next e = then-fault (mark c) (λ _. next) text at (mark-fault e)
+
+module _ {A : Type 0} (word : List ℕ) (body other : Reader A) (text : List ℕ) (at : ℕ) where
+  pub opened-body : begins text at word ≡ true → opened word body other text at ≡ body text (at + length word)
+  unfolding opened
+  opened-body e = simp (opened, e)
+
+  pub opened-other : begins text at word ≡ false → opened word body other text at ≡ other text at
+  unfolding opened
+  opened-other e = simp (opened, e)

@@ -1,0 +1,28 @@
+-- `lines::read_arity` meets its contract, by the laws of SpacedNumbers.
+use Rattle.reader.proofs.SpacedNumbers.{arity-missing, arity-unparted, arity-read}
+use borrow.Author.Needs.{needs}
+use Rattle.reader.proofs.lines.read_arity.Statement.{statement}
+use Rattle.reader.proofs.lines.read_arity.Tie as tie
+
+read-spaced-number-requires : tie.Need-read-spaced-number-requires
+read-spaced-number-requires c κs = search needs
+
+returns : tie.Need-returns
+returns c = search arity-missing
+
+byte-at-requires : tie.Need-byte-at-requires
+byte-at-requires c κs = search needs
+
+returns-2 : tie.Need-returns-2
+returns-2 c = search arity-unparted
+
+add-t7 : tie.Need-add-t7
+add-t7 c = search needs
+
+returns-3 : tie.Need-returns-3
+returns-3 c = search arity-read
+
+pub read-arity-spec : {M : Type 1} → statement M
+read-arity-spec =
+    tie.close
+    (tie.spec read-spaced-number-requires returns byte-at-requires returns-2 add-t7 returns-3)

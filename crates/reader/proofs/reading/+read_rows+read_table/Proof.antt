@@ -1,0 +1,391 @@
+-- `reading::read_rows` and `reading::read_table` meet their contracts, by the laws of Readers and Storing.
+use denote.Ref.{now}
+use Rattle.reader.proofs.Readers.{within-text}
+use borrow.Author.Needs.{needs}
+use borrow.Author.Tests.{not-true, not-false}
+use native.Mathlib.Omega.{arith}
+use lib.ListN.{length}
+use Rattle.reader.proofs.Storing.{part-less, rows-fault, rows-last, rows-unparted, rows-more, table-cell, table-unopened, table-fault, table-unclosed, table-closed}
+use Prim.Native.Nat.{ℕ, _+_, _-_, _*_, _<_}
+use borrow.Fn.Kinds.{In}
+use borrow.Fn.PlainCycle.{Measures, is, falls, and}
+use Rattle.reader.proofs.reading.read_rows.Reads as read-rows
+use Rattle.reader.proofs.reading.read_rows.Kinds as read-rows-kinds
+use Rattle.reader.proofs.reading.+read_rows+read_table.Lts-read_rows as read-rows-lts
+use Rattle.reader.proofs.reading.read_table.Reads as read-table
+use Rattle.reader.proofs.reading.read_table.Kinds as read-table-kinds
+use Rattle.reader.proofs.reading.+read_rows+read_table.Lts-read_table as read-table-lts
+use Rattle.reader.proofs.reading.byte_at.Reads as byte-at-reads
+use Rattle.reader.proofs.reading.read_cell.Reads as read-cell-reads
+use Rattle.reader.proofs.reading.+read_rows+read_table.{statement}
+use Rattle.reader.proofs.reading.+read_rows+read_table.Tie.{close}
+
+abbrev μ-read-rows : Measures 2 read-rows-kinds.ps ℕ
+μ-read-rows κs a = a .1 .1 .0 * (length (a .0 .now) + 1) + (length (a .0 .now) - a .1 .0)
+
+abbrev μ-read-table : Measures 2 read-table-kinds.ps ℕ
+μ-read-table κs a = a .1 .1 .0 * (length (a .0 .now) + 1) + (length (a .0 .now) - a .1 .0)
+
+abbrev read-rows-at : ℕ → In 2 read-rows-kinds.ps
+read-rows-at t = and 2 read-rows-kinds.ps (is 2 read-rows-kinds.ps μ-read-rows t) read-rows.Pre
+
+abbrev read-rows-below : ℕ → In 2 read-rows-kinds.ps
+read-rows-below t =
+    and 2 read-rows-kinds.ps (falls 2 read-rows-kinds.ps _<_ μ-read-rows t) read-rows.Pre
+
+abbrev read-table-at : ℕ → In 2 read-table-kinds.ps
+read-table-at t =
+    and 2 read-table-kinds.ps (is 2 read-table-kinds.ps μ-read-table t) read-table.Pre
+
+abbrev read-table-below : ℕ → In 2 read-table-kinds.ps
+read-table-below t =
+    and 2 read-table-kinds.ps (falls 2 read-table-kinds.ps _<_ μ-read-table t) read-table.Pre
+
+read-rows-sub-read-table : (t : ℕ) → read-rows-lts.Need-sub-read-table (
+  read-table-below t,
+  read-table.Post,
+  byte-at-reads.Asked,
+  byte-at-reads.Learnt,
+  read-rows-below t,
+  read-rows.Post,
+) (read-rows-at t) read-rows.Post
+read-rows-sub-read-table t c = search needs
+
+read-rows-read-table-requires : (t : ℕ) → read-rows-lts.Need-read-table-requires (
+  read-table-below t,
+  read-table.Post,
+  byte-at-reads.Asked,
+  byte-at-reads.Learnt,
+  read-rows-below t,
+  read-rows.Post,
+) (read-rows-at t) read-rows.Post
+read-rows-read-table-requires t c κs =
+    let a = c .before .before .before .args in
+    (omega (arith, part-less (a .arity) (length (now (a .text)) + 1) (omega arith)), search needs)
+
+read-rows-same-length : (t : ℕ) → read-rows-lts.Need-same-length (
+  read-table-below t,
+  read-table.Post,
+  byte-at-reads.Asked,
+  byte-at-reads.Learnt,
+  read-rows-below t,
+  read-rows.Post,
+) (read-rows-at t) read-rows.Post
+read-rows-same-length t c = search needs
+
+read-rows-returns : (t : ℕ) → read-rows-lts.Need-returns (
+  read-table-below t,
+  read-table.Post,
+  byte-at-reads.Asked,
+  byte-at-reads.Learnt,
+  read-rows-below t,
+  read-rows.Post,
+) (read-rows-at t) read-rows.Post
+read-rows-returns t c = search (rows-fault, not-true)
+
+read-rows-same-length-2 : (t : ℕ) → read-rows-lts.Need-same-length-2 (
+  read-table-below t,
+  read-table.Post,
+  byte-at-reads.Asked,
+  byte-at-reads.Learnt,
+  read-rows-below t,
+  read-rows.Post,
+) (read-rows-at t) read-rows.Post
+read-rows-same-length-2 t c = search needs
+
+read-rows-returns-2 : (t : ℕ) → read-rows-lts.Need-returns-2 (
+  read-table-below t,
+  read-table.Post,
+  byte-at-reads.Asked,
+  byte-at-reads.Learnt,
+  read-rows-below t,
+  read-rows.Post,
+) (read-rows-at t) read-rows.Post
+read-rows-returns-2 t c = search (rows-last, not-false)
+
+read-rows-byte-at-requires : (t : ℕ) → read-rows-lts.Need-byte-at-requires (
+  read-table-below t,
+  read-table.Post,
+  byte-at-reads.Asked,
+  byte-at-reads.Learnt,
+  read-rows-below t,
+  read-rows.Post,
+) (read-rows-at t) read-rows.Post
+read-rows-byte-at-requires t c κs = search needs
+
+read-rows-same-length-3 : (t : ℕ) → read-rows-lts.Need-same-length-3 (
+  read-table-below t,
+  read-table.Post,
+  byte-at-reads.Asked,
+  byte-at-reads.Learnt,
+  read-rows-below t,
+  read-rows.Post,
+) (read-rows-at t) read-rows.Post
+read-rows-same-length-3 t c = search needs
+
+read-rows-returns-3 : (t : ℕ) → read-rows-lts.Need-returns-3 (
+  read-table-below t,
+  read-table.Post,
+  byte-at-reads.Asked,
+  byte-at-reads.Learnt,
+  read-rows-below t,
+  read-rows.Post,
+) (read-rows-at t) read-rows.Post
+read-rows-returns-3 t c = search (rows-unparted, not-false)
+
+read-rows-add-read-rows : (t : ℕ) → read-rows-lts.Need-add-read-rows (
+  read-table-below t,
+  read-table.Post,
+  byte-at-reads.Asked,
+  byte-at-reads.Learnt,
+  read-rows-below t,
+  read-rows.Post,
+) (read-rows-at t) read-rows.Post
+read-rows-add-read-rows t c = search needs
+
+read-rows-sub-read-rows : (t : ℕ) → read-rows-lts.Need-sub-read-rows (
+  read-table-below t,
+  read-table.Post,
+  byte-at-reads.Asked,
+  byte-at-reads.Learnt,
+  read-rows-below t,
+  read-rows.Post,
+) (read-rows-at t) read-rows.Post
+read-rows-sub-read-rows t c = search needs
+
+read-rows-read-rows-requires : (t : ℕ) → read-rows-lts.Need-read-rows-requires (
+  read-table-below t,
+  read-table.Post,
+  byte-at-reads.Asked,
+  byte-at-reads.Learnt,
+  read-rows-below t,
+  read-rows.Post,
+) (read-rows-at t) read-rows.Post
+read-rows-read-rows-requires t c κs =
+    let k = c .before .before .before .before .before .before .before .before in
+    let l = within-text (now (k .before .before .before .before .args .text)) (k .read-table .result .at) (omega arith) in
+    omega arith
+
+read-rows-same-length-4 : (t : ℕ) → read-rows-lts.Need-same-length-4 (
+  read-table-below t,
+  read-table.Post,
+  byte-at-reads.Asked,
+  byte-at-reads.Learnt,
+  read-rows-below t,
+  read-rows.Post,
+) (read-rows-at t) read-rows.Post
+read-rows-same-length-4 t c = search needs
+
+read-rows-returns-4 : (t : ℕ) → read-rows-lts.Need-returns-4 (
+  read-table-below t,
+  read-table.Post,
+  byte-at-reads.Asked,
+  byte-at-reads.Learnt,
+  read-rows-below t,
+  read-rows.Post,
+) (read-rows-at t) read-rows.Post
+read-rows-returns-4 t c = search (rows-more, not-false)
+
+read-table-read-cell-requires : (t : ℕ) → read-table-lts.Need-read-cell-requires (
+  read-cell-reads.Asked,
+  read-cell-reads.Learnt,
+  byte-at-reads.Asked,
+  byte-at-reads.Learnt,
+  read-rows-below t,
+  read-rows.Post,
+) (read-table-at t) read-table.Post
+read-table-read-cell-requires t c κs = search needs
+
+read-table-same-length : (t : ℕ) → read-table-lts.Need-same-length (
+  read-cell-reads.Asked,
+  read-cell-reads.Learnt,
+  byte-at-reads.Asked,
+  byte-at-reads.Learnt,
+  read-rows-below t,
+  read-rows.Post,
+) (read-table-at t) read-table.Post
+read-table-same-length t c = search needs
+
+read-table-returns : (t : ℕ) → read-table-lts.Need-returns (
+  read-cell-reads.Asked,
+  read-cell-reads.Learnt,
+  byte-at-reads.Asked,
+  byte-at-reads.Learnt,
+  read-rows-below t,
+  read-rows.Post,
+) (read-table-at t) read-table.Post
+read-table-returns t c = search table-cell
+
+read-table-byte-at-requires : (t : ℕ) → read-table-lts.Need-byte-at-requires (
+  read-cell-reads.Asked,
+  read-cell-reads.Learnt,
+  byte-at-reads.Asked,
+  byte-at-reads.Learnt,
+  read-rows-below t,
+  read-rows.Post,
+) (read-table-at t) read-table.Post
+read-table-byte-at-requires t c κs = search needs
+
+read-table-returns-2 : (t : ℕ) → read-table-lts.Need-returns-2 (
+  read-cell-reads.Asked,
+  read-cell-reads.Learnt,
+  byte-at-reads.Asked,
+  byte-at-reads.Learnt,
+  read-rows-below t,
+  read-rows.Post,
+) (read-table-at t) read-table.Post
+read-table-returns-2 t c = search table-unopened
+
+read-table-add-read-rows : (t : ℕ) → read-table-lts.Need-add-read-rows (
+  read-cell-reads.Asked,
+  read-cell-reads.Learnt,
+  byte-at-reads.Asked,
+  byte-at-reads.Learnt,
+  read-rows-below t,
+  read-rows.Post,
+) (read-table-at t) read-table.Post
+read-table-add-read-rows t c = search needs
+
+read-table-read-rows-requires : (t : ℕ) → read-table-lts.Need-read-rows-requires (
+  read-cell-reads.Asked,
+  read-cell-reads.Learnt,
+  byte-at-reads.Asked,
+  byte-at-reads.Learnt,
+  read-rows-below t,
+  read-rows.Post,
+) (read-table-at t) read-table.Post
+read-table-read-rows-requires t c κs =
+    let a = c .before .before .before .before .before .before .args in
+    let l = within-text (now (a .text)) (a .at) (omega arith) in
+    omega arith
+
+read-table-same-length-2 : (t : ℕ) → read-table-lts.Need-same-length-2 (
+  read-cell-reads.Asked,
+  read-cell-reads.Learnt,
+  byte-at-reads.Asked,
+  byte-at-reads.Learnt,
+  read-rows-below t,
+  read-rows.Post,
+) (read-table-at t) read-table.Post
+read-table-same-length-2 t c = search needs
+
+read-table-returns-3 : (t : ℕ) → read-table-lts.Need-returns-3 (
+  read-cell-reads.Asked,
+  read-cell-reads.Learnt,
+  byte-at-reads.Asked,
+  byte-at-reads.Learnt,
+  read-rows-below t,
+  read-rows.Post,
+) (read-table-at t) read-table.Post
+read-table-returns-3 t c = search (table-fault, not-true)
+
+read-table-byte-at-requires-2 : (t : ℕ) → read-table-lts.Need-byte-at-requires-2 (
+  read-cell-reads.Asked,
+  read-cell-reads.Learnt,
+  byte-at-reads.Asked,
+  byte-at-reads.Learnt,
+  read-rows-below t,
+  read-rows.Post,
+) (read-table-at t) read-table.Post
+read-table-byte-at-requires-2 t c κs = search needs
+
+read-table-same-length-3 : (t : ℕ) → read-table-lts.Need-same-length-3 (
+  read-cell-reads.Asked,
+  read-cell-reads.Learnt,
+  byte-at-reads.Asked,
+  byte-at-reads.Learnt,
+  read-rows-below t,
+  read-rows.Post,
+) (read-table-at t) read-table.Post
+read-table-same-length-3 t c = search needs
+
+read-table-returns-4 : (t : ℕ) → read-table-lts.Need-returns-4 (
+  read-cell-reads.Asked,
+  read-cell-reads.Learnt,
+  byte-at-reads.Asked,
+  byte-at-reads.Learnt,
+  read-rows-below t,
+  read-rows.Post,
+) (read-table-at t) read-table.Post
+read-table-returns-4 t c = search (table-unclosed, not-false)
+
+read-table-add-t14 : (t : ℕ) → read-table-lts.Need-add-t14 (
+  read-cell-reads.Asked,
+  read-cell-reads.Learnt,
+  byte-at-reads.Asked,
+  byte-at-reads.Learnt,
+  read-rows-below t,
+  read-rows.Post,
+) (read-table-at t) read-table.Post
+read-table-add-t14 t c = search needs
+
+read-table-same-length-4 : (t : ℕ) → read-table-lts.Need-same-length-4 (
+  read-cell-reads.Asked,
+  read-cell-reads.Learnt,
+  byte-at-reads.Asked,
+  byte-at-reads.Learnt,
+  read-rows-below t,
+  read-rows.Post,
+) (read-table-at t) read-table.Post
+read-table-same-length-4 t c = search needs
+
+read-table-returns-5 : (t : ℕ) → read-table-lts.Need-returns-5 (
+  read-cell-reads.Asked,
+  read-cell-reads.Learnt,
+  byte-at-reads.Asked,
+  byte-at-reads.Learnt,
+  read-rows-below t,
+  read-rows.Post,
+) (read-table-at t) read-table.Post
+read-table-returns-5 t c = search (table-closed, not-false)
+
+pub +read-rows+read-table-spec : {M : Type 1} → statement M
++read-rows+read-table-spec = close μ-read-rows μ-read-table (λ t. read-rows-lts.spec (
+  read-table-below t,
+  read-table.Post,
+  byte-at-reads.Asked,
+  byte-at-reads.Learnt,
+  read-rows-below t,
+  read-rows.Post,
+)
+    (read-rows-at t)
+    read-rows.Post
+    (read-rows-sub-read-table t)
+    (read-rows-read-table-requires t)
+    (read-rows-same-length t)
+    (read-rows-returns t)
+    (read-rows-same-length-2 t)
+    (read-rows-returns-2 t)
+    (read-rows-byte-at-requires t)
+    (read-rows-same-length-3 t)
+    (read-rows-returns-3 t)
+    (read-rows-add-read-rows t)
+    (read-rows-sub-read-rows t)
+    (read-rows-read-rows-requires t)
+    (read-rows-same-length-4 t)
+    (read-rows-returns-4 t))
+    λ t. read-table-lts.spec (
+      read-cell-reads.Asked,
+      read-cell-reads.Learnt,
+      byte-at-reads.Asked,
+      byte-at-reads.Learnt,
+      read-rows-below t,
+      read-rows.Post,
+    )
+    (read-table-at t)
+    read-table.Post
+    (read-table-read-cell-requires t)
+    (read-table-same-length t)
+    (read-table-returns t)
+    (read-table-byte-at-requires t)
+    (read-table-returns-2 t)
+    (read-table-add-read-rows t)
+    (read-table-read-rows-requires t)
+    (read-table-same-length-2 t)
+    (read-table-returns-3 t)
+    (read-table-byte-at-requires-2 t)
+    (read-table-same-length-3 t)
+    (read-table-returns-4 t)
+    (read-table-add-t14 t)
+    (read-table-same-length-4 t)
+    (read-table-returns-5 t)

@@ -1,0 +1,5 @@
+pub mod Reading
+pub mod Numbers
+pub mod Tables
+pub mod Lines
+pub mod Promises

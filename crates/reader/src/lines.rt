@@ -1,0 +1,206 @@
+// Reading the lines of an algebra: its size line and its operation lines.
+use crate::reading::Number;
+use crate::reading::begins_with;
+use crate::reading::byte_at;
+use crate::reading::read_number;
+use crate::reading::read_table;
+ghost use mathlib.Core.Path.{_≡_};
+ghost use Prim.Native.Nat.{ℕ, _+_, _^_, _≤_, _<_};
+ghost use lib.ListN.{length};
+ghost use lib.Dec.{ltb};
+ghost use Rattle.equivalence.specs.Lists.{every};
+ghost use Rattle.equivalence.specs.Refusal.{lowest};
+ghost use Rattle.reader.specs.Lines.{spacedNumber, sizeLine, arity, operationTests};
+ghost use Rattle.reader.specs.Promises.{passing, NumberRead, Roomy, TableRead, OperationRead};
+
+// What an operation line came to: its arity, the place after it, and how many cells there are with its own; or a refusal.
+pub struct OperationLine {
+    pub check: equivalence::Check,
+    pub arity: u8,
+    pub next: usize,
+    pub cells: usize,
+}
+
+// A number after a space.
+pub fn read_spaced_number(text: &[u8], at: usize) -> Number
+    requires { ⌜ at ≤ length (now text) ⌝ }
+    ensures { λ r. ⌜ NumberRead (now (text .entry)) at (spacedNumber (now (text .entry)) at) r ⌝ }
+{
+    if byte_at(text, at) != b' ' {
+        return Number {
+            ok: false,
+            value: 0,
+            next: at,
+        };
+    }
+    read_number(text, at + 1)
+}
+
+// The size line: `[size 4]`.
+pub fn read_size(text: &[u8], at: usize) -> Number
+    requires { ⌜ at ≤ length (now text) ⌝ }
+    ensures { λ r. ⌜ NumberRead (now (text .entry)) at (sizeLine (now (text .entry)) at) r ⌝ }
+{
+    let none = Number {
+        ok: false,
+        value: 0,
+        next: at,
+    };
+    if !begins_with(text, at, b"[size") {
+        return none;
+    }
+    let n = read_spaced_number(text, at + 5);
+    let after = n.next;
+    if !n.ok {
+        return none;
+    }
+    if !begins_with(text, after, b"]\n") {
+        return none;
+    }
+    Number {
+        ok: true,
+        value: n.value,
+        next: after + 2,
+    }
+}
+
+// The arity of an operation line and the space after it.
+fn read_arity(text: &[u8], at: usize) -> Number
+    requires { ⌜ at ≤ length (now text) ⌝ }
+    ensures { λ r. ⌜ NumberRead (now (text .entry)) at (arity (now (text .entry)) at) r ⌝ }
+{
+    let s = read_spaced_number(text, at);
+    let after = s.next;
+    if !s.ok {
+        return s;
+    }
+    if byte_at(text, after) != b' ' {
+        return Number {
+            ok: false,
+            value: 0,
+            next: at,
+        };
+    }
+    Number {
+        ok: true,
+        value: s.value,
+        next: after + 1,
+    }
+}
+
+// Reasons 2, 3 and 4 for an operation of arity s behind so many operations with so many cells.
+fn check_operation(n: u8, operations: usize, cells: usize, s: u8) -> equivalence::Check
+    requires { ⌜ (n ≤ 64) × ((operations ≤ 16) × (cells < 2 ^ 63)) ⌝ }
+    ensures { λ r. ⌜ r ≡ lowest (operationTests n operations cells s) ⌝ }
+    ensures few { λ r. ⌜ operations + passing r ≤ 16 ⌝ }
+{
+    if 16 < operations + 1 {
+        return equivalence::Check::Failed(equivalence::Refusal::Operations);
+    }
+    if 3 < s {
+        return equivalence::Check::Failed(equivalence::Refusal::Arity);
+    }
+    if 32768 < cells + algebra::power(n as usize, s as usize) {
+        return equivalence::Check::Failed(equivalence::Refusal::Cells);
+    }
+    equivalence::Check::Passed
+}
+
+// Whether every cell is below n.
+fn all_below(cells: &[u8], n: u8) -> bool
+    ensures { λ r. ⌜ r ≡ every (λ c. ltb c n) (now (cells .entry)) ⌝ }
+{
+    let mut i = 0;
+    while i < cells.len() {
+        if n <= cells[i] {
+            return false;
+        }
+        i += 1;
+    }
+    true
+}
+
+// The table of an operation line, to the line's end: 14, then 6.
+fn read_last_table(
+    text: &[u8],
+    at: usize,
+    s: u8,
+    n: u8,
+    cells: &mut [u8],
+    put: usize,
+) -> OperationLine
+    requires { ⌜ Roomy (now text) at (now cells) put ⌝ }
+    requires { ⌜ 0 < n ⌝ }
+    ensures { λ r. ⌜ TableRead (now (text .entry)) at s n (now (cells .entry)) put (now (cells .exit)) r ⌝ }
+{
+    let table = read_table(text, at, s, n, cells, put);
+    let next = table.at;
+    let end = table.put;
+    if !table.ok {
+        return OperationLine {
+            check: equivalence::Check::Failed(equivalence::Refusal::Text),
+            arity: s,
+            next: at,
+            cells: put,
+        };
+    }
+    if !begins_with(text, next, b"]\n") {
+        return OperationLine {
+            check: equivalence::Check::Failed(equivalence::Refusal::Text),
+            arity: s,
+            next: at,
+            cells: put,
+        };
+    }
+    if !all_below(&cells[put..end], n) {
+        return OperationLine {
+            check: equivalence::Check::Failed(equivalence::Refusal::Cell),
+            arity: s,
+            next: at,
+            cells: put,
+        };
+    }
+    OperationLine {
+        check: equivalence::Check::Passed,
+        arity: s,
+        next: next + 2,
+        cells: end,
+    }
+}
+
+// The rest of an operation line behind `[op`: 14 in its arity, then 2, 3 or 4, then 14 and 6 in its table.
+pub fn read_operation(
+    text: &[u8],
+    at: usize,
+    n: u8,
+    operations: usize,
+    cells: &mut [u8],
+    put: usize,
+) -> OperationLine
+    requires { ⌜ Roomy (now text) at (now cells) put ⌝ }
+    requires { ⌜ (0 < n) × ((n ≤ 64) × (operations ≤ 16)) ⌝ }
+    ensures { λ r. ⌜ OperationRead (now (text .entry)) at n operations (now (cells .entry)) put (now (cells .exit)) r ⌝ }
+    ensures few { λ r. ⌜ operations + passing (r .check) ≤ 16 ⌝ }
+{
+    let s = read_arity(text, at);
+    let arity = s.value;
+    let after = s.next;
+    if !s.ok {
+        return OperationLine {
+            check: equivalence::Check::Failed(equivalence::Refusal::Text),
+            arity,
+            next: at,
+            cells: put,
+        };
+    }
+    let check = check_operation(n, operations, put, arity);
+    if let equivalence::Check::Failed(r) = check {
+        return OperationLine {
+            check: equivalence::Check::Failed(r),
+            arity,
+            next: at,
+            cells: put,
+        };
+    }
+    read_last_table(text, after, arity, n, cells, put)
+}

@@ -1,0 +1,229 @@
+// Reading bracket text by places. Past the end of a text every byte counts as 0, which no form has.
+ghost use mathlib.Core.Path.{_≡_};
+ghost use Prim.Native.Nat.{ℕ, _+_, _-_, _≤_, _<_};
+ghost use lib.ListN.{length};
+ghost use Rattle.reader.specs.Reading.{byteAt, begins};
+ghost use Rattle.reader.specs.Numbers.{digitAt, number};
+ghost use Rattle.reader.specs.Tables.{cell, table, parted, items};
+ghost use Rattle.reader.specs.Promises.{NumberRead, Roomy, Stored};
+
+// A number that was read, and the place after it; where `ok` is false, nothing.
+pub struct Number {
+    pub ok: bool,
+    pub value: u8,
+    pub next: usize,
+}
+
+// Where a reader that stores what it reads stands: whether all was well, the next place in the text, and the next in the storage.
+pub struct Spot {
+    pub ok: bool,
+    pub at: usize,
+    pub put: usize,
+}
+
+// The byte at a place, or 0 past the end.
+pub fn byte_at(text: &[u8], at: usize) -> u8
+    ensures { λ r. ⌜ r ≡ byteAt (now (text .entry)) at ⌝ }
+{
+    if at < text.len() { text[at] } else { 0 }
+}
+
+// The value of the digit at a place, or 10 where another byte stands.
+fn digit_at(text: &[u8], at: usize) -> u8
+    ensures { λ r. ⌜ r ≡ digitAt (now (text .entry)) at ⌝ }
+{
+    let b = byte_at(text, at);
+    if b < 48 {
+        return 10;
+    }
+    if 57 < b {
+        return 10;
+    }
+    b - 48
+}
+
+// Whether the bytes of a word stand from a place on.
+pub fn begins_with(text: &[u8], at: usize, word: &[u8]) -> bool
+    requires { ⌜ at ≤ length (now text) ⌝ }
+    ensures { λ r. ⌜ r ≡ begins (now (text .entry)) at (now (word .entry)) ⌝ }
+{
+    let mut i = 0;
+    while i < word.len() {
+        if byte_at(text, at + i) != word[i] {
+            return false;
+        }
+        i += 1;
+    }
+    true
+}
+
+// A number from 0 to 255 without leading zeros.
+pub fn read_number(text: &[u8], at: usize) -> Number
+    requires { ⌜ at ≤ length (now text) ⌝ }
+    ensures { λ r. ⌜ NumberRead (now (text .entry)) at (number (now (text .entry)) at) r ⌝ }
+{
+    let none = Number {
+        ok: false,
+        value: 0,
+        next: at,
+    };
+    let a = digit_at(text, at);
+    if 9 < a {
+        return none;
+    }
+    if a == 0 {
+        return Number {
+            ok: true,
+            value: 0,
+            next: at + 1,
+        };
+    }
+    let b = digit_at(text, at + 1);
+    if 9 < b {
+        return Number {
+            ok: true,
+            value: a,
+            next: at + 1,
+        };
+    }
+    let c = digit_at(text, at + 2);
+    let two = 10 * a + b;
+    if 9 < c {
+        return Number {
+            ok: true,
+            value: two,
+            next: at + 2,
+        };
+    }
+    let three = 10 * (two as u16) + c as u16;
+    if 255 < three {
+        return none;
+    }
+    Number {
+        ok: true,
+        value: three as u8,
+        next: at + 3,
+    }
+}
+
+// A number, stored as one byte. The storage has room for as many bytes as the text has left.
+fn read_cell(text: &[u8], at: usize, cells: &mut [u8], put: usize) -> Spot
+    requires { ⌜ Roomy (now text) at (now cells) put ⌝ }
+    ensures { λ r. ⌜ Stored (now (text .entry)) at (now (cells .entry)) put (cell (now (text .entry)) at) (now (cells .exit)) r ⌝ }
+{
+    let v = read_number(text, at);
+    let next = v.next;
+    if !v.ok {
+        return Spot { ok: false, at, put };
+    }
+    cells[put] = v.value;
+    Spot {
+        ok: true,
+        at: next,
+        put: put + 1,
+    }
+}
+
+// A table of an arity: a number, or a bracket of n tables of the arity below.
+pub fn read_table(text: &[u8], at: usize, arity: u8, n: u8, cells: &mut [u8], put: usize) -> Spot
+    requires { ⌜ Roomy (now text) at (now cells) put ⌝ }
+    requires { ⌜ 0 < n ⌝ }
+    ensures { λ r. ⌜ Stored (now (text .entry)) at (now (cells .entry)) put (table n arity (now (text .entry)) at) (now (cells .exit)) r ⌝ }
+{
+    if arity == 0 {
+        return read_cell(text, at, cells, put);
+    }
+    if byte_at(text, at) != b'[' {
+        return Spot { ok: false, at, put };
+    }
+    let rows = read_rows(text, at + 1, arity, n, n, cells, put);
+    let next = rows.at;
+    let so_far = rows.put;
+    if !rows.ok {
+        return Spot {
+            ok: false,
+            at: next,
+            put: so_far,
+        };
+    }
+    if byte_at(text, next) != b']' {
+        return Spot {
+            ok: false,
+            at: next,
+            put: so_far,
+        };
+    }
+    Spot {
+        ok: true,
+        at: next + 1,
+        put: so_far,
+    }
+}
+
+// So many tables of the arity below, parted by one space.
+fn read_rows(
+    text: &[u8],
+    at: usize,
+    arity: u8,
+    n: u8,
+    left: u8,
+    cells: &mut [u8],
+    put: usize,
+) -> Spot
+    requires { ⌜ Roomy (now text) at (now cells) put ⌝ }
+    requires { ⌜ (0 < n) × ((0 < arity) × (0 < left)) ⌝ }
+    ensures { λ r. ⌜ Stored (now (text .entry)) at (now (cells .entry)) put (parted (table n (arity - 1)) left (now (text .entry)) at) (now (cells .exit)) r ⌝ }
+{
+    let row = read_table(text, at, arity - 1, n, cells, put);
+    let next = row.at;
+    let so_far = row.put;
+    if !row.ok {
+        return Spot {
+            ok: false,
+            at: next,
+            put: so_far,
+        };
+    }
+    if left == 1 {
+        return Spot {
+            ok: true,
+            at: next,
+            put: so_far,
+        };
+    }
+    if byte_at(text, next) != b' ' {
+        return Spot {
+            ok: false,
+            at: next,
+            put: so_far,
+        };
+    }
+    read_rows(text, next + 1, arity, n, left - 1, cells, so_far)
+}
+
+// Any count of tables of an arity, each after a space.
+pub fn read_items(text: &[u8], at: usize, arity: u8, n: u8, cells: &mut [u8], put: usize) -> Spot
+    requires { ⌜ Roomy (now text) at (now cells) put ⌝ }
+    requires { ⌜ 0 < n ⌝ }
+    ensures { λ r. ⌜ Stored (now (text .entry)) at (now (cells .entry)) put (items (table n arity) (now (text .entry)) at) (now (cells .exit)) r ⌝ }
+{
+    let mut next = at;
+    let mut so_far = put;
+    while byte_at(text, next) == b' ' {
+        let item = read_table(text, next + 1, arity, n, cells, so_far);
+        next = item.at;
+        so_far = item.put;
+        if !item.ok {
+            return Spot {
+                ok: false,
+                at: next,
+                put: so_far,
+            };
+        }
+    }
+    Spot {
+        ok: true,
+        at: next,
+        put: so_far,
+    }
+}

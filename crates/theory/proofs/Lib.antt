@@ -1,0 +1,10 @@
+pub mod LeastCongruence
+pub mod GreatestCongruence
+pub mod Extension
+pub mod Separation
+pub mod Factors
+pub mod CommonPair
+pub mod Quotients
+pub mod Correspondence
+pub mod Certificates
+pub mod Examples

@@ -1,0 +1,4 @@
+pub mod Extremal
+pub mod Decompose
+pub mod Certify
+pub mod Splitting
