@@ -1,0 +1,514 @@
+/* Times the desk program as it is used: a process of its own that is given a
+ * text on standard input, and whose standard output is read to its end.
+ *
+ *   desk_bench PROGRAM [ROUNDS]
+ *
+ * Each text is run beside a size line alone, which asks for nothing: its time is
+ * that of starting the process. A round takes every text in turn, and a time is
+ * the median over the rounds. The services are timed in this process, by calls of
+ * libworksheet.a on the same algebra. Every answer is compared with what the
+ * library answers. */
+#define _DEFAULT_SOURCE
+#include <fcntl.h>
+#include <spawn.h>
+#include <stdarg.h>
+#include <stdio.h>
+#include <stdlib.h>
+#include <string.h>
+#include <sys/resource.h>
+#include <sys/wait.h>
+#include <time.h>
+#include <unistd.h>
+
+#include "../include/congruence.h"
+
+enum {
+    N = 64,
+    MAX_CELLS = 32768,
+    LONGEST = 65536, /* bytes that the program takes */
+    ROOM = 2 * LONGEST,
+    MAX_OUT = N * N,
+    MAX_TEXTS = 24,
+    MAX_ROUNDS = 999,
+    MAX_ANSWER = 1 << 23
+};
+
+struct string {
+    size_t len;
+    char bytes[ROOM];
+};
+
+enum service { NONE, GENERATE, CONTAINED, SEPARATE, DECOMPOSE };
+enum shown { TIME, BYTES_IN, BYTES_OUT };
+
+/* A text, and what it should be answered: `line`, `requests` times. */
+struct text {
+    const char *heading; /* printed before this row, or null */
+    const char *name;
+    enum shown shown;
+    size_t n, operations, cells_len;
+    uint8_t arities[16], cells[MAX_CELLS];
+    enum service service;
+    unsigned requests;
+    struct string input, line;
+    int file;
+    double wall[MAX_ROUNDS], processor[MAX_ROUNDS], above[MAX_ROUNDS], call[MAX_ROUNDS];
+};
+
+static struct text list[MAX_TEXTS];
+static unsigned list_count;
+
+/* The size line alone. */
+static const struct text *const idle = &list[0];
+
+static void fail(const char *what, const char *name)
+{
+    fprintf(stderr, "desk_bench: %s: %s\n", name, what);
+    exit(1);
+}
+
+/* ---- texts ------------------------------------------------------------------- */
+
+static uint64_t state = 2025;
+
+static unsigned below(unsigned end)
+{
+    uint64_t z = state += 0x9E3779B97F4A7C15u;
+    z = (z ^ (z >> 30)) * 0xBF58476D1CE4E5B9u;
+    z = (z ^ (z >> 27)) * 0x94D049BB133111EBu;
+    return (unsigned)((z ^ (z >> 31)) % end);
+}
+
+static void put(struct string *s, const char *format, ...)
+{
+    va_list items;
+    va_start(items, format);
+    s->len += (size_t)vsnprintf(s->bytes + s->len, ROOM - s->len, format, items);
+    va_end(items);
+    if (s->len >= ROOM) {
+        fail("no room for a text", "put");
+    }
+}
+
+static void put_map(struct string *s, const uint8_t *map, size_t n)
+{
+    for (size_t i = 0; i < n; i++) {
+        put(s, i > 0 ? " %u" : "%u", map[i]);
+    }
+}
+
+/* Gives the cell after the table. */
+static const uint8_t *put_table(struct string *s, size_t n, unsigned arity, const uint8_t *cell)
+{
+    if (arity == 0) {
+        put(s, "%u", *cell);
+        return cell + 1;
+    }
+    put(s, "[");
+    for (size_t i = 0; i < n; i++) {
+        put(s, "%s", i > 0 ? " " : "");
+        cell = put_table(s, n, arity - 1, cell);
+    }
+    put(s, "]");
+    return cell;
+}
+
+static void put_algebra(struct text *t)
+{
+    const uint8_t *cell = t->cells;
+    t->input.len = 0;
+    put(&t->input, "[size %zu]\n", t->n);
+    for (size_t k = 0; k < t->operations; k++) {
+        put(&t->input, "[op %u ", t->arities[k]);
+        cell = put_table(&t->input, t->n, t->arities[k], cell);
+        put(&t->input, "]\n");
+    }
+}
+
+static struct text *begin(const char *heading, const char *name, enum shown shown, size_t n)
+{
+    if (list_count == MAX_TEXTS) {
+        fail("no room for a text", name);
+    }
+    struct text *t = &list[list_count++];
+    t->heading = heading;
+    t->name = name;
+    t->shown = shown;
+    t->n = n;
+    return t;
+}
+
+static void add_operation(struct text *t, unsigned arity)
+{
+    size_t cells = 1;
+    for (unsigned i = 0; i < arity; i++) {
+        cells *= t->n;
+    }
+    t->arities[t->operations++] = (uint8_t)arity;
+    t->cells_len += cells;
+}
+
+/* Random cells, so many of one digit and all others of two, in random order. */
+static void fill(struct text *t, size_t short_cells)
+{
+    for (size_t i = 0; i < t->cells_len; i++) {
+        const size_t is_short = below((unsigned)(t->cells_len - i)) < short_cells;
+        short_cells -= is_short;
+        t->cells[i] = (uint8_t)(is_short ? below(10) : 10 + below((unsigned)t->n - 10));
+    }
+}
+
+/* Tables alone. The count of cells of one digit is chosen so that the text is as
+ * long as the program takes, to the byte. */
+static void longest(const char *heading, const char *name, size_t n, unsigned arity, unsigned operations)
+{
+    struct text *t = begin(heading, name, BYTES_IN, n);
+    while (operations-- > 0) {
+        add_operation(t, arity);
+    }
+    fill(t, 0);
+    put_algebra(t);
+    fill(t, t->input.len - LONGEST);
+    put_algebra(t);
+}
+
+typedef unsigned binary(unsigned x, unsigned y);
+
+static unsigned exclusive(unsigned x, unsigned y) { return x ^ y; }
+static unsigned least(unsigned x, unsigned y) { return x < y ? x : y; }
+
+static void add_binary(struct text *t, binary *f)
+{
+    add_operation(t, 2);
+    for (unsigned x = 0; x < N; x++) {
+        for (unsigned y = 0; y < N; y++) {
+            t->cells[N * x + y] = (uint8_t)f(x, y);
+        }
+    }
+}
+
+/* ---- requests and their answers -------------------------------------------------- */
+
+/* What is asked of an algebra of N elements: the least congruence that joins the
+ * pair, the greatest inside the map, the earliest that holds the pair apart. */
+static const uint8_t pair[2] = {0, N - 1};
+static uint8_t three_blocks[N];
+
+static void put_request(struct text *t)
+{
+    struct string *s = &t->input;
+    switch (t->service) {
+    case NONE:
+        return;
+    case GENERATE:
+        put(s, "[generate [%u %u]]\n", pair[0], pair[1]);
+        return;
+    case CONTAINED:
+        put(s, "[contained ");
+        put_map(s, three_blocks, N);
+        put(s, "]\n");
+        return;
+    case SEPARATE:
+        put(s, "[separate %u %u]\n", pair[0], pair[1]);
+        return;
+    case DECOMPOSE:
+        put(s, "[decompose]\n");
+        return;
+    }
+}
+
+static uint32_t call(const struct text *t, uint8_t *out)
+{
+    const uint8_t *a = t->arities, *c = t->cells;
+    switch (t->service) {
+    case GENERATE:
+        return congruence_generate(t->n, a, t->operations, c, t->cells_len, pair, 2, out, MAX_OUT);
+    case CONTAINED:
+        return congruence_contained(t->n, a, t->operations, c, t->cells_len, three_blocks, N, out, MAX_OUT);
+    case SEPARATE:
+        return congruence_separate(t->n, a, t->operations, c, t->cells_len, pair[0], pair[1], out, MAX_OUT);
+    case DECOMPOSE:
+        return congruence_decompose(t->n, a, t->operations, c, t->cells_len, out, MAX_OUT);
+    default:
+        return 0;
+    }
+}
+
+static void put_factors(struct string *s, const uint8_t *maps, unsigned count, size_t n)
+{
+    put(s, "[factors");
+    for (unsigned i = 0; i < count; i++) {
+        put(s, " [");
+        put_map(s, maps + i * n, n);
+        put(s, "]");
+    }
+    put(s, "]\n");
+}
+
+/* The line for what the library answers. */
+static void put_answer(struct text *t)
+{
+    static uint8_t out[MAX_OUT];
+    struct string *s = &t->line;
+    const uint32_t answered = call(t, out);
+    if (CONGRUENCE_REASON(answered) != CONGRUENCE_OK) {
+        fail("the library refuses it", t->name);
+    }
+    if (t->service == DECOMPOSE) {
+        put_factors(s, out, CONGRUENCE_COUNT(answered), t->n);
+    } else if (t->service == GENERATE) {
+        put(s, "[generated %u [", CONGRUENCE_COUNT(answered));
+        put_map(s, out, t->n);
+        put(s, "]]\n");
+    } else {
+        put(s, "[map ");
+        put_map(s, out, t->n);
+        put(s, "]\n");
+    }
+}
+
+static void ask(struct text *t, enum service service, unsigned requests)
+{
+    t->service = service;
+    t->requests = requests;
+    put_algebra(t);
+    for (unsigned i = 0; i < requests; i++) {
+        put_request(t);
+    }
+    put_answer(t);
+}
+
+static void one_request(const char *heading, const char *name, binary *f, enum service service)
+{
+    struct text *t = begin(heading, name, TIME, N);
+    add_binary(t, f);
+    ask(t, service, 1);
+}
+
+static void make_texts(void)
+{
+    for (unsigned z = 0; z < N; z++) {
+        three_blocks[z] = (uint8_t)(z % 3);
+    }
+    put_algebra(begin("starting", "size line alone", TIME, N));
+    struct text *empty = begin(NULL, "empty input", TIME, 0);
+    put(&empty->line, "[refused 14]\n");
+    empty->requests = 1;
+
+    longest("reading; MB/s in", "6 binary tables of 64", N, 2, 6);
+    longest(NULL, "7 binary tables of 64", N, 2, 7);
+    longest(NULL, "ternary table of 28", 28, 3, 1);
+
+    const char *group = "one table and one request: elementary abelian group 64";
+    one_request(group, "generate", exclusive, GENERATE);
+    one_request(NULL, "contained", exclusive, CONTAINED);
+    one_request(NULL, "separate", exclusive, SEPARATE);
+    one_request(NULL, "decompose", exclusive, DECOMPOSE);
+    one_request("one table and one request: chain 64, meet", "generate", least, GENERATE);
+    one_request(NULL, "contained", least, CONTAINED);
+    one_request(NULL, "separate", least, SEPARATE);
+    one_request(NULL, "decompose", least, DECOMPOSE);
+
+    const char *many = "writing: 64 elements, no operations, many requests; MB/s out";
+    ask(begin(many, "3600 times generate", BYTES_OUT, N), GENERATE, 3600);
+    ask(begin(NULL, "400 times decompose", BYTES_OUT, N), DECOMPOSE, 400);
+}
+
+/* ---- runs ------------------------------------------------------------------------ */
+
+extern char **environ;
+
+static char answer[MAX_ANSWER];
+
+/* The text in a file without a name, so that the program reads it while this
+ * process reads what the program writes. */
+static void save(struct text *t)
+{
+    FILE *file = tmpfile();
+    if (t->input.len > LONGEST) {
+        fail("the text is too long", t->name);
+    }
+    if (file == NULL || fwrite(t->input.bytes, 1, t->input.len, file) != t->input.len || fflush(file) != 0) {
+        fail("cannot write a temporary file", t->name);
+    }
+    t->file = fileno(file);
+    fcntl(t->file, F_SETFD, FD_CLOEXEC);
+}
+
+static pid_t start(const char *program, int in, int out)
+{
+    char *const arguments[] = {(char *)program, NULL};
+    posix_spawn_file_actions_t actions;
+    pid_t id;
+    posix_spawn_file_actions_init(&actions);
+    posix_spawn_file_actions_adddup2(&actions, in, 0);
+    posix_spawn_file_actions_adddup2(&actions, out, 1);
+    if (posix_spawn(&id, program, &actions, NULL, arguments, environ) != 0) {
+        fail("cannot be started", program);
+    }
+    posix_spawn_file_actions_destroy(&actions);
+    return id;
+}
+
+static size_t read_answer(int from)
+{
+    size_t len = 0;
+    ssize_t got;
+    while ((got = read(from, answer + len, MAX_ANSWER - len)) > 0) {
+        len += (size_t)got;
+    }
+    return len;
+}
+
+/* Microseconds. */
+static double now(clockid_t clock)
+{
+    struct timespec t;
+    clock_gettime(clock, &t);
+    return (double)t.tv_sec * 1e6 + (double)t.tv_nsec / 1e3;
+}
+
+static double microseconds(struct timeval t)
+{
+    return (double)t.tv_sec * 1e6 + (double)t.tv_usec;
+}
+
+static void check(const struct text *t, size_t len, int status)
+{
+    int right = status == 0 && len == t->requests * t->line.len;
+    for (size_t i = 0; right && i < t->requests; i++) {
+        right = memcmp(answer + i * t->line.len, t->line.bytes, t->line.len) == 0;
+    }
+    if (!right) {
+        fail("DIFFERENT ANSWERS", t->name);
+    }
+}
+
+struct times {
+    double wall, processor;
+};
+
+static struct times run(const char *program, const struct text *t)
+{
+    int ends[2], status;
+    struct rusage used;
+    if (lseek(t->file, 0, SEEK_SET) != 0 || pipe(ends) != 0) {
+        fail("no pipe", t->name);
+    }
+    fcntl(ends[0], F_SETFD, FD_CLOEXEC);
+    fcntl(ends[1], F_SETFD, FD_CLOEXEC);
+    const double from = now(CLOCK_MONOTONIC);
+    const pid_t id = start(program, t->file, ends[1]);
+    close(ends[1]);
+    const size_t len = read_answer(ends[0]);
+    close(ends[0]); /* where there was no room for more, this ends the program */
+    if (wait4(id, &status, 0, &used) != id) {
+        fail("cannot be waited for", program);
+    }
+    const double wall = now(CLOCK_MONOTONIC) - from;
+    check(t, len, status);
+    return (struct times){wall, microseconds(used.ru_utime) + microseconds(used.ru_stime)};
+}
+
+/* Microseconds of processor time a call: as many calls as the text has requests,
+ * and for a millisecond at least. */
+static double call_time(const struct text *t)
+{
+    static uint8_t out[MAX_OUT];
+    static volatile uint32_t sink;
+    const double from = now(CLOCK_PROCESS_CPUTIME_ID);
+    double spent = 0;
+    unsigned calls = 0;
+    while (spent < 1000) {
+        for (unsigned i = 0; i < t->requests; i++) {
+            sink = sink + call(t, out);
+        }
+        calls += t->requests;
+        spent = now(CLOCK_PROCESS_CPUTIME_ID) - from;
+    }
+    return spent / calls;
+}
+
+/* One run each before those that count sets the caches, which the text before left
+ * in another state. */
+static void run_round(const char *program, unsigned round)
+{
+    for (unsigned i = 0; i < list_count; i++) {
+        struct text *t = &list[i];
+        t->call[round] = t->service == NONE ? 0 : call_time(t);
+        run(program, t);
+        run(program, idle);
+        const struct times all = run(program, t), nothing = run(program, idle);
+        t->wall[round] = all.wall;
+        t->processor[round] = all.processor;
+        t->above[round] = all.processor - nothing.processor;
+    }
+}
+
+/* ---- the table ------------------------------------------------------------------- */
+
+static int by_value(const void *a, const void *b)
+{
+    const double x = *(const double *)a, y = *(const double *)b;
+    return (x > y) - (x < y);
+}
+
+static double median(double *values, unsigned count)
+{
+    qsort(values, count, sizeof *values, by_value);
+    return values[count / 2];
+}
+
+/* `above` is the processor time less that of the size line beside it. Where there
+ * are many requests, the service is no longer taken off: it is most of the time, and
+ * the program's copy of it and the library's differ by more than what is left. */
+static void print_row(struct text *t, unsigned rounds)
+{
+    const double above = median(t->above, rounds), service = t->requests * median(t->call, rounds);
+    const size_t out = t->requests * t->line.len;
+    if (t->heading != NULL) {
+        printf("%s\n", t->heading);
+    }
+    printf("  %-22s %8zu %8zu %8.0f %8.0f %8.0f", t->name, t->input.len, out, median(t->wall, rounds),
+           median(t->processor, rounds), above);
+    if (t->service != NONE) {
+        printf(" %8.0f", service);
+    }
+    if (t->service != NONE && t->shown == TIME) {
+        printf(" %8.0f", above - service);
+    }
+    if (t->shown == BYTES_IN) {
+        printf(" %26.0f", (double)t->input.len / above);
+    }
+    if (t->shown == BYTES_OUT) {
+        printf(" %17.0f", (double)out / above);
+    }
+    printf("\n");
+}
+
+static void print_table(unsigned rounds)
+{
+    printf("%-24s %8s %8s %8s %8s %8s %8s %8s %8s\n", "", "bytes in", "out", "wall us", "cpu us", "above", "service",
+           "rest", "MB/s");
+    for (unsigned i = 0; i < list_count; i++) {
+        print_row(&list[i], rounds);
+    }
+}
+
+int main(int argc, char **argv)
+{
+    if (argc < 2) {
+        fail("PROGRAM [ROUNDS]", "usage");
+    }
+    unsigned rounds = argc > 2 ? (unsigned)atoi(argv[2]) : 40;
+    rounds = rounds < 1 ? 1 : rounds > MAX_ROUNDS ? MAX_ROUNDS : rounds;
+    make_texts();
+    for (unsigned i = 0; i < list_count; i++) {
+        save(&list[i]);
+    }
+    for (unsigned round = 0; round < rounds; round++) {
+        run_round(argv[1], round);
+    }
+    print_table(rounds);
+    return 0;
+}
