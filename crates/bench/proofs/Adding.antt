@@ -8,7 +8,7 @@ use native.Mathlib.Omega.{arith}
 use lib.Dec.{T}
 use lib.ListN.{length, take}
 use Rattle.equivalence.specs.Equivalence.{Map, byte, isMap, identity, blocks}
-use Rattle.equivalence.specs.Kernel.{Canonical}
+use Rattle.kernel.specs.Kernel.{Canonical}
 use Rattle.equivalence.specs.Refusal.{lowest, written}
 use Rattle.equivalence.proofs.BlockNumbers.{blocks-le}
 use Rattle.equivalence.proofs.Maps.{identity-map, of-isMap, holds-of, of-holds, inside-of, of-inside}

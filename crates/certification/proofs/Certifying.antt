@@ -6,7 +6,7 @@ use mathlib.Core.Path.{_≡_, sym, ap, _∙_}
 use native.Mathlib.Omega.{arith}
 use lib.ListN.{length, take, drop}
 use Rattle.equivalence.specs.Equivalence.{Map, byte, isMap, isIdentity, meetAll}
-use Rattle.equivalence.specs.Kernel.{Canonical}
+use Rattle.kernel.specs.Kernel.{Canonical}
 use Rattle.equivalence.specs.Lists.{upTo, every, any, without, stretch}
 use Rattle.equivalence.specs.Order.{pairs}
 use Rattle.equivalence.proofs.Meets.{meetAll-map}

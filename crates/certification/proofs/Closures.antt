@@ -11,7 +11,7 @@ use lib.Dec.{T-not, not-T}
 use lib.ListN.{length, take}
 use lib.Seq.{ext-getD, length-take-le}
 use Rattle.equivalence.specs.Equivalence.{Map, byte, holds, inside, whole, meet}
-use Rattle.equivalence.specs.Kernel.{Canonical, Filled}
+use Rattle.kernel.specs.Kernel.{Canonical, Filled}
 use Rattle.equivalence.specs.Lists.{any}
 use Rattle.equivalence.specs.Order.{Pair, pairs}
 use Rattle.equivalence.specs.Refusal.{written}

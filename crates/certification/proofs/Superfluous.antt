@@ -11,7 +11,7 @@ use lib.Dec.{T, T-not, not-T}
 use lib.ListN.{length, take, drop, length-drop}
 use lib.Seq.{take-suc}
 use Rattle.equivalence.specs.Equivalence.{Map, byte, whole, isIdentity, meet, meetAll}
-use Rattle.equivalence.specs.Kernel.{Canonical}
+use Rattle.kernel.specs.Kernel.{Canonical}
 use Rattle.equivalence.specs.Lists.{upTo, every, without, stretch}
 use Rattle.equivalence.specs.Refusal.{written}
 use Rattle.equivalence.proofs.Lists.{below-of, of-below}

@@ -6,7 +6,7 @@ ghost use lib.Dec.{T};
 ghost use lib.ListN.{length};
 ghost use Rattle.equivalence.specs.Lists.{upTo, every, any, without};
 ghost use Rattle.equivalence.specs.Equivalence.{byte, isMap, isIdentity, meetAll};
-ghost use Rattle.equivalence.specs.Kernel.{Canonical};
+ghost use Rattle.kernel.specs.Kernel.{Canonical};
 ghost use Rattle.equivalence.specs.Order.{pairs};
 ghost use Rattle.algebra.specs.Algebra.{algebraOf};
 ghost use Rattle.algebra.specs.Accepted.{Accepted};

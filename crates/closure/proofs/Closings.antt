@@ -10,10 +10,10 @@ use native.Mathlib.Omega.{arith}
 use lib.ListN.{length, getD, set, length-append}
 use lib.Seq.{getD-set-same, getD-set-other}
 use Rattle.equivalence.specs.Equivalence.{byte}
-use Rattle.equivalence.specs.Kernel.{Canonical, Within, relabel, Listed}
+use Rattle.kernel.specs.Kernel.{Canonical, Within, relabel, Listed}
 use Rattle.equivalence.proofs.Kernels.{relabel-same, relabel-other}
 use Rattle.algebra.specs.Algebra.{Algebra}
-use Rattle.algebra.specs.Translations.{result, Compatible}
+use Rattle.translation.specs.Translations.{result, Compatible}
 use Rattle.algebra.proofs.Accepted.{WellFormed}
 use Rattle.algebra.proofs.Congruences.{cells-below}
 use Rattle.closure.specs.Closing.{Begun, Retired}

@@ -10,7 +10,7 @@ use lib.Dec.{eqb}
 use lib.ListN.{length, set}
 use lib.Seq.{getD-set-same, getD-set-other}
 use Rattle.equivalence.specs.Equivalence.{byte}
-use Rattle.equivalence.specs.Kernel.{Filled, bit, names}
+use Rattle.kernel.specs.Kernel.{Filled, bit, names}
 use Rattle.closure.specs.Starts.{Pushed, tally, Collected}
 
 pub collected-none : (test : ℕ → Bool) (p : ℕ → ℕ) → Collected test 0 p 0

@@ -7,12 +7,12 @@ use native.Mathlib.Nat.{pow-zero}
 use native.Mathlib.Omega.{arith}
 use lib.ListN.{length, getD, length-append}
 use Rattle.equivalence.specs.Equivalence.{byte}
-use Rattle.equivalence.specs.Kernel.{Within, Listed}
+use Rattle.kernel.specs.Kernel.{Within, Listed}
 use Rattle.algebra.specs.Accepted.{Accepted}
 use Rattle.algebra.specs.Algebra.{Algebra, place}
-use Rattle.algebra.specs.Translations.{AllBelow, tableStart, result, Compatible}
+use Rattle.translation.specs.Translations.{AllBelow, tableStart, result, Compatible}
 use Rattle.algebra.proofs.Accepted.{WellFormed, accepted-wellFormed}
-use Rattle.algebra.proofs.Places.{place-lt}
+use Rattle.translation.proofs.Places.{place-lt}
 use Rattle.algebra.proofs.Tables.{start-room}
 use Rattle.closure.specs.Contexts.{All, ImagesIn, OperationsIn, OnLine, OnPlane, OnTable, Contexts, TableFits}
 use Rattle.closure.proofs.Sweeps.{each-more, power-one, power-two}

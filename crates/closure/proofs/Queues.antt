@@ -9,9 +9,9 @@ use native.Mathlib.Omega.{arith}
 use lib.ListN.{length, set}
 use lib.Seq.{getD-set-same, getD-set-other}
 use Rattle.equivalence.specs.Equivalence.{byte}
-use Rattle.equivalence.specs.Kernel.{Canonical, Within, relabel, Merged}
+use Rattle.kernel.specs.Kernel.{Canonical, Within, relabel, Merged}
 use Rattle.equivalence.proofs.Kernels.{relabel-same, relabel-other, merged-swap}
-use Rattle.algebra.specs.Largest.{Larger}
+use Rattle.kernel.specs.Largest.{Larger}
 use Rattle.closure.specs.Queue.{State, state, InQueue, Queued, Ready, Grown}
 
 -- ---- names

@@ -11,11 +11,11 @@ use lib.Dec.{eqb}
 use lib.ListN.{length}
 use borrow.Author.Tests.{eq-eqb, ne-eqb}
 use Rattle.equivalence.specs.Equivalence.{byte}
-use Rattle.equivalence.specs.Kernel.{Canonical, Within, names}
+use Rattle.kernel.specs.Kernel.{Canonical, Within, names}
 use Rattle.equivalence.proofs.Kernels.{identity-canonical, names-identity}
 use Rattle.algebra.specs.Accepted.{Accepted}
 use Rattle.algebra.specs.Algebra.{Algebra, algebraOf}
-use Rattle.algebra.specs.Translations.{result, Compatible, Closed}
+use Rattle.translation.specs.Translations.{result, Compatible, Closed}
 use Rattle.algebra.proofs.Accepted.{accepted-wellFormed}
 use Rattle.algebra.proofs.Congruences.{cells-below}
 use Rattle.closure.specs.Closing.{Begun}

@@ -10,7 +10,7 @@ use native.Mathlib.Omega.{arith}
 use lib.ListN.{length}
 use borrow.Author.Tests.{eq-eqb}
 use Rattle.equivalence.specs.Equivalence.{byte, inside}
-use Rattle.equivalence.specs.Kernel.{Canonical, Within, bit, names}
+use Rattle.kernel.specs.Kernel.{Canonical, Within, bit, names}
 use Rattle.equivalence.proofs.Kernels.{names-positive}
 use Rattle.closure.specs.Contexts.{OnLine, OnPlane, Contexts, LineFits, PlaneFits, TableFits, Joined, Unless, Halts, Bounded, Heeds, Barred, Passed}
 use Rattle.closure.specs.Queue.{State, Grown}

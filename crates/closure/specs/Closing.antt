@@ -4,9 +4,9 @@ use mathlib.Core.Path.{_≡_}
 use mathlib.Core.Logic.{_⊎_}
 use mathlib.Core.List.{List}
 use Rattle.equivalence.specs.Equivalence.{byte}
-use Rattle.equivalence.specs.Kernel.{Canonical, Within, Listed}
+use Rattle.kernel.specs.Kernel.{Canonical, Within, Listed}
 use Rattle.algebra.specs.Algebra.{Algebra}
-use Rattle.algebra.specs.Translations.{Compatible}
+use Rattle.translation.specs.Translations.{Compatible}
 use Rattle.closure.specs.Queue.{State, InQueue}
 
 -- the map lies above a congruence, `base`; its names are listed, and those that the map took away are queued

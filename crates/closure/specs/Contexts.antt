@@ -5,9 +5,9 @@ use mathlib.Core.Logic.{_⊎_}
 use mathlib.Core.List.{List, [], _∷_, _++_}
 use lib.ListN.{length, getD}
 use Rattle.equivalence.specs.Equivalence.{byte}
-use Rattle.equivalence.specs.Kernel.{names}
+use Rattle.kernel.specs.Kernel.{names}
 use Rattle.algebra.specs.Algebra.{Algebra}
-use Rattle.algebra.specs.Translations.{result}
+use Rattle.translation.specs.Translations.{result}
 
 -- every member is in L
 abbrev pub All : (ℕ → Type 0) → List ℕ → Type 0

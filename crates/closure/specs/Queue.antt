@@ -5,7 +5,7 @@ use mathlib.Core.Logic.{_⊎_}
 use mathlib.Core.List.{List}
 use lib.ListN.{length}
 use Rattle.equivalence.specs.Equivalence.{byte}
-use Rattle.equivalence.specs.Kernel.{Canonical, Within, names}
+use Rattle.kernel.specs.Kernel.{Canonical, Within, names}
 
 -- the map, the queue, and how many elements are queued
 pub record State : Type 0 where

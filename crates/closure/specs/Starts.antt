@@ -6,9 +6,9 @@ use mathlib.Core.List.{List}
 use lib.Dec.{eqb}
 use lib.ListN.{length}
 use Rattle.equivalence.specs.Equivalence.{byte}
-use Rattle.equivalence.specs.Kernel.{Canonical, Within, bit, names}
+use Rattle.kernel.specs.Kernel.{Canonical, Within, bit, names}
 use Rattle.algebra.specs.Algebra.{Algebra}
-use Rattle.algebra.specs.Translations.{Compatible, Closed}
+use Rattle.translation.specs.Translations.{Compatible, Closed}
 use Rattle.closure.specs.Contexts.{Unless, Heeds}
 
 -- g joins the pairs of a flat list

@@ -7,10 +7,10 @@ ghost use mathlib.Core.Bool.{true, false};
 ghost use Prim.Native.Nat.{ℕ, _+_, _<_, _≤_};
 ghost use lib.ListN.{length};
 ghost use Rattle.equivalence.specs.Equivalence.{byte};
-ghost use Rattle.equivalence.specs.Kernel.{Canonical, names};
+ghost use Rattle.kernel.specs.Kernel.{Canonical, names};
 ghost use Rattle.algebra.specs.Algebra.{algebraOf};
 ghost use Rattle.algebra.specs.Accepted.{Accepted};
-ghost use Rattle.algebra.specs.Translations.{Compatible, Closed};
+ghost use Rattle.translation.specs.Translations.{Compatible, Closed};
 ghost use Rattle.closure.specs.Starts.{JoinsPairs, Extends, Heeded, NamesListed, Apart, Tried};
 
 pub mod queue;

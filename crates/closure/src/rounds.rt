@@ -5,7 +5,7 @@ ghost use lib.ListN.{length};
 ghost use Rattle.equivalence.specs.Equivalence.{byte};
 ghost use Rattle.algebra.specs.Algebra.{algebraOf};
 ghost use Rattle.algebra.specs.Accepted.{Accepted};
-ghost use Rattle.algebra.specs.Translations.{Compatible};
+ghost use Rattle.translation.specs.Translations.{Compatible};
 ghost use Rattle.closure.specs.Queue.{state, Ready, Grown};
 ghost use Rattle.closure.specs.Contexts.{Contexts, Unless, Bounded, Heeds};
 ghost use Rattle.closure.specs.Closing.{Begun, Retired, Found};

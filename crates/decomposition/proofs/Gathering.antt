@@ -11,7 +11,7 @@ use native.Mathlib.Omega.{arith}
 use lib.Dec.{T}
 use lib.ListN.{length, length-append}
 use Rattle.equivalence.specs.Equivalence.{Map, byte, blocks, identity, whole, isIdentity, meet}
-use Rattle.equivalence.specs.Kernel.{Canonical}
+use Rattle.kernel.specs.Kernel.{Canonical}
 use Rattle.equivalence.specs.Lists.{concat}
 use Rattle.equivalence.specs.Order.{Pair, firstHeld}
 use Rattle.equivalence.specs.Refusal.{written}

@@ -11,7 +11,7 @@ use lib.Dec.{T}
 use lib.ListN.{length, getD, take, drop, length-append, drop-of-length-le, length-drop}
 use lib.Seq.{ext-getD, length-take-le, drop-cons}
 use Rattle.equivalence.specs.Equivalence.{Map, byte, whole, isIdentity, meet, meetAll}
-use Rattle.equivalence.specs.Kernel.{Canonical}
+use Rattle.kernel.specs.Kernel.{Canonical}
 use Rattle.equivalence.specs.Lists.{concat, stretch}
 use Rattle.equivalence.specs.Refusal.{written}
 use Rattle.equivalence.proofs.Maps.{whole-map}

@@ -4,7 +4,7 @@ ghost use mathlib.Core.Bool.{false};
 ghost use Prim.Native.Nat.{_-_, _*_, _≤_};
 ghost use lib.ListN.{length};
 ghost use Rattle.equivalence.specs.Equivalence.{byte, isIdentity};
-ghost use Rattle.equivalence.specs.Kernel.{Canonical};
+ghost use Rattle.kernel.specs.Kernel.{Canonical};
 ghost use Rattle.algebra.specs.Algebra.{algebraOf};
 ghost use Rattle.algebra.specs.Accepted.{Accepted};
 ghost use Rattle.equivalence.specs.Order.{firstHeld};

@@ -5,7 +5,7 @@ ghost use mathlib.Core.List.{[]};
 ghost use Prim.Native.Nat.{_+_, _*_, _≤_};
 ghost use lib.ListN.{length};
 ghost use Rattle.equivalence.specs.Equivalence.{byte};
-ghost use Rattle.equivalence.specs.Kernel.{Canonical};
+ghost use Rattle.kernel.specs.Kernel.{Canonical};
 ghost use Rattle.equivalence.specs.Lists.{concat};
 ghost use Rattle.equivalence.specs.Refusal.{written};
 ghost use Rattle.theory.specs.Decompose.{pruned};

@@ -11,7 +11,7 @@ use lib.ListN.{length, set, length-append, length-set, List·getD-append}
 use lib.Seq.{getD-set-same, getD-set-other, getD-at}
 use borrow.Author.Tests.{eq-eqb, ne-eqb}
 use Rattle.equivalence.specs.Equivalence.{Map, byte, isMap, roots, blocks, blockOf}
-use Rattle.equivalence.specs.Kernel.{bit}
+use Rattle.kernel.specs.Kernel.{bit}
 use Rattle.equivalence.specs.Lists.{upTo, keep}
 use Rattle.equivalence.proofs.Lists.{keep-yes, keep-no, keep-append}
 use Rattle.equivalence.proofs.Maps.{IsMap, of-isMap}

@@ -3,7 +3,7 @@ ghost use mathlib.Core.Path.{_≡_};
 ghost use Prim.Native.Nat.{ℕ, _+_, _<_, _≤_};
 ghost use lib.Dec.{T, eqb};
 ghost use Rattle.equivalence.specs.Equivalence.{byte, isMap};
-ghost use Rattle.equivalence.specs.Kernel.{bit};
+ghost use Rattle.kernel.specs.Kernel.{bit};
 ghost use Rattle.division.specs.Numbers.{Numbered};
 use crate::Block;
 use equivalence::Element;

@@ -120,20 +120,6 @@ fn divide_table(
     }
 }
 
-// The power n^s.
-fn power(n: usize, s: usize) -> usize
-    requires { ⌜ n ≤ 64 ⌝ }
-    requires { ⌜ s ≤ 3 ⌝ }
-    ensures { λ r. ⌜ r ≡ n ^ s ⌝ }
-{
-    match s {
-        0 => 1,
-        1 => n,
-        2 => n * n,
-        _ => n * n * n,
-    }
-}
-
 // The tables of all operations, one after the other.
 pub fn divide_tables(
     n: usize,
@@ -154,8 +140,8 @@ pub fn divide_tables(
     while j < arities.len() {
         let s = arities[j] as usize;
         divide_table(s, n, b, cells, from, numbers, firsts, out, to);
-        from += power(n, s);
-        to += power(b, s);
+        from += algebra::power(n, s);
+        to += algebra::power(b, s);
         j += 1;
     }
 }

@@ -9,7 +9,7 @@ use native.Mathlib.Omega.{arith}
 use lib.Dec.{T, eqb, leb}
 use lib.ListN.{length, length-append}
 use Rattle.equivalence.specs.Equivalence.{Map, byte, isMap, inside, roots, blocks, isIdentity}
-use Rattle.equivalence.specs.Kernel.{Canonical, bit, names}
+use Rattle.kernel.specs.Kernel.{Canonical, bit, names}
 use Rattle.equivalence.specs.Lists.{upTo, keep}
 use Rattle.equivalence.proofs.Lists.{below-of, of-below, keep-append}
 use Rattle.equivalence.proofs.Maps.{IsMap, inside-of, of-inside, isIdentity-of, of-isIdentity}

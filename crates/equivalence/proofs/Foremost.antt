@@ -9,9 +9,9 @@ use native.Mathlib.Omega.{arith}
 use lib.Dec.{T, eqb, leb, ltb, T-not, not-T, eqb→eq, ltb→lt, lt→ltb}
 use borrow.Author.Tests.{le-leb, lt-leb}
 use Rattle.equivalence.specs.Equivalence.{Map, byte, holds}
-use Rattle.equivalence.specs.Kernel.{Canonical}
+use Rattle.kernel.specs.Kernel.{Canonical}
 use Rattle.equivalence.specs.Order.{pairs, notLater, firstHeld}
-use Rattle.equivalence.specs.Search.{foremost}
+use Rattle.kernel.specs.Search.{foremost}
 use Rattle.equivalence.proofs.Earlier.{notLater-same, larger-notLater, notLater-first}
 use Rattle.equivalence.proofs.Lists.{first-none}
 use Rattle.equivalence.proofs.Maps.{Holds, holds-of, of-holds}

@@ -9,7 +9,7 @@ use lib.ListN.{length, set}
 use lib.Seq.{getD-set-same, getD-set-other}
 use borrow.Author.Tests.{eq-eqb, ne-eqb}
 use Rattle.equivalence.specs.Equivalence.{byte, holds, blocks}
-use Rattle.equivalence.specs.Kernel.{Canonical, Within, relabel, Filled, bit, names, Merged}
+use Rattle.kernel.specs.Kernel.{Canonical, Within, relabel, Filled, bit, names, Merged}
 use Rattle.equivalence.specs.Lists.{first}
 use borrow.Author.Tests.{eq-eqb, ne-eqb}
 

@@ -3,5 +3,3 @@ pub mod Equivalence
 pub mod Order
 pub mod Refusal
 pub mod Calls
-pub mod Kernel
-pub mod Search

@@ -4,7 +4,7 @@ ghost use mathlib.Core.Bool.{true, false};
 ghost use Prim.Native.Nat.{ℕ, _+_, _*_, _<_, _≤_};
 ghost use lib.ListN.{length};
 ghost use Rattle.equivalence.specs.Equivalence.{byte, meet, join};
-ghost use Rattle.equivalence.specs.Kernel.{Canonical, Filled, Joined, seenOr};
+ghost use Rattle.kernel.specs.Kernel.{Canonical, Filled, Joined, seenOr};
 use crate::blocks;
 ghost use Rattle.equivalence.specs.Refusal.{written};
 

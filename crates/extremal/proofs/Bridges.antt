@@ -9,7 +9,7 @@ use lib.Dec.{T}
 use lib.ListN.{length, take}
 use lib.Seq.{getD-take, length-take-le}
 use Rattle.equivalence.specs.Equivalence.{Map, byte, holds, blocks}
-use Rattle.equivalence.specs.Kernel.{Canonical, Within, Filled, names}
+use Rattle.kernel.specs.Kernel.{Canonical, Within, Filled, names}
 use Rattle.equivalence.specs.Order.{Pair, pairs}
 use Rattle.equivalence.specs.Refusal.{written}
 use Rattle.equivalence.proofs.Bytes.{names-blocks}
@@ -20,10 +20,10 @@ use Rattle.equivalence.proofs.Pairs.{member-pairs, of-pairs, Sorted, Lex, sorte
 use Rattle.equivalence.proofs.Tests.{both, left, right}
 use Rattle.equivalence.proofs.Writing.{filled-written}
 use Rattle.algebra.specs.Algebra.{Algebra}
-use Rattle.algebra.specs.Translations.{Compatible, Closed, Refined}
+use Rattle.translation.specs.Translations.{Compatible, Closed, Refined}
 use Rattle.algebra.proofs.Accepted.{WellFormed}
 use Rattle.algebra.proofs.Congruences.{IsCongruence}
-use Rattle.algebra.proofs.Translations.{congruence-compatible, compatible-congruence}
+use Rattle.translation.proofs.Translations.{congruence-compatible, compatible-congruence}
 use Rattle.theory.specs.Extremal.{holdsAll, generated, extended, contained, separated}
 use Rattle.theory.proofs.Extension.{extended-is}
 use Rattle.theory.proofs.GreatestCongruence.{contained-is}

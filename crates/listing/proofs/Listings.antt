@@ -10,7 +10,7 @@ use native.Mathlib.Omega.{arith}
 use lib.ListN.{length, getD, take, drop, length-map, length-append, List·getD-append, drop-of-length-le, length-drop}
 use lib.Seq.{getD-take, ext-getD, take-all, length-take-le, drop-drop, take-at, drop-at, drop-cons}
 use Rattle.equivalence.specs.Equivalence.{Map, byte, holds, whole, same, isIdentity, meet, meetAll}
-use Rattle.equivalence.specs.Kernel.{Canonical, Filled}
+use Rattle.kernel.specs.Kernel.{Canonical, Filled}
 use Rattle.equivalence.specs.Lists.{upTo, first, concat, stretch}
 use Rattle.equivalence.specs.Order.{Pair, pairs, firstHeld}
 use Rattle.equivalence.specs.Refusal.{written}

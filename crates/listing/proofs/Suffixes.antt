@@ -8,7 +8,7 @@ use native.Mathlib.Nat.{suc-mul, mul-le-mul-right}
 use native.Mathlib.Omega.{arith}
 use lib.ListN.{length, drop, drop-of-length-le}
 use Rattle.equivalence.specs.Equivalence.{Map, byte, whole, meet, meetAll}
-use Rattle.equivalence.specs.Kernel.{Canonical}
+use Rattle.kernel.specs.Kernel.{Canonical}
 use Rattle.equivalence.specs.Lists.{stretch}
 use Rattle.equivalence.specs.Refusal.{written}
 use Rattle.equivalence.proofs.Maps.{IsMap, whole-map}

@@ -3,7 +3,7 @@ ghost use mathlib.Core.Path.{_≡_};
 ghost use Prim.Native.Nat.{_+_, _*_, _≤_};
 ghost use lib.ListN.{length, drop};
 ghost use Rattle.equivalence.specs.Equivalence.{byte, isIdentity, whole, meet};
-ghost use Rattle.equivalence.specs.Kernel.{Canonical};
+ghost use Rattle.kernel.specs.Kernel.{Canonical};
 ghost use Rattle.equivalence.specs.Refusal.{written};
 ghost use Rattle.division.specs.Tables.{laid};
 ghost use Rattle.listing.specs.Listing.{listing, MapsListed, SuffixMeets};

@@ -10,9 +10,9 @@ use native.Mathlib.Omega.{arith}
 use lib.Dec.{T}
 use lib.ListN.{length, getD, take}
 use Rattle.equivalence.specs.Equivalence.{Map, byte}
-use Rattle.equivalence.specs.Kernel.{Canonical, Within, Listed}
+use Rattle.kernel.specs.Kernel.{Canonical, Within, Listed}
 use Rattle.algebra.specs.Algebra.{Algebra, cellCount, place}
-use Rattle.algebra.specs.Translations.{AllBelow, tableStart, result, Compatible}
+use Rattle.translation.specs.Translations.{AllBelow, tableStart, result, Compatible}
 use Rattle.algebra.proofs.Accepted.{WellFormed}
 use Rattle.algebra.proofs.Congruences.{cells-below}
 use Rattle.refinement.specs.Splitting.{Elements, line, Keeps, KeepsOn, Any, Chosen, Table, Lent, Represented}

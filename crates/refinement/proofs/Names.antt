@@ -8,7 +8,7 @@ use native.Mathlib.Numerals.{add-one}
 use native.Mathlib.Omega.{arith}
 use lib.Dec.{eqb}
 use borrow.Author.Tests.{eq-eqb, ne-eqb}
-use Rattle.equivalence.specs.Kernel.{Canonical, Within, bit, names}
+use Rattle.kernel.specs.Kernel.{Canonical, Within, bit, names}
 use Rattle.equivalence.proofs.Kernels.{names-positive}
 
 bit-most : (b : Bool) → bit b ≤ 1

@@ -8,14 +8,14 @@ use native.Mathlib.Omega.{arith}
 use lib.Dec.{T}
 use lib.ListN.{length}
 use Rattle.equivalence.specs.Equivalence.{Map, byte, isMap, inside}
-use Rattle.equivalence.specs.Kernel.{Canonical, Filled, names, Listed}
+use Rattle.kernel.specs.Kernel.{Canonical, Filled, names, Listed}
 use Rattle.equivalence.proofs.Maps.{of-isMap, inside-of, of-inside}
 use Rattle.algebra.specs.Algebra.{Algebra}
 use Rattle.algebra.specs.Congruence.{isCongruence}
-use Rattle.algebra.specs.Translations.{result, Compatible, Refined}
+use Rattle.translation.specs.Translations.{result, Compatible, Refined}
 use Rattle.algebra.proofs.Accepted.{WellFormed}
 use Rattle.algebra.proofs.Congruences.{congruence-is, congruence-of}
-use Rattle.algebra.proofs.Translations.{congruence-compatible, compatible-congruence}
+use Rattle.translation.proofs.Translations.{congruence-compatible, compatible-congruence}
 use Rattle.refinement.specs.Splitting.{Elements, Sifted, Lists, Split, Represented}
 use Rattle.refinement.proofs.Names.{names-full, names-one}
 use Rattle.refinement.proofs.Compatibility.{result-below}

@@ -6,7 +6,7 @@ use native.Mathlib.Omega.{arith}
 use lib.ListN.{length, set}
 use lib.Seq.{getD-set-same, getD-set-other}
 use Rattle.equivalence.specs.Equivalence.{Map, byte}
-use Rattle.equivalence.specs.Kernel.{Canonical}
+use Rattle.kernel.specs.Kernel.{Canonical}
 use Rattle.refinement.specs.Splitting.{Alike, FirstInto, Seen}
 
 -- nothing is seen yet

@@ -9,7 +9,7 @@ use lib.ListN.{length, set}
 use lib.Seq.{getD-set-same, getD-set-other}
 use borrow.Author.Tests.{eq-eqb, ne-eqb}
 use Rattle.equivalence.specs.Equivalence.{Map, byte}
-use Rattle.equivalence.specs.Kernel.{Canonical, Within, bit, Listed}
+use Rattle.kernel.specs.Kernel.{Canonical, Within, bit, Listed}
 use Rattle.refinement.specs.Splitting.{Elements, KeepsOn, Sifted, Lists, Split}
 
 -- ---- sifting, in place

@@ -9,7 +9,7 @@ use lib.ListN.{length, set}
 use lib.Seq.{getD-set-same, getD-set-other}
 use borrow.Author.Count.{below-more}
 use Rattle.equivalence.specs.Equivalence.{Map, byte}
-use Rattle.equivalence.specs.Kernel.{Canonical, Within, names, Listed}
+use Rattle.kernel.specs.Kernel.{Canonical, Within, names, Listed}
 use Rattle.refinement.specs.Splitting.{Keeps, KeepsOn, Alike, Lent, Split}
 use Rattle.refinement.proofs.Names.{names-another}
 

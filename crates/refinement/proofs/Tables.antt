@@ -7,7 +7,7 @@ use native.Mathlib.Nat.{pow-zero, pow-suc, one-mul, mul-one, mul-comm, mul-assoc
 use native.Mathlib.Omega.{arith}
 use lib.Arith.{digits-lt}
 use lib.ListN.{length}
-use Rattle.equivalence.specs.Kernel.{Listed}
+use Rattle.kernel.specs.Kernel.{Listed}
 use Rattle.equivalence.specs.Equivalence.{Map}
 use Rattle.refinement.specs.Splitting.{Keeps, KeepsOn, Any, Chosen, Lines, Planes, Table, OnLines, OnPlanes, Split}
 use Rattle.refinement.proofs.Splits.{split-more, split-said}

@@ -5,9 +5,9 @@ use mathlib.Core.Bool.{Bool, true, false}
 use mathlib.Core.List.{List}
 use lib.ListN.{length, getD}
 use Rattle.equivalence.specs.Equivalence.{Map, byte}
-use Rattle.equivalence.specs.Kernel.{Listed, Canonical, Within, names}
+use Rattle.kernel.specs.Kernel.{Listed, Canonical, Within, names}
 use Rattle.algebra.specs.Algebra.{Algebra}
-use Rattle.algebra.specs.Translations.{Compatible}
+use Rattle.translation.specs.Translations.{Compatible}
 
 -- the first `count` members of a list are elements
 pub record Elements (n : ℕ) (list : List ℕ) (count : ℕ) : Type 0 where

@@ -4,11 +4,11 @@ ghost use Prim.Native.Nat.{ℕ, _≤_};
 ghost use lib.Dec.{T};
 ghost use lib.ListN.{length};
 ghost use Rattle.equivalence.specs.Equivalence.{byte, isMap};
-ghost use Rattle.equivalence.specs.Kernel.{Canonical};
+ghost use Rattle.kernel.specs.Kernel.{Canonical};
 ghost use Rattle.algebra.specs.Accepted.{Accepted};
 ghost use Rattle.algebra.specs.Algebra.{algebraOf};
 ghost use Rattle.algebra.specs.Congruence.{isCongruence};
-ghost use Rattle.algebra.specs.Translations.{Refined};
+ghost use Rattle.translation.specs.Translations.{Refined};
 ghost use Rattle.refinement.specs.Splitting.{Lists, Represented};
 
 mod line;

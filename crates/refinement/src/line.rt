@@ -5,7 +5,7 @@ ghost use Prim.Native.Nat.{ℕ, _+_, _<_, _≤_};
 ghost use lib.Dec.{eqb};
 ghost use lib.ListN.{length};
 ghost use Rattle.equivalence.specs.Equivalence.{byte};
-ghost use Rattle.equivalence.specs.Kernel.{bit, Listed};
+ghost use Rattle.kernel.specs.Kernel.{bit, Listed};
 ghost use Rattle.refinement.specs.Splitting.{Elements, line, Keeps, KeepsOn, Lent, OnLine, Broken, Alike, Seen, Sifted, Split};
 
 // No element was seen.

@@ -6,10 +6,10 @@ ghost use mathlib.Core.Bool.{true};
 ghost use Prim.Native.Nat.{_+_, _*_, _^_, _<_, _≤_};
 ghost use lib.ListN.{length};
 ghost use Rattle.equivalence.specs.Equivalence.{byte};
-ghost use Rattle.equivalence.specs.Kernel.{Canonical, Listed};
+ghost use Rattle.kernel.specs.Kernel.{Canonical, Listed};
 ghost use Rattle.algebra.specs.Accepted.{Accepted};
 ghost use Rattle.algebra.specs.Algebra.{algebraOf};
-ghost use Rattle.algebra.specs.Translations.{Compatible};
+ghost use Rattle.translation.specs.Translations.{Compatible};
 ghost use Rattle.refinement.specs.Splitting.{Elements, line, Keeps, KeepsOn, Any, Chosen, Lines, Planes, Table, Lent, OnLines, OnPlanes, Sifted, Lists, Split, Represented};
 use super::line::split_line;
 

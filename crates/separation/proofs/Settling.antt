@@ -9,11 +9,11 @@ use native.Mathlib.Omega.{arith}
 use lib.ListN.{length, set}
 use lib.Seq.{ext-getD, getD-set-other}
 use Rattle.equivalence.specs.Equivalence.{byte}
-use Rattle.equivalence.specs.Kernel.{Within, Filled}
+use Rattle.kernel.specs.Kernel.{Within, Filled}
 use Rattle.equivalence.specs.Lists.{first}
 use Rattle.equivalence.proofs.Kernels.{identity-canonical, identity-within}
 use Rattle.algebra.specs.Algebra.{Algebra}
-use Rattle.algebra.specs.Translations.{result, Compatible, Closed, Refined}
+use Rattle.translation.specs.Translations.{result, Compatible, Closed, Refined}
 use Rattle.closure.specs.Starts.{Heeded}
 use Rattle.separation.specs.Search.{Keeps, Before, Refused, Settled, TwoBlocks, Earliest, Rooms}
 

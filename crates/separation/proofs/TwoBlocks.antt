@@ -6,9 +6,9 @@ use native.Mathlib.Decide.{decLt, ℕ-discrete}
 use native.Mathlib.Omega.{arith}
 use lib.ListN.{length}
 use borrow.Author.Tests.{eq-eqb, ne-eqb}
-use Rattle.equivalence.specs.Kernel.{Canonical, Within}
+use Rattle.kernel.specs.Kernel.{Canonical, Within}
 use Rattle.algebra.specs.Algebra.{Algebra}
-use Rattle.algebra.specs.Translations.{Compatible}
+use Rattle.translation.specs.Translations.{Compatible}
 use Rattle.closure.specs.Starts.{NamesListed}
 use Rattle.refinement.specs.Splitting.{Represented}
 use Rattle.separation.specs.Blocks.{FirstOther, oneOf}

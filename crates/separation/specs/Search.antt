@@ -4,10 +4,10 @@ use mathlib.Core.Path.{_≡_}
 use mathlib.Core.Logic.{_⊎_}
 use mathlib.Core.List.{List}
 use lib.ListN.{length}
-use Rattle.equivalence.specs.Kernel.{Canonical, Within}
+use Rattle.kernel.specs.Kernel.{Canonical, Within}
 use Rattle.algebra.specs.Algebra.{Algebra, algebraOf}
 use Rattle.algebra.specs.Accepted.{Accepted}
-use Rattle.algebra.specs.Translations.{Compatible}
+use Rattle.translation.specs.Translations.{Compatible}
 use Rattle.closure.specs.Starts.{Heeded, NamesListed}
 
 -- (p, q) comes before (x, y): by the first element, then by the second

@@ -2,7 +2,7 @@
 ghost use mathlib.Core.Path.{_≡_};
 ghost use Prim.Native.Nat.{ℕ, _<_, _≤_};
 ghost use Rattle.equivalence.specs.Equivalence.{byte};
-ghost use Rattle.equivalence.specs.Kernel.{Canonical, Filled};
+ghost use Rattle.kernel.specs.Kernel.{Canonical, Filled};
 ghost use Rattle.separation.specs.Search.{TwoBlocks};
 ghost use Rattle.separation.specs.Blocks.{FirstOther, oneOf};
 

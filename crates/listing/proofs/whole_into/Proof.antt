@@ -8,7 +8,7 @@ use Rattle.equivalence.proofs.Kernels.{filled-none, filled-more}
 use Rattle.equivalence.proofs.Maps.{whole-map}
 use Rattle.equivalence.proofs.Writing.{filled-written}
 use Rattle.equivalence.specs.Equivalence.{byte, whole}
-use Rattle.equivalence.specs.Kernel.{Filled}
+use Rattle.kernel.specs.Kernel.{Filled}
 use Rattle.listing.proofs.Listings.{whole-at}
 use Rattle.listing.proofs.whole_into.Statement.{statement}
 use Rattle.listing.proofs.whole_into.Tie as tie

@@ -4,9 +4,9 @@ use mathlib.Core.Path.{_≡_, refl, sym, _∙_}
 use native.Mathlib.Omega.{arith}
 use lib.ListN.{length}
 use Rattle.equivalence.specs.Equivalence.{byte}
-use Rattle.equivalence.specs.Kernel.{names}
+use Rattle.kernel.specs.Kernel.{names}
 use Rattle.algebra.specs.Algebra.{Algebra, algebraOf}
-use Rattle.algebra.specs.Translations.{Compatible}
+use Rattle.translation.specs.Translations.{Compatible}
 use Rattle.algebra.proofs.Accepted.{accepted-wellFormed}
 use Rattle.refinement.specs.Splitting.{Lists, Split}
 use Rattle.refinement.proofs.Names.{names-most, names-full}

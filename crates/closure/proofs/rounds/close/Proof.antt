@@ -5,7 +5,7 @@ use native.Mathlib.Omega.{arith}
 use lib.ListN.{length}
 use Rattle.algebra.proofs.Accepted.{accepted-wellFormed}
 use Rattle.algebra.specs.Algebra.{algebraOf, operations}
-use Rattle.algebra.specs.Translations.{Compatible}
+use Rattle.translation.specs.Translations.{Compatible}
 use Rattle.closure.proofs.Closings.{Running, running-none, running-more, running-compatible, retired-contexts}
 use Rattle.closure.proofs.Images.{compatible-whole, compatible-images, listed-below}
 use Rattle.closure.proofs.Queues.{Since, since-none, since-ready, since-more}

@@ -4,7 +4,7 @@ use mathlib.Core.Path.{_≡_, sym, ap, _∙_}
 use native.Mathlib.Omega.{arith}
 use borrow.Author.Needs.{needs}
 use borrow.Author.Tests.{eq-eqb}
-use Rattle.equivalence.specs.Kernel.{bit}
+use Rattle.kernel.specs.Kernel.{bit}
 use Rattle.closure.proofs.Sweeps.{barred-marked}
 use Rattle.closure.proofs.sweep.barred.Statement.{statement}
 use Rattle.closure.proofs.sweep.barred.Tie as tie

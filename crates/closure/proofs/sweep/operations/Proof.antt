@@ -3,7 +3,7 @@ use Prim.Native.Nat.{_-_, _≤_}
 use mathlib.Core.Path.{_≡_, sym}
 use native.Mathlib.Omega.{arith}
 use lib.ListN.{length, take}
-use Rattle.equivalence.specs.Kernel.{Listed}
+use Rattle.kernel.specs.Kernel.{Listed}
 use Rattle.algebra.proofs.Accepted.{accepted-wellFormed}
 use Rattle.algebra.proofs.Tables.{start-next, start-first, start-room}
 use Rattle.algebra.specs.Algebra.{algebraOf, cellCount, operations}

@@ -1,7 +1,7 @@
 -- `division::numbers::opened` meets its contract. The two cases of the test.
 use mathlib.Core.Path.{sym, ap}
 use borrow.Author.Tests.{eq-eqb, ne-eqb}
-use Rattle.equivalence.specs.Kernel.{bit}
+use Rattle.kernel.specs.Kernel.{bit}
 use Rattle.division.proofs.numbers.opened.Statement.{statement}
 use Rattle.division.proofs.numbers.opened.Tie as tie
 

@@ -3,10 +3,10 @@ use Prim.Native.Nat.{ℕ, _+_, _-_, _^_, _≤_}
 use mathlib.Core.Path.{_≡_, refl, sym}
 use native.Mathlib.Omega.{arith}
 use lib.ListN.{length, getD}
-use Rattle.equivalence.specs.Kernel.{Listed}
+use Rattle.kernel.specs.Kernel.{Listed}
 use Rattle.equivalence.specs.Equivalence.{byte}
 use Rattle.algebra.specs.Algebra.{Algebra, algebraOf}
-use Rattle.algebra.specs.Translations.{tableStart}
+use Rattle.translation.specs.Translations.{tableStart}
 use Rattle.algebra.proofs.Accepted.{WellFormed, accepted-wellFormed}
 use Rattle.refinement.specs.Splitting.{Keeps, KeepsOn, Any, Chosen, Table, Lists, Split}
 use Rattle.refinement.proofs.Splits.{split-none, split-next, split-said}

@@ -3,7 +3,7 @@ use mathlib.Core.Path.{_≡_, refl, ap, sym, _∙_}
 use native.Mathlib.Omega.{arith}
 use lib.ListN.{length, length-set}
 use Rattle.equivalence.specs.Equivalence.{byte}
-use Rattle.equivalence.specs.Kernel.{Filled}
+use Rattle.kernel.specs.Kernel.{Filled}
 use Rattle.equivalence.proofs.Kernels.{filled-none, filled-more}
 use Rattle.separation.specs.Blocks.{oneOf}
 use borrow.Author.Needs.{needs}

@@ -8,12 +8,12 @@ use lib.ListN.{length, getD, take, drop, set, length-take, length-append, take-a
 use lib.Seq.{getD-append-seam, set-append-seam, drop-cons, set-split}
 use Rattle.equivalence.specs.Equivalence.{Map, byte}
 use Rattle.equivalence.proofs.Maps.{Holds, IsMap}
 use Rattle.algebra.specs.Algebra.{Algebra, value}
 use Rattle.algebra.specs.Congruence.{respects}
-use Rattle.algebra.specs.Translations.{AllBelow, result, Compatible}
+use Rattle.translation.specs.Translations.{AllBelow, result, Compatible}
 use Rattle.algebra.proofs.Arguments.{Args}
 use Rattle.algebra.proofs.Congruences.{Respects, IsCongruence}
 use Rattle.algebra.proofs.Tables.{operationAt, operationAt-member, every-operation, value-at}
 
 -- a list whose members are below n, as an argument list, and back
 pub args-below : (n s : ℕ) (xs : List ℕ) → Args n s xs → AllBelow n xs

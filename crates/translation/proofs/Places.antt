@@ -5,8 +5,8 @@ use native.Mathlib.Nat.{pow-zero, pow-succ'}
 use native.Mathlib.Omega.{arith}
 use lib.Arith.{digits-lt}
 use lib.ListN.{length}
 use Rattle.algebra.specs.Algebra.{place}
-use Rattle.algebra.specs.Translations.{AllBelow}
+use Rattle.translation.specs.Translations.{AllBelow}
 
 pub place-lt : (n : ℕ) (xs : List ℕ) → AllBelow n xs → place n xs < n ^ length xs
 unfolding place

@@ -4,8 +4,8 @@ use Prim.Native.Nat.{ℕ, _+_, _<_}
 use mathlib.Core.Path.{_≡_}
 use mathlib.Core.List.{List, [], _∷_, _++_}
 use lib.ListN.{length, getD, take}
-use Rattle.equivalence.specs.Kernel.{Canonical, Within}
+use Rattle.kernel.specs.Kernel.{Canonical, Within}
 use Rattle.algebra.specs.Algebra.{Algebra, cellCount, place}
 
 -- every member is below n
 abbrev pub AllBelow : ℕ → List ℕ → Type 0

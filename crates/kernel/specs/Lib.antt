@@ -1,0 +1,3 @@
+pub mod Kernel
+pub mod Search
+pub mod Largest
