@@ -2,4 +2,5 @@ pub mod Accepted
 pub mod Arguments
 pub mod Congruences
 pub mod Maximum
+pub mod Powers
 pub mod Tables

@@ -1,5 +1,4 @@
 -- Reasons 1 to 6, and the algebras that none of them declines.
-use Prim.Native.Nat.{ℕ, _≤_, _<_}
 use mathlib.Core.Path.{_≡_}
 use mathlib.Core.Bool.{not}
 use mathlib.Core.List.{List, [], _∷_}

@@ -1,7 +1,7 @@
 // The tests of the bench's calls, by rising number.
 ghost use mathlib.Core.Path.{_≡_};
 ghost use mathlib.Core.List.{[], _∷_};
-ghost use Prim.Native.Nat.{ℕ, _<_, _≤_};
+ghost use Prim.Native.Nat.{_≤_};
 ghost use Rattle.equivalence.specs.Refusal.{lowest, sizeTest};
 ghost use Rattle.algebra.specs.Algebra.{algebraOf};
 ghost use Rattle.bench.specs.Calls.{benchTest, clearTests, placeTests, addTests};

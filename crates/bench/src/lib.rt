@@ -2,7 +2,7 @@
 // A bench is a value: it goes into a call and comes back beside the answer. Any bench is legal, also one that no call here gave.
 ghost use mathlib.Core.Path.{_≡_};
 ghost use mathlib.Core.List.{[], _∷_};
-ghost use Prim.Native.Nat.{ℕ, _+_, _<_, _≤_};
+ghost use Prim.Native.Nat.{_+_, _<_, _≤_};
 ghost use Rattle.equivalence.specs.Refusal.{lowest};
 ghost use Rattle.equivalence.specs.declared.Check.the-variants.{Passed};
 ghost use Rattle.algebra.specs.Algebra.{algebraOf};

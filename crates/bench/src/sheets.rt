@@ -1,6 +1,6 @@
 // The state of a bench: its sheets made, tested and changed.
 ghost use mathlib.Core.Path.{_≡_};
-ghost use Prim.Native.Nat.{ℕ, _<_, _≤_};
+ghost use Prim.Native.Nat.{_<_, _≤_};
 ghost use lib.ListN.{length, getD, take};
 ghost use Rattle.equivalence.specs.Lists.{every};
 ghost use lib.Dec.{T};

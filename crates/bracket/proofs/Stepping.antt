@@ -18,7 +18,7 @@ use Rattle.equivalence.specs.declared.Refusal.the-variants.{Size, Text}
 use Rattle.equivalence.specs.declared.Check.the-variants.{Passed, Failed}
 use Rattle.algebra.specs.Algebra.{Algebra, algebraOf}
 use Rattle.reader.specs.Reading.{ascii, begins}
-use Rattle.reader.specs.Lines.{refused, sizeLine, tested, afterSize, sized, operation, request}
+use Rattle.reader.specs.Lines.{sizeLine, tested, afterSize, sized, operation, request}
 use Rattle.bracket.specs.Answers.{refusedLine}
 use Rattle.bracket.specs.Transcript.{State, goes, afterLine, afterRequest, firstStep, operationStep, requestStep, step}
 use Rattle.reader.specs.Promises.{bit, NumberRead, Laid, passing, progressOf, operationProgress, OperationRead, requestOf, goesOn, Requested}

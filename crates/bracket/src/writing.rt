@@ -1,7 +1,6 @@
 // Writing bracket text into a lent buffer: each writer begins at a place and gives the place after what it wrote.
-ghost use mathlib.Core.Path.{_≡_};
 ghost use mathlib.Core.List.{[], _∷_, _++_, map};
-ghost use Prim.Native.Nat.{ℕ, _+_, _*_, _≤_, _<_};
+ghost use Prim.Native.Nat.{_+_, _*_, _≤_, _<_};
 ghost use lib.ListN.{length};
 ghost use Rattle.reader.specs.Numbers.{decimal};
 ghost use Rattle.equivalence.specs.Lists.{upTo, stretch};

@@ -1,7 +1,7 @@
 // Certify of an accepted algebra: the four conditions on a list of maps, each in turn. Working storage: the meets of 64 suffixes, and one meet.
 ghost use mathlib.Core.Path.{_≡_};
 ghost use mathlib.Core.Bool.{not, _&&_};
-ghost use Prim.Native.Nat.{ℕ, _+_, _*_, _<_, _≤_};
+ghost use Prim.Native.Nat.{_+_, _*_, _<_, _≤_};
 ghost use lib.Dec.{T};
 ghost use lib.ListN.{length};
 ghost use Rattle.equivalence.specs.Lists.{upTo, every, any, without};

@@ -3,7 +3,6 @@
 use Prim.Native.Nat.{ℕ, zero, suc, _+_, _*_, _^_, _≤_, _<_}
 use mathlib.Core.List.{List, [], _∷_, _++_}
 use mathlib.Core.Path.{_≡_, refl, sym, ap, subst, _∙_, subst₂}
-use native.Mathlib.Nat.{pow-zero}
 use native.Mathlib.Omega.{arith}
 use lib.ListN.{length, getD, length-append}
 use Rattle.equivalence.specs.Equivalence.{byte}
@@ -12,24 +11,10 @@ use Rattle.algebra.specs.Accepted.{Accepted}
 use Rattle.algebra.specs.Algebra.{Algebra, place}
 use Rattle.translation.specs.Translations.{AllBelow, tableStart, result, Compatible}
 use Rattle.algebra.proofs.Accepted.{WellFormed, accepted-wellFormed}
-use Rattle.translation.proofs.Places.{place-lt}
+use Rattle.translation.proofs.Places.{place-lt, place-one, place-two, place-three}
 use Rattle.algebra.proofs.Tables.{start-room}
 use Rattle.closure.specs.Contexts.{All, ImagesIn, OperationsIn, OnLine, OnPlane, OnTable, Contexts, TableFits}
-use Rattle.closure.proofs.Sweeps.{each-more, power-one, power-two}
-
--- ---- places of short argument lists
-
-place-one : (n x : ℕ) → place n (x ∷ []) ≡ x
-unfolding place
-place-one n x = rw (pow-zero n) (omega arith)
-
-place-two : (n c x : ℕ) → place n (c ∷ x ∷ []) ≡ c * n + x
-unfolding place
-place-two n c x = rw (power-one n, pow-zero n) (omega arith)
-
-place-three : (n c d x : ℕ) → place n (c ∷ d ∷ x ∷ []) ≡ c * (n * n) + d * n + x
-unfolding place
-place-three n c d x = rw (power-two n, power-one n, pow-zero n) (omega arith)
+use Rattle.closure.proofs.Sweeps.{each-more}
 
 -- ---- tables and images
 

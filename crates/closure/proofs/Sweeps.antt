@@ -1,14 +1,15 @@
 -- The laws of the passes: what was joined stays joined, one index more, the stop at one block, marked pairs, and the cells of a table
 -- against the results of its operation.
-use Prim.Native.Nat.{ℕ, zero, suc, _+_, _-_, _*_, _^_, _≤_, _<_}
+use Prim.Native.Nat.{ℕ, zero, suc, _+_, _-_, _*_, _≤_, _<_}
 use mathlib.Core.List.{List}
 use mathlib.Core.Logic.{_⊎_, inl, inr}
-use mathlib.Core.Path.{_≡_, refl, sym, ap, subst, _∙_}
+use mathlib.Core.Path.{_≡_, sym, ap, subst, _∙_}
 use native.Mathlib.Decide.{decLt, ℕ-discrete}
-use native.Mathlib.Nat.{pow-zero, pow-suc, mul-le-mul-right}
+use native.Mathlib.Nat.{mul-le-mul-right}
 use native.Mathlib.Omega.{arith}
 use lib.ListN.{length}
 use borrow.Author.Tests.{eq-eqb}
+use Rattle.algebra.proofs.Powers.{power-one, power-two, power-three}
 use Rattle.equivalence.specs.Equivalence.{byte, inside}
 use Rattle.kernel.specs.Kernel.{Canonical, Within, bit, names}
 use Rattle.equivalence.proofs.Kernels.{names-positive}
@@ -136,15 +137,6 @@ barred-joins {n} {v} {w} {a} {b} {table} {f} {g} c la lb x h d e =
     elim (x .marked) [ inl k ↦ h (f a) (f b) sa sb k i | inr k ↦ h (f b) (f a) sb sa k (sym i) ]
 
 -- ---- tables
-
-pub power-one : (n : ℕ) → n ^ 1 ≡ n
-power-one n = rw (pow-suc n 0, pow-zero n) (omega arith)
-
-pub power-two : (n : ℕ) → n ^ 2 ≡ n * n
-power-two n = rw (pow-suc n 1, power-one n) refl
-
-power-three : (n : ℕ) → n ^ 3 ≡ n * n * n
-power-three n = rw (pow-suc n 2, power-two n) refl
 
 two-digits : (n c d : ℕ) → c < n → d < n → c * n + d < n * n
 two-digits n c d lc ld = omega (arith, mul-le-mul-right n lc)

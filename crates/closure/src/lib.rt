@@ -3,7 +3,6 @@
 // A merge takes one name away, and the queue holds the names taken away. Each queued element is taken once, with the name that its block
 // then has, through every translation whose other arguments are still in use; after that it is in use no more itself.
 ghost use mathlib.Core.Path.{_≡_};
-ghost use mathlib.Core.Bool.{true, false};
 ghost use Prim.Native.Nat.{ℕ, _+_, _<_, _≤_};
 ghost use lib.ListN.{length};
 ghost use Rattle.equivalence.specs.Equivalence.{byte};

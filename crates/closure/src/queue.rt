@@ -1,6 +1,6 @@
 // Merging with a queue. A map is lent with room for n bytes, and so is the queue.
 ghost use mathlib.Core.Path.{_≡_};
-ghost use Prim.Native.Nat.{ℕ, _<_};
+ghost use Prim.Native.Nat.{_<_};
 ghost use Rattle.equivalence.specs.Equivalence.{byte};
 ghost use Rattle.closure.specs.Queue.{state, Ready, Grown};
 

@@ -1,5 +1,4 @@
 // What a closure begins with: pairs joined, and lists of the names of a map and of the other elements.
-ghost use mathlib.Core.Path.{_≡_};
 ghost use mathlib.Core.Bool.{not};
 ghost use Prim.Native.Nat.{ℕ, _<_, _≤_};
 ghost use lib.Dec.{eqb};

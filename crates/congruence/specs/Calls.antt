@@ -1,8 +1,8 @@
 -- What each service answers, and every lent byte after its call.
 use Prim.Native.Nat.{ℕ, _-_, _*_, _/_, _%_}
-use mathlib.Core.Bool.{Bool, true, false, not, _&&_, _||_}
+use mathlib.Core.Bool.{true, false, not, _||_}
 use mathlib.Core.List.{List, [], _∷_, _++_, map}
-use lib.Dec.{eqb, leb, ltb}
+use lib.Dec.{eqb, ltb}
 use lib.ListN.{length}
 use Rattle.equivalence.specs.Lists.{upTo, every, concat, stretch}
 use Rattle.equivalence.specs.Equivalence.{Map, isMap, blocks}

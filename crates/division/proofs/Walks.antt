@@ -4,24 +4,16 @@ use Prim.Native.Nat.{ℕ, zero, suc, _+_, _*_, _^_, _≤_, _<_}
 use mathlib.Core.Path.{_≡_, refl, sym, ap, _∙_}
 use mathlib.Core.List.{List, [], _∷_, _++_, map, append-assoc, append-nil, map-append}
 use native.Mathlib.Numerals.{add-one}
-use native.Mathlib.Nat.{pow-zero, pow-suc, pow-succ', suc-mul, one-mul, mul-one, mul-le-mul-right}
+use native.Mathlib.Nat.{pow-zero, pow-succ', suc-mul, mul-one, mul-le-mul-right}
 use native.Mathlib.Omega.{arith}
 use lib.ListN.{length, take, drop, set, length-append, length-take, length-drop, take-append-drop}
 use lib.Seq.{take-at, drop-at, drop-drop, length-take-le, set-split}
+use Rattle.algebra.proofs.Powers.{power-one}
 use Rattle.equivalence.specs.Equivalence.{byte}
 use Rattle.equivalence.specs.Lists.{upTo, concat}
 use Rattle.equivalence.specs.Refusal.{written}
 use Rattle.equivalence.proofs.Stretches.{concat-append, stretches}
 use Rattle.division.specs.Tables.{laid, joined, cellDivided, rowDivided, Source, divided, Sound, Fits, RowFits}
-
-pub power-one : (n : ℕ) → n ^ 1 ≡ n
-power-one n = pow-suc n 0 ∙ ap (λ (k : ℕ). k * n) (pow-zero n) ∙ one-mul n
-
-pub power-two : (n : ℕ) → n ^ 2 ≡ n * n
-power-two n = pow-suc n 1 ∙ ap (λ (k : ℕ). k * n) (power-one n)
-
-pub power-three : (n : ℕ) → n ^ 3 ≡ n * n * n
-power-three n = pow-suc n 2 ∙ ap (λ (k : ℕ). k * n) (power-two n)
 
 -- nothing laid
 pub laid-none : (lent : List ℕ) (at : ℕ) → laid lent at [] ≡ lent

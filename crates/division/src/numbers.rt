@@ -1,6 +1,6 @@
 // The numbers of a map's blocks, and each block's smallest member.
 ghost use mathlib.Core.Path.{_≡_};
-ghost use Prim.Native.Nat.{ℕ, _+_, _<_, _≤_};
+ghost use Prim.Native.Nat.{_+_, _<_, _≤_};
 ghost use lib.Dec.{T, eqb};
 ghost use Rattle.equivalence.specs.Equivalence.{byte, isMap};
 ghost use Rattle.kernel.specs.Kernel.{bit};

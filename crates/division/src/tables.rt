@@ -1,7 +1,7 @@
 // The tables over blocks. An operation's table begins at `from` in the cells, its quotient's at `to` in the lent bytes. `numbers` has each
 // element's block number and `firsts` each block's smallest member, at which the cells are read.
 ghost use mathlib.Core.Path.{_≡_};
-ghost use Prim.Native.Nat.{ℕ, _+_, _*_, _^_, _<_, _≤_};
+ghost use Prim.Native.Nat.{_+_, _*_, _<_, _≤_};
 ghost use lib.ListN.{length};
 ghost use Rattle.equivalence.specs.Equivalence.{byte};
 ghost use Rattle.division.specs.Tables.{laid, joined, cellDivided, rowDivided, divided, dividedAt, sourceOf, Sound, Fits, RowFits, AllFit};

@@ -13,9 +13,7 @@ use Rattle.equivalence.specs.Refusal.{answered, written, lentAfter}
 use Rattle.equivalence.proofs.Maps.{IsMap}
 use Rattle.equivalence.proofs.Refusals.{of-passed, of-sizeTest, of-mapTest, of-spaceTest}
 use Rattle.equivalence.specs.declared.Refusal.{Refusal}
-use Rattle.equivalence.specs.declared.Check.{Check}
 use Rattle.equivalence.specs.declared.Check.the-variants.{Passed, Failed}
-use Rattle.equivalence.specs.declared.Written.{Written}
 use Rattle.equivalence.specs.declared.Written.the-variants.{Done, Refused}
 
 -- two maps over a number of elements

@@ -12,7 +12,6 @@ use Rattle.equivalence.specs.Order.{Pair, pairs, rowStart, placeOf}
 use Rattle.equivalence.proofs.Lists.{member-index, of-below}
 use Rattle.equivalence.proofs.Pairs.{member-pairs}
 use Rattle.equivalence.proofs.Tests.{both, left, right, pick-yes, pick-no}
-use Rattle.equivalence.specs.declared.Place.{Place}
 use Rattle.equivalence.specs.declared.Place.the-variants.{At, Nowhere}
 
 -- the table, as the code has it

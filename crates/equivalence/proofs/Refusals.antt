@@ -13,7 +13,6 @@ use Rattle.equivalence.proofs.Tests.{T?, or-left, or-right, eq→eqb, p
 use Rattle.equivalence.specs.declared.Refusal.{Refusal}
 use Rattle.equivalence.specs.declared.Refusal.the-variants.{Size, NotMap, Space}
 use borrow.Author.Tests.{not-true, not-false}
-use Rattle.equivalence.specs.declared.Check.{Check}
 use Rattle.equivalence.specs.declared.Check.the-variants.{Passed, Failed}
 
 -- no tests, no reason

@@ -9,7 +9,7 @@ use Rattle.equivalence.specs.Equivalence.{Map, meet, join}
 use Rattle.equivalence.specs.Order.{notLater}
 use Rattle.equivalence.specs.Refusal.{lowest, sizeTest, mapTest, spaceTest, answered, lentAfter}
 use Rattle.equivalence.specs.declared.Check.{Check}
-use Rattle.equivalence.specs.declared.Check.the-variants.{Passed, Failed}
+use Rattle.equivalence.specs.declared.Check.the-variants.{Passed}
 use Rattle.equivalence.specs.declared.Written.{Written}
 use Rattle.equivalence.specs.declared.Written.the-variants.{Done, Refused}
 

@@ -1,6 +1,6 @@
 // The blocks of a map, changed in place. A map is lent with room for n bytes; bytes past n keep their value.
 ghost use mathlib.Core.Path.{_≡_};
-ghost use Prim.Native.Nat.{ℕ, _+_, _<_, _≤_};
+ghost use Prim.Native.Nat.{_+_, _<_, _≤_};
 ghost use Rattle.equivalence.specs.Equivalence.{byte};
 ghost use Rattle.kernel.specs.Kernel.{Canonical, Filled, Merged, United, relabel};
 

@@ -1,8 +1,7 @@
 // The tests of a call, by rising number: the first that applies is the answer.
 ghost use mathlib.Core.Path.{_≡_};
 ghost use mathlib.Core.Bool.{not};
-ghost use mathlib.Core.List.{List, [], _∷_};
-ghost use Prim.Native.Nat.{ℕ};
+ghost use mathlib.Core.List.{[], _∷_};
 ghost use Rattle.equivalence.specs.Refusal.{lowest, numberOf, sizeTest, mapTest, spaceTest};
 ghost use Rattle.equivalence.specs.Calls.{preferCheck};
 use crate::Check;

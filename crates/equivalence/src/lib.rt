@@ -1,6 +1,5 @@
 // Equivalences on the elements 0 to n - 1, written as maps; and the types that every layer above shares.
 ghost use mathlib.Core.Path.{_≡_};
-ghost use Prim.Native.Nat.{ℕ};
 ghost use Rattle.equivalence.specs.Calls.{meetCall, joinCall, Preferred};
 ghost use Rattle.equivalence.specs.Order.{placeOf};
 

@@ -1,7 +1,7 @@
 // Tests of maps. Where only the first n bytes of a slice are a map, they are said to be canonical: a stretch of a longer slice will do.
 ghost use mathlib.Core.Path.{_≡_};
 ghost use mathlib.Core.Bool.{_&&_};
-ghost use Prim.Native.Nat.{ℕ, _<_, _≤_};
+ghost use Prim.Native.Nat.{_<_, _≤_};
 ghost use lib.Dec.{eqb, leb};
 ghost use Rattle.equivalence.specs.Equivalence.{byte, isMap, holds, inside, isIdentity};
 ghost use Rattle.kernel.specs.Kernel.{Canonical, bit, names};

@@ -1,6 +1,6 @@
 // The order of pairs, and which of two maps is the earlier. The maps are the first n bytes of what is handed in.
 ghost use mathlib.Core.Path.{_≡_};
-ghost use Prim.Native.Nat.{ℕ, _+_, _-_, _<_, _≤_, min};
+ghost use Prim.Native.Nat.{_+_, _-_, _<_, _≤_, min};
 ghost use Rattle.equivalence.specs.Equivalence.{byte};
 ghost use Rattle.kernel.specs.Kernel.{Canonical};
 ghost use Rattle.equivalence.specs.Order.{firstHeld, notLater, rowStart};

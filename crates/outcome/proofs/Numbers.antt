@@ -6,15 +6,10 @@ use Rattle.equivalence.specs.Refusal.{numberOf}
 use Rattle.congruence.specs.Outcome.{success, refusal, writtenOutcome, generatedOutcome, dividedOutcome, decomposedOutcome, certifiedOutcome, packed}
 use Rattle.equivalence.specs.declared.Refusal.{Refusal}
 use Rattle.equivalence.specs.declared.Element.{Element}
-use Rattle.equivalence.specs.declared.Written.{Written}
 use Rattle.equivalence.specs.declared.Written.the-variants.{Done, Refused as WriteRefused}
-use Rattle.congruence.specs.declared.Generated.{Generated}
 use Rattle.congruence.specs.declared.Generated.the-variants.{Merges, Refused as GenerateRefused}
-use Rattle.congruence.specs.declared.Divided.{Divided}
 use Rattle.congruence.specs.declared.Divided.the-variants.{Blocks, Refused as DivideRefused}
-use Rattle.congruence.specs.declared.Certified.{Certified}
 use Rattle.congruence.specs.declared.Certified.the-variants.{Yes, No, Refused as CertifyRefused}
-use Rattle.congruence.specs.declared.Decomposed.{Decomposed}
 use Rattle.congruence.specs.declared.Decomposed.the-variants.{Factors, Irreducible, Refused as DecomposeRefused}
 
 -- a refusal's bare number

@@ -1,6 +1,6 @@
 // A bench as 517 bytes: eight sheets of 64 bytes, the bench's n, and the tally with its lowest byte first.
 ghost use mathlib.Core.Path.{_≡_};
-ghost use Prim.Native.Nat.{ℕ, _+_, _*_, _≤_, _<_};
+ghost use Prim.Native.Nat.{_+_, _*_, _≤_, _<_};
 ghost use lib.ListN.{length};
 use bench::Answer;
 use bench::Bench;

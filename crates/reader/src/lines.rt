@@ -5,7 +5,7 @@ use crate::reading::byte_at;
 use crate::reading::read_number;
 use crate::reading::read_table;
 ghost use mathlib.Core.Path.{_≡_};
-ghost use Prim.Native.Nat.{ℕ, _+_, _^_, _≤_, _<_};
+ghost use Prim.Native.Nat.{_+_, _^_, _≤_, _<_};
 ghost use lib.ListN.{length};
 ghost use lib.Dec.{ltb};
 ghost use Rattle.equivalence.specs.Lists.{every};

@@ -1,6 +1,6 @@
 // Reading bracket text by places. Past the end of a text every byte counts as 0, which no form has.
 ghost use mathlib.Core.Path.{_≡_};
-ghost use Prim.Native.Nat.{ℕ, _+_, _-_, _≤_, _<_};
+ghost use Prim.Native.Nat.{_+_, _-_, _≤_, _<_};
 ghost use lib.ListN.{length};
 ghost use Rattle.reader.specs.Reading.{byteAt, begins};
 ghost use Rattle.reader.specs.Numbers.{digitAt, number};

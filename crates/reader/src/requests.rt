@@ -4,9 +4,9 @@ use crate::reading::Spot;
 use crate::reading::begins_with;
 use crate::reading::read_items;
 ghost use mathlib.Core.Path.{_≡_};
-ghost use Prim.Native.Nat.{ℕ, _+_, _≤_, _<_};
+ghost use Prim.Native.Nat.{_+_, _≤_, _<_};
 ghost use lib.ListN.{length};
-ghost use Rattle.reader.specs.Tables.{cell, table, pair};
+ghost use Rattle.reader.specs.Tables.{table};
 ghost use Rattle.reader.specs.Lines.{listing, twoNumbers, request, generating, containing};
 ghost use Rattle.reader.specs.Promises.{bit, goesOn, Roomy, Stored, Requested, RequestRead};
 

@@ -4,35 +4,20 @@ use Prim.Native.Nat.{ℕ, zero, suc, _+_, _*_, _^_, _≤_, _<_}
 use mathlib.Core.Bool.{Bool, true, false}
 use mathlib.Core.List.{List, [], _∷_, _++_}
 use mathlib.Core.Path.{_≡_, refl, sym, ap, subst, _∙_}
-use native.Mathlib.Nat.{pow-zero}
-use native.Mathlib.Numerals.{add-one}
 use native.Mathlib.Omega.{arith}
 use lib.Dec.{T}
-use lib.ListN.{length, getD, take}
+use lib.ListN.{length, getD}
 use Rattle.equivalence.specs.Equivalence.{Map, byte}
 use Rattle.kernel.specs.Kernel.{Canonical, Within, Listed}
-use Rattle.algebra.specs.Algebra.{Algebra, cellCount, place}
+use Rattle.algebra.specs.Algebra.{Algebra, place}
 use Rattle.translation.specs.Translations.{AllBelow, tableStart, result, Compatible}
 use Rattle.algebra.proofs.Accepted.{WellFormed}
 use Rattle.algebra.proofs.Congruences.{cells-below}
-use Rattle.refinement.specs.Splitting.{Elements, line, Keeps, KeepsOn, Any, Chosen, Table, Lent, Represented}
+use Rattle.algebra.proofs.Tables.{start-room}
+use Rattle.translation.proofs.Places.{place-one, place-two, place-three}
+use Rattle.refinement.specs.Splitting.{line, Keeps, KeepsOn, Any, Chosen, Table, Lent, Represented}
 use Rattle.refinement.proofs.Splits.{keeps-by-first}
 use Rattle.refinement.proofs.Sifting.{still-first}
-use Rattle.refinement.proofs.Tables.{power-one, power-two}
-
--- ---- places by arity
-
-place-one : (n x : ℕ) → place n (x ∷ []) ≡ x
-unfolding place
-place-one n x = rw (pow-zero n) (omega arith)
-
-place-two : (n x u : ℕ) → place n (x ∷ u ∷ []) ≡ x * n + u
-unfolding place
-place-two n x u = rw (power-one n, pow-zero n) (omega arith)
-
-place-three : (n x u v : ℕ) → place n (x ∷ u ∷ v ∷ []) ≡ x * (n * n) + (u * n + v)
-unfolding place
-place-three n x u v = rw (power-two n, power-one n, pow-zero n) (omega arith)
 
 -- ---- results as cells of a line
 
@@ -263,31 +248,11 @@ module _ (a : Algebra) (w : WellFormed a) {live : List ℕ} {used : ℕ} (g : �
 pub represented-again : {a : Algebra} {live : List ℕ} {used : ℕ} {e e′ : ℕ → ℕ} (s : Represented a live used e) → Within (a .size) (s .name) e′ → Represented a live used e′
 represented-again s h = record { elements = s .elements; name = s .name; canonical = s .canonical; compatible = s .compatible; within = h; listed = s .listed }
 
--- ---- where the tables begin
+-- ---- what the walk over an accepted algebra finds
 
-start-suc : (n : ℕ) (ss : List ℕ) (j : ℕ) → j < length ss → cellCount n (take (suc j) ss) ≡ cellCount n (take j ss) + n ^ getD ss j 0
-unfolding cellCount
-start-suc n [] j l = absurd (omega arith)
-start-suc n (s ∷ rest) zero l = omega arith
-start-suc n (s ∷ rest) (suc j) l = omega (arith, start-suc n rest j (omega arith))
-
-start-most : (n : ℕ) (ss : List ℕ) (j : ℕ) → cellCount n (take j ss) ≤ cellCount n ss
-unfolding cellCount
-start-most n [] zero = omega arith
-start-most n [] (suc j) = omega arith
-start-most n (s ∷ rest) zero = omega arith
-start-most n (s ∷ rest) (suc j) = omega (arith, start-most n rest j)
-
--- each table begins where the one before it ends
-pub start-next : (a : Algebra) (j : ℕ) → j < length (a .arities) → tableStart a (j + 1) ≡ tableStart a j + a .size ^ getD (a .arities) j 0
-start-next a j l = rw (add-one j) (start-suc (a .size) (a .arities) j l)
-
+-- each table lies within the cells
 pub table-room : (a : Algebra) → WellFormed a → (j : ℕ) → j < length (a .arities) → tableStart a j + a .size ^ getD (a .arities) j 0 ≤ length (a .cells)
-table-room a w j l = omega (arith, start-suc (a .size) (a .arities) j l, start-most (a .size) (a .arities) (suc j), w .filled)
-
-pub start-zero : (a : Algebra) → tableStart a 0 ≡ 0
-unfolding cellCount
-start-zero a = refl
+table-room a w j l = omega (arith, start-room (a .size) (a .arities) j l, w .filled)
 
 -- what is lent to the walk over an accepted algebra
 pub accepted-lent : (a : Algebra) → WellFormed a → (m : Map) → a .size ≤ length m → Canonical (a .size) (byte m) → Lent (a .size) m (a .cells)

@@ -1,14 +1,13 @@
 -- The number of names, which is the number of blocks of a canonical function: at most n, n for the identity alone, one where
 -- every name is 0, more where more elements are names.
-use Prim.Native.Nat.{ℕ, zero, suc, _+_, _≤_, _<_}
+use Prim.Native.Nat.{ℕ, zero, suc, _≤_, _<_}
 use mathlib.Core.Bool.{Bool, true, false}
 use mathlib.Core.Path.{_≡_, refl, sym, ap}
 use native.Mathlib.Decide.{ℕ-discrete}
-use native.Mathlib.Numerals.{add-one}
 use native.Mathlib.Omega.{arith}
 use lib.Dec.{eqb}
 use borrow.Author.Tests.{eq-eqb, ne-eqb}
-use Rattle.kernel.specs.Kernel.{Canonical, Within, bit, names}
+use Rattle.kernel.specs.Kernel.{Canonical, bit, names}
 use Rattle.equivalence.proofs.Kernels.{names-positive}
 
 bit-most : (b : Bool) → bit b ≤ 1

@@ -2,13 +2,13 @@
 -- map is a congruence.
 use Prim.Native.Nat.{ℕ, _≤_, _<_}
 use mathlib.Core.Bool.{Bool, true, false}
-use mathlib.Core.List.{List, [], _∷_, _++_}
+use mathlib.Core.List.{List, _∷_, _++_}
 use mathlib.Core.Path.{_≡_, refl, sym, ap, _∙_}
 use native.Mathlib.Omega.{arith}
 use lib.Dec.{T}
 use lib.ListN.{length}
 use Rattle.equivalence.specs.Equivalence.{Map, byte, isMap, inside}
-use Rattle.kernel.specs.Kernel.{Canonical, Filled, names, Listed}
+use Rattle.kernel.specs.Kernel.{Canonical, names}
 use Rattle.equivalence.proofs.Maps.{of-isMap, inside-of, of-inside}
 use Rattle.algebra.specs.Algebra.{Algebra}
 use Rattle.algebra.specs.Congruence.{isCongruence}
@@ -17,7 +17,7 @@ use Rattle.algebra.proofs.Accepted.{WellFormed}
 use Rattle.algebra.proofs.Congruences.{congruence-is, congruence-of}
 use Rattle.translation.proofs.Translations.{congruence-compatible, compatible-congruence}
 use Rattle.refinement.specs.Splitting.{Elements, Sifted, Lists, Split, Represented}
-use Rattle.refinement.proofs.Names.{names-full, names-one}
+use Rattle.refinement.proofs.Names.{names-one}
 use Rattle.refinement.proofs.Compatibility.{result-below}
 
 -- the identity is compatible with every operation

@@ -1,11 +1,8 @@
 -- Naming the elements of a block anew: the table of those first seen, by the block to which the line takes them.
 use Prim.Native.Nat.{ℕ, _+_, _≤_, _<_}
 use mathlib.Core.Path.{_≡_, refl, sym, ap, _∙_}
-use native.Mathlib.Decide.{decLt, ℕ-discrete}
+use native.Mathlib.Decide.{ℕ-discrete}
 use native.Mathlib.Omega.{arith}
-use lib.ListN.{length, set}
-use lib.Seq.{getD-set-same, getD-set-other}
-use Rattle.equivalence.specs.Equivalence.{Map, byte}
 use Rattle.kernel.specs.Kernel.{Canonical}
 use Rattle.refinement.specs.Splitting.{Alike, FirstInto, Seen}
 

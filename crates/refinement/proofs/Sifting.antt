@@ -7,7 +7,7 @@ use native.Mathlib.Omega.{arith}
 use lib.Dec.{eqb}
 use lib.ListN.{length, set}
 use lib.Seq.{getD-set-same, getD-set-other}
-use borrow.Author.Tests.{eq-eqb, ne-eqb}
+use borrow.Author.Tests.{ne-eqb}
 use Rattle.equivalence.specs.Equivalence.{Map, byte}
 use Rattle.kernel.specs.Kernel.{Canonical, Within, bit, Listed}
 use Rattle.refinement.specs.Splitting.{Elements, KeepsOn, Sifted, Lists, Split}

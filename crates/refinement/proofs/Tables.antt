@@ -1,9 +1,9 @@
 -- The lines of a table, by its arity: where they lie, and splitting along them all.
-use Prim.Native.Nat.{ℕ, _+_, _*_, _^_, _≤_, _<_}
+use Prim.Native.Nat.{ℕ, _+_, _*_, _≤_}
 use mathlib.Core.Bool.{Bool, true, false}
 use mathlib.Core.List.{List}
-use mathlib.Core.Path.{_≡_, ap, _∙_}
-use native.Mathlib.Nat.{pow-zero, pow-suc, one-mul, mul-one, mul-comm, mul-assoc, mul-le-mul}
+use mathlib.Core.Path.{_≡_}
+use native.Mathlib.Nat.{mul-assoc}
 use native.Mathlib.Omega.{arith}
 use lib.Arith.{digits-lt}
 use lib.ListN.{length}
@@ -11,20 +11,6 @@ use Rattle.kernel.specs.Kernel.{Listed}
 use Rattle.equivalence.specs.Equivalence.{Map}
 use Rattle.refinement.specs.Splitting.{Keeps, KeepsOn, Any, Chosen, Lines, Planes, Table, OnLines, OnPlanes, Split}
 use Rattle.refinement.proofs.Splits.{split-more, split-said}
-
--- ---- powers up to the third
-
-pub power-one : (n : ℕ) → n ^ 1 ≡ n
-power-one n = pow-suc n 0 ∙ ap (λ (k : ℕ). k * n) (pow-zero n) ∙ one-mul n
-
-pub power-two : (n : ℕ) → n ^ 2 ≡ n * n
-power-two n = pow-suc n 1 ∙ ap (λ (k : ℕ). k * n) (power-one n)
-
-pub power-three : (n : ℕ) → n ^ 3 ≡ n * n * n
-power-three n = pow-suc n 2 ∙ ap (λ (k : ℕ). k * n) (power-two n)
-
-pub square-most : (n : ℕ) → n ≤ 64 → n * n ≤ 4096
-square-most n l = mul-le-mul l l
 
 -- ---- room
 

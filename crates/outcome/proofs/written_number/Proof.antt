@@ -1,6 +1,5 @@
-use mathlib.Core.Path.{_≡_, refl, sym, ap, _∙_}
-use native.Mathlib.Omega.{arith}
-use Rattle.congruence.specs.Outcome.{packed, generatedOutcome, writtenOutcome, decomposedOutcome}
+use mathlib.Core.Path.{sym, ap, _∙_}
+use Rattle.congruence.specs.Outcome.{packed, writtenOutcome}
 use Rattle.outcome.proofs.Numbers.{done-outcome, write-refused}
 use Rattle.equivalence.specs.declared.Written.{Written}
 use borrow.Author.Needs.{needs}

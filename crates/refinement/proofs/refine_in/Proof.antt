@@ -1,7 +1,5 @@
 -- `refine_in` meets its contract: of the elements in use, the others are listed first.
 use native.Mathlib.Omega.{arith}
-use Rattle.algebra.specs.Algebra.{algebraOf}
-use Rattle.algebra.proofs.Accepted.{accepted-wellFormed}
 use Rattle.refinement.proofs.Refinements.{lists-first}
 use borrow.Author.Needs.{needs}
 use Rattle.refinement.proofs.refine_in.Statement.{statement}

@@ -1,8 +1,7 @@
 use Prim.Native.Nat.{ℕ}
 use mathlib.Core.List.{List}
-use mathlib.Core.Path.{_≡_, refl, sym, ap, _∙_}
-use native.Mathlib.Omega.{arith}
-use Rattle.congruence.specs.Outcome.{packed, generatedOutcome, writtenOutcome, decomposedOutcome}
+use mathlib.Core.Path.{ap, _∙_}
+use Rattle.congruence.specs.Outcome.{packed, generatedOutcome}
 use Rattle.congruence.specs.declared.Generated.{Generated}
 use borrow.Author.Needs.{needs}
 use Rattle.worksheet.proofs.congruence_generate.Statement.{statement}

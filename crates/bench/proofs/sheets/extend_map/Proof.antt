@@ -1,6 +1,5 @@
 -- `bench::sheets::extend_map` meets its contract.
 use native.Mathlib.Omega.{arith}
-use borrow.Author.Needs.{needs}
 use Rattle.algebra.proofs.Accepted.{accepted-wellFormed}
 use Rattle.bench.proofs.Adding.{front-canonical, map-grown}
 use Rattle.bench.proofs.sheets.extend_map.Statement.{statement}

@@ -4,8 +4,9 @@ use mathlib.Core.Path.{refl, sym}
 use native.Mathlib.Nat.{mul-le-mul}
 use native.Mathlib.Omega.{arith}
 use borrow.Author.Needs.{needs}
+use Rattle.algebra.proofs.Powers.{power-two}
 use Rattle.division.specs.Tables.{sourceOf}
-use Rattle.division.proofs.Walks.{Walked, walked-start, walked-fits, walked-more, walked-all, power-two}
+use Rattle.division.proofs.Walks.{Walked, walked-start, walked-fits, walked-more, walked-all}
 use Rattle.division.proofs.tables.divide_cube.Statement.{statement}
 use Rattle.division.proofs.tables.divide_cube.Tie as tie
 

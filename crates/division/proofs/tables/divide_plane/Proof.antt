@@ -3,8 +3,9 @@ use Prim.Native.Nat.{_-_}
 use mathlib.Core.Path.{refl, sym}
 use native.Mathlib.Omega.{arith}
 use borrow.Author.Needs.{needs}
+use Rattle.algebra.proofs.Powers.{power-one}
 use Rattle.division.specs.Tables.{sourceOf}
-use Rattle.division.proofs.Walks.{Walked, walked-start, walked-fits, walked-more, walked-all, power-one, fits-row, laid-row}
+use Rattle.division.proofs.Walks.{Walked, walked-start, walked-fits, walked-more, walked-all, fits-row, laid-row}
 use Rattle.division.proofs.tables.divide_plane.Statement.{statement}
 use Rattle.division.proofs.tables.divide_plane.Tie as tie
 

@@ -1,10 +1,10 @@
 use Prim.Native.Nat.{_≤_, _-_}
-use mathlib.Core.Path.{_≡_, refl, sym}
+use mathlib.Core.Path.{_≡_, refl}
 use native.Mathlib.Omega.{arith}
 use lib.ListN.{length, length-set}
 use borrow.Author.Needs.{needs}
 use Rattle.equivalence.specs.Equivalence.{byte}
-use Rattle.kernel.specs.Kernel.{Filled, relabel}
+use Rattle.kernel.specs.Kernel.{Filled}
 use Rattle.equivalence.proofs.Kernels.{filled-none, filled-more}
 use Rattle.equivalence.proofs.blocks.copy.Statement.{statement}
 use Rattle.equivalence.proofs.blocks.copy.Tie as tie

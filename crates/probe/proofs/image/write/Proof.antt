@@ -1,5 +1,5 @@
 use native.Mathlib.Omega.{arith}
-use lib.ListN.{length, length-set}
+use lib.ListN.{length-set}
 use borrow.Author.Needs.{needs}
 use Rattle.probe.proofs.image.write.Statement.{statement}
 use Rattle.probe.proofs.image.write.Tie as tie

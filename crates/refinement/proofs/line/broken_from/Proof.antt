@@ -1,7 +1,6 @@
 -- `broken_from` meets its contract. The loop has passed the elements from `start` on below i.
 use Prim.Native.Nat.{ℕ, _+_, _*_, _-_, _≤_, _<_}
 use mathlib.Core.Path.{_≡_}
-use native.Mathlib.Decide.{ℕ-discrete}
 use native.Mathlib.Omega.{arith}
 use lib.ListN.{length, getD}
 use Rattle.equivalence.specs.Equivalence.{byte}

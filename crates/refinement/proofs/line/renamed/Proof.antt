@@ -1,8 +1,7 @@
 -- `renamed` meets its contract: an element of another block, one whose image was met before, or the first with its image.
 use Prim.Native.Nat.{ℕ, _+_, _*_, _≤_, _<_}
-use mathlib.Core.Path.{_≡_}
 use native.Mathlib.Omega.{arith}
-use lib.ListN.{length, getD, set}
+use lib.ListN.{length}
 use lib.Seq.{getD-set-same, getD-set-other}
 use Rattle.equivalence.specs.Equivalence.{byte}
 use Rattle.refinement.specs.Splitting.{line}

@@ -8,10 +8,11 @@ use Rattle.equivalence.specs.Equivalence.{byte}
 use Rattle.algebra.specs.Algebra.{Algebra, algebraOf}
 use Rattle.translation.specs.Translations.{tableStart}
 use Rattle.algebra.proofs.Accepted.{WellFormed, accepted-wellFormed}
+use Rattle.algebra.proofs.Tables.{start-first, start-next}
 use Rattle.refinement.specs.Splitting.{Keeps, KeepsOn, Any, Chosen, Table, Lists, Split}
 use Rattle.refinement.proofs.Splits.{split-none, split-next, split-said}
 use Rattle.refinement.proofs.Tables.{table-from}
-use Rattle.refinement.proofs.Compatibility.{Tables, tables-compatible, compatible-tables, represented-again, start-zero, start-next, table-room, accepted-lent}
+use Rattle.refinement.proofs.Compatibility.{Tables, tables-compatible, compatible-tables, represented-again, table-room, accepted-lent}
 use Rattle.refinement.proofs.walk.split_all.Statement.{statement}
 use Rattle.refinement.proofs.walk.split_all.Tie as tie
 
@@ -47,7 +48,7 @@ turn c =
     }
 
 loop-holds : tie.Need-loop-holds Inv-loop μ-loop
-loop-holds c = let p = c .before .before .before .before .before .pre in (omega arith, sym (start-zero (algebra (c .before .before .before .before .before))), refl, refl, p .1 .1 .1 .1, split-none (p .1 .1 .0) (λ k l. absurd (omega arith)))
+loop-holds c = let p = c .before .before .before .before .before .pre in (omega arith, sym (start-first (c .before .before .before .before .before .args .n) (c .before .before .before .before .before .args .arities .now)), refl, refl, p .1 .1 .1 .1, split-none (p .1 .1 .0) (λ k l. absurd (omega arith)))
 
 shared-slice-read-s : tie.Need-shared-slice-read-s Inv-loop μ-loop
 shared-slice-read-s c = omega arith
@@ -83,7 +84,7 @@ loop-again c =
     let live = s .args .live .now in
     let used = s .args .used in (
       omega arith,
-      omega (arith, start-next a (l .j) (c .before .before .before .before .before .before .before .before .before .loop-test .taken), c .power .ensures, l .inv .1),
+      omega (arith, start-next (a .size) (a .arities) (l .j) (c .before .before .before .before .before .before .before .before .before .loop-test .taken), c .power .ensures, l .inv .1),
       omega (arith, l .inv .2),
       omega (arith, l .inv .3),
       k .1,

@@ -3,8 +3,9 @@ use Prim.Native.Nat.{ℕ, _+_, _^_, _≤_}
 use mathlib.Core.Path.{_≡_}
 use native.Mathlib.Omega.{arith}
 use lib.ListN.{length}
+use Rattle.algebra.proofs.Powers.{power-one, power-two, power-three}
 use Rattle.refinement.proofs.Splits.{split-none}
-use Rattle.refinement.proofs.Tables.{power-one, power-two, power-three, table-of}
+use Rattle.refinement.proofs.Tables.{table-of}
 use borrow.Author.Needs.{needs}
 use Rattle.refinement.proofs.walk.split_table.Statement.{statement}
 use Rattle.refinement.proofs.walk.split_table.Tie as tie

@@ -1,7 +1,8 @@
 -- `split_ternary` meets its contract: the first argument varies, then the second, then the third.
 use native.Mathlib.Omega.{arith}
+use Rattle.algebra.proofs.Powers.{square-most}
 use Rattle.refinement.proofs.Splits.{lent-again}
-use Rattle.refinement.proofs.Tables.{square-most, first-room, second-room, third-room, table-three}
+use Rattle.refinement.proofs.Tables.{first-room, second-room, third-room, table-three}
 use borrow.Author.Needs.{needs}
 use Rattle.refinement.proofs.walk.split_ternary.Statement.{statement}
 use Rattle.refinement.proofs.walk.split_ternary.Tie as tie

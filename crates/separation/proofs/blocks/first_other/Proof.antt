@@ -1,8 +1,7 @@
 use Prim.Native.Nat.{ℕ, _≤_, _<_, _-_}
-use mathlib.Core.Path.{_≡_, refl, ap, sym, _∙_}
+use mathlib.Core.Path.{_≡_}
 use native.Mathlib.Omega.{arith}
 use native.Mathlib.Decide.{ℕ-discrete}
-use lib.ListN.{length, length-set}
 use Rattle.equivalence.specs.Equivalence.{byte}
 use borrow.Author.Needs.{needs}
 use Rattle.separation.proofs.blocks.first_other.Statement.{statement}
