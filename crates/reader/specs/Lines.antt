@@ -11,7 +11,7 @@ use Rattle.equivalence.specs.declared.Refusal.the-variants.{Operations, Arity, 
 use Rattle.equivalence.specs.declared.Check.{Check}
 use Rattle.equivalence.specs.declared.Check.the-variants.{Passed, Failed}
 use Rattle.algebra.specs.Algebra.{Algebra, algebraOf}
-use Rattle.reader.specs.Reading.{ascii, Read, found, fault, Reader, done, failed, mark, opened}
+use Rattle.reader.specs.Reading.{ascii, Read, found, fault, Reader, _>>=_, _>>_, done, failed, mark, opened}
 use Rattle.reader.specs.Numbers.{number}
 use Rattle.reader.specs.Tables.{cell, table, pair, items}
 

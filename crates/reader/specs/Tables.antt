@@ -2,7 +2,7 @@
 use Prim.Native.Nat.{ℕ, zero, suc}
 use mathlib.Core.List.{List, [], _∷_, _++_}
 use lib.ListN.{length}
-use Rattle.reader.specs.Reading.{ascii, Reader, done, failed, mark, opened}
+use Rattle.reader.specs.Reading.{ascii, Reader, _>>=_, _>>_, done, failed, mark, opened}
 use Rattle.reader.specs.Numbers.{number}
 
 -- a number, as a list of one
