@@ -1,7 +1,9 @@
 -- Edges of the bench's calls, computed of the definitions.
 use Prim.Native.Nat.{ℕ}
-use mathlib.Core.List.{[], _∷_}
+use mathlib.Core.Bool.{true, false}
+use mathlib.Core.List.{List, [], _∷_}
 use mathlib.Core.Path.{_≡_, refl}
+use lib.ListN.{length}
 use Rattle.equivalence.specs.Equivalence.{Map, isMap, holds, inside, roots, blocks, mapOf, identity, maps, best}
 use Rattle.equivalence.specs.Lists.{upTo, every, keep, first, concat}
 use Rattle.equivalence.specs.Refusal.{lowest, sizeTest, answered, written}
@@ -12,6 +14,7 @@ use Rattle.algebra.specs.Congruence.{respects, isCongruence, congruences}
 use Rattle.congruence.specs.Calls.{elementsTest}
 use Rattle.theory.specs.Extremal.{extended}
 use Rattle.bench.specs.Calls.{sheetTest, benchTest, tallyTest, benched, startCall, mapByAdd, lostByAdd, placeTests, addTests, addCall, clearTests, clearCall}
+use Rattle.bench.specs.Lessons.{Start, Add, Clear, Made, sizeAfter, additions, drawn, mapAfter, lostAfter}
 use Rattle.bench.specs.State.{mapOn, redrawn, zeroSheet, zeroBench, freshBench, sheetOf, withSheet, withMap, raisedBy, blocksLost}
 use Rattle.bench.specs.declared.Answer.the-variants.{Done, Refused}
 use Rattle.bench.specs.declared.Bench.{Bench}
@@ -31,6 +34,15 @@ at n t = record { n = n; tally = t; sheets = freshBench n .sheets }
 abbrev five : Map → Bench
 five m = withMap (freshBench 3) 5 m
 
+-- calls made, the latest first: Start, an Add that was refused, the same accepted, and Clear of another sheet
+abbrev lesson : List Made
+lesson =
+    record { call = Clear 1; accepted = true }
+    ∷ record { call = Add (bare 2) 0 0 1; accepted = true }
+    ∷ record { call = Add (bare 2) 0 0 1; accepted = false }
+    ∷ record { call = Start 2; accepted = true }
+    ∷ []
+
 pub record Edges : Type 0 where
   -- sheet 7 is the last
   pub seven : addCall (at 2 0) (bare 2) 7 0 1 .answer ≡ Done
@@ -47,9 +59,11 @@ pub record Edges : Type 0 where
   -- an equal pair: the old map, 0 0 2, is no congruence of the algebra, and a block is lost
   pub equal : (mapOn 3 (sheetOf (addCall (five (0 ∷ 0 ∷ 2 ∷ [])) unary 5 1 1 .bench) 5) ≡ 0 ∷ 0 ∷ 0 ∷ [])
       × (addCall (five (0 ∷ 0 ∷ 2 ∷ [])) unary 5 1 1 .bench .tally ≡ 1)
+  -- a refused Add is not told, and a Clear takes no block back
+  pub told : (length (additions 0 lesson) ≡ 1) × (lostAfter lesson ≡ 1)
 
 pub edges : Edges
-unfolding upTo every first holds concat mapOf keep maps roots blocks best inside isMap identity isCongruence operations operationsOf cellCount arguments place value respects congruences extended lowest algebraTests sizeTest elementsTest answered written sheetTest benchTest tallyTest benched startCall mapByAdd lostByAdd placeTests addTests addCall clearTests clearCall mapOn redrawn zeroSheet zeroBench freshBench sheetOf withSheet withMap raisedBy blocksLost
+unfolding upTo every first holds concat mapOf keep maps roots blocks best inside isMap identity isCongruence operations operationsOf cellCount arguments place value respects congruences extended lowest algebraTests sizeTest elementsTest answered written sheetTest benchTest tallyTest benched startCall mapByAdd lostByAdd placeTests addTests addCall clearTests clearCall mapOn redrawn zeroSheet zeroBench freshBench sheetOf withSheet withMap raisedBy blocksLost sizeAfter additions drawn mapAfter lostAfter
 edges =
     record {
       seven = refl;
@@ -61,4 +75,5 @@ edges =
       zeros = (refl, refl, refl);
       unnamed = (refl, refl);
       equal = (refl, refl);
+      told = (refl, refl);
     }
