@@ -15,6 +15,7 @@
 
 #include "../include/congruence.h"
 #include "baseline.h"
+#include "median.h"
 
 enum { INPUTS = 16, MAX_CELLS = 32768, MAX_OUT = 64 * 64, MAX_ROUNDS = 999, SERVICES = 4 };
 
@@ -262,18 +263,6 @@ static double once(const struct library *l, const struct workload *w, unsigned s
         }
     }
     return (now() - start) / times / inputs;
-}
-
-static int by_value(const void *a, const void *b)
-{
-    const double x = *(const double *)a, y = *(const double *)b;
-    return (x > y) - (x < y);
-}
-
-static double median(double *values, unsigned count)
-{
-    qsort(values, count, sizeof *values, by_value);
-    return values[count / 2];
 }
 
 #ifdef PROVED

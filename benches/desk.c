@@ -21,6 +21,7 @@
 #include <unistd.h>
 
 #include "../include/congruence.h"
+#include "median.h"
 
 enum {
     N = 64,
@@ -446,18 +447,6 @@ static void run_round(const char *program, unsigned round)
 }
 
 /* ---- the table ------------------------------------------------------------------- */
-
-static int by_value(const void *a, const void *b)
-{
-    const double x = *(const double *)a, y = *(const double *)b;
-    return (x > y) - (x < y);
-}
-
-static double median(double *values, unsigned count)
-{
-    qsort(values, count, sizeof *values, by_value);
-    return values[count / 2];
-}
 
 /* `above` is the processor time less that of the size line beside it. Where there
  * are many requests, the service is no longer taken off: it is most of the time, and
