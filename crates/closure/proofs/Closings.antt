@@ -11,17 +11,18 @@ use lib.ListN.{length, getD, set, length-append}
 use lib.Seq.{getD-set-same, getD-set-other}
 use Rattle.equivalence.specs.Equivalence.{byte}
 use Rattle.kernel.specs.Kernel.{Canonical, Within, relabel, Listed}
-use Rattle.equivalence.proofs.Kernels.{relabel-same, relabel-other}
+use Rattle.kernel.proofs.Kernels.{relabel-same, relabel-other}
 use Rattle.algebra.specs.Algebra.{Algebra}
 use Rattle.translation.specs.Translations.{result, Compatible}
 use Rattle.algebra.proofs.Accepted.{WellFormed}
 use Rattle.algebra.proofs.Congruences.{cells-below}
 use Rattle.closure.specs.Closing.{Begun, Retired}
-use Rattle.closure.specs.Contexts.{All, ImagesIn, OperationsIn, Contexts, Joined, Unless}
-use Rattle.closure.specs.Queue.{State, InQueue, Queued, Grown}
-use Rattle.closure.proofs.Images.{all-map, all-below, below-all, all-append, images-kept, listed-below}
-use Rattle.closure.proofs.Queues.{name-back, in-queue-kept}
-use Rattle.closure.proofs.Sweeps.{joined-kept}
+use Rattle.sweep.specs.Contexts.{All, ImagesIn, OperationsIn, Contexts, Joined, Unless}
+use Rattle.sweep.specs.Queue.{State, InQueue, Queued, Grown}
+use Rattle.sweep.proofs.Images.{all-map, all-below, below-all, all-append, images-kept, listed-below}
+use Rattle.kernel.proofs.Names.{name-back}
+use Rattle.sweep.proofs.Queues.{in-queue-kept}
+use Rattle.sweep.proofs.Sweeps.{joined-kept}
 
 -- ---- lists of arguments
 

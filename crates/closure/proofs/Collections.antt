@@ -10,6 +10,7 @@ use lib.Dec.{eqb}
 use lib.ListN.{length, set}
 use lib.Seq.{getD-set-same, getD-set-other}
 use Rattle.equivalence.specs.Equivalence.{byte}
+use Rattle.kernel.proofs.Names.{bit-most}
 use Rattle.kernel.specs.Kernel.{Filled, bit, names}
 use Rattle.closure.specs.Starts.{Pushed, tally, Collected}
 
@@ -56,10 +57,6 @@ module _ (test : ℕ → Bool) {x k k′ : ℕ} {p p′ : ℕ → ℕ} (h : Coll
 
   pub collected-more : Pushed x (test x) p k p′ k′ → Collected test (x + 1) p′ k′
   collected-more d = by-answer (test x) refl d
-
-bit-most : (b : Bool) → bit b ≤ 1
-bit-most true = omega arith
-bit-most false = omega arith
 
 tally-most : (test : ℕ → Bool) (n : ℕ) → tally test n ≤ n
 unfolding tally

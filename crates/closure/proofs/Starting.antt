@@ -12,18 +12,18 @@ use lib.ListN.{length}
 use borrow.Author.Tests.{eq-eqb, ne-eqb}
 use Rattle.equivalence.specs.Equivalence.{byte}
 use Rattle.kernel.specs.Kernel.{Canonical, Within, names}
-use Rattle.equivalence.proofs.Kernels.{identity-canonical, names-identity}
+use Rattle.kernel.proofs.Kernels.{identity-canonical, names-identity}
 use Rattle.algebra.specs.Accepted.{Accepted}
 use Rattle.algebra.specs.Algebra.{Algebra, algebraOf}
 use Rattle.translation.specs.Translations.{result, Compatible, Closed}
 use Rattle.algebra.proofs.Accepted.{accepted-wellFormed}
 use Rattle.algebra.proofs.Congruences.{cells-below}
 use Rattle.closure.specs.Closing.{Begun}
-use Rattle.closure.specs.Contexts.{Contexts, Joined, Unless, Bounded}
-use Rattle.closure.specs.Queue.{State, InQueue, Ready, Grown}
+use Rattle.sweep.specs.Contexts.{Contexts, Joined, Unless, Bounded}
+use Rattle.sweep.specs.Queue.{State, InQueue, Ready, Grown}
 use Rattle.closure.specs.Starts.{Extends, Collected, Apart, Tried}
 use Rattle.closure.proofs.Collections.{tally-others}
-use Rattle.closure.proofs.Sweeps.{each-more}
+use Rattle.sweep.proofs.Sweeps.{each-more}
 
 -- ---- the pairs
 

@@ -7,7 +7,7 @@ use Rattle.equivalence.specs.Equivalence.{byte}
 use Rattle.kernel.specs.Kernel.{Canonical, Within, Listed}
 use Rattle.algebra.specs.Algebra.{Algebra}
 use Rattle.translation.specs.Translations.{Compatible}
-use Rattle.closure.specs.Queue.{State, InQueue}
+use Rattle.sweep.specs.Queue.{State, InQueue}
 
 -- the map lies above a congruence, `base`; its names are listed, and those that the map took away are queued
 pub record Begun (a : Algebra) (s : State) (live : List ℕ) (count : ℕ) : Type 0 where

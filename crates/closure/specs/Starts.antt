@@ -9,7 +9,7 @@ use Rattle.equivalence.specs.Equivalence.{byte}
 use Rattle.kernel.specs.Kernel.{Canonical, Within, bit, names}
 use Rattle.algebra.specs.Algebra.{Algebra}
 use Rattle.translation.specs.Translations.{Compatible, Closed}
-use Rattle.closure.specs.Contexts.{Unless, Heeds}
+use Rattle.sweep.specs.Contexts.{Unless, Heeds}
 
 -- g joins the pairs of a flat list
 abbrev pub JoinsPairs : List ℕ → (ℕ → ℕ) → Type 0

@@ -12,10 +12,8 @@ ghost use Rattle.algebra.specs.Accepted.{Accepted};
 ghost use Rattle.translation.specs.Translations.{Compatible, Closed};
 ghost use Rattle.closure.specs.Starts.{JoinsPairs, Extends, Heeded, NamesListed, Apart, Tried};
 
-pub mod queue;
 pub mod rounds;
 pub mod start;
-pub mod sweep;
 
 // `generate` with room for the queue and for the list of elements in use.
 fn generate_in(
@@ -93,7 +91,7 @@ fn extend_in(
 {
     equivalence::blocks::identity(live, n);
     let old = start::others(m, n, queue);
-    let len = crate::queue::join(m, n, queue, old, x as u8, y as u8);
+    let len = sweep::queue::join(m, n, queue, old, x as u8, y as u8);
     let all = rounds::close(
         m,
         n,
@@ -158,7 +156,7 @@ fn try_in(
     requires { ⌜ NamesListed n (byte (now m)) (now live) count ⌝ }
     ensures { λ r. ⌜ Tried (algebraOf n (now (arities .entry)) (now (cells .entry))) x y v w (byte (now (m .entry))) (byte (now (m .exit))) r ⌝ }
 {
-    let len = crate::queue::join(m, n, queue, 0, x as u8, y as u8);
+    let len = sweep::queue::join(m, n, queue, 0, x as u8, y as u8);
     rounds::close(
         m,
         n,

@@ -5,8 +5,8 @@ ghost use Rattle.equivalence.specs.Equivalence.{byte};
 ghost use Rattle.algebra.specs.Algebra.{algebraOf};
 ghost use Rattle.algebra.specs.Accepted.{Accepted};
 ghost use Rattle.translation.specs.Translations.{Compatible};
-ghost use Rattle.closure.specs.Queue.{state, Ready, Grown};
-ghost use Rattle.closure.specs.Contexts.{Contexts, Unless, Bounded, Heeds};
+ghost use Rattle.sweep.specs.Queue.{state, Ready, Grown};
+ghost use Rattle.sweep.specs.Contexts.{Contexts, Unless, Bounded, Heeds};
 ghost use Rattle.closure.specs.Closing.{Begun, Retired, Found};
 
 // Where b stands among the first `count` elements, or `count`.
@@ -65,13 +65,13 @@ pub fn close(
     let mut count = used;
     let mut k = 0;
     while k < len {
-        if crate::sweep::halted(m, len, limit, v, w) {
+        if sweep::step::halted(m, len, limit, v, w) {
             return len;
         }
         let b = queue[k];
         let y = b as usize;
         let x = m[y] as usize;
-        len = crate::sweep::operations(
+        len = sweep::tables::operations(
             m,
             n,
             queue,

@@ -4,7 +4,7 @@ ghost use Prim.Native.Nat.{ℕ, _<_, _≤_};
 ghost use lib.Dec.{eqb};
 ghost use lib.ListN.{length};
 ghost use Rattle.equivalence.specs.Equivalence.{byte};
-ghost use Rattle.closure.specs.Queue.{state, Ready, Grown};
+ghost use Rattle.sweep.specs.Queue.{state, Ready, Grown};
 ghost use Rattle.closure.specs.Starts.{JoinsPairs, Pushed, Collected, NamesListed};
 
 // Joins the pairs of a flat list. How many elements are queued then.
@@ -18,7 +18,7 @@ pub fn seed(m: &mut [u8], n: usize, queue: &mut [u8], pairs: &[u8]) -> usize
     let mut len = 0;
     let mut j = 0;
     while j < count {
-        len = crate::queue::join(m, n, queue, len, pairs[2 * j], pairs[2 * j + 1]);
+        len = sweep::queue::join(m, n, queue, len, pairs[2 * j], pairs[2 * j + 1]);
         j += 1;
     }
     len

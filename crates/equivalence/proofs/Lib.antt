@@ -7,7 +7,6 @@ pub mod Earlier
 pub mod Foremost
 pub mod Joining
 pub mod Joins
-pub mod Kernels
 pub mod Lists
 pub mod Maps
 pub mod Meeting

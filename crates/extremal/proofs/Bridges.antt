@@ -14,7 +14,7 @@ use Rattle.equivalence.specs.Order.{Pair, pairs}
 use Rattle.equivalence.specs.Refusal.{written}
 use Rattle.equivalence.proofs.Bytes.{names-blocks}
 use Rattle.equivalence.proofs.Earlier.{notLater-by}
-use Rattle.equivalence.proofs.Kernels.{names-same}
+use Rattle.kernel.proofs.Kernels.{names-same}
 use Rattle.equivalence.proofs.Maps.{holds-of, of-holds, IsMap}
 use Rattle.equivalence.proofs.Pairs.{member-pairs, of-pairs, Sorted, Lex, sorted-pairs}
 use Rattle.equivalence.proofs.Tests.{both, left, right}

@@ -17,7 +17,7 @@ use Rattle.algebra.proofs.Tables.{start-room}
 use Rattle.translation.proofs.Places.{place-one, place-two, place-three}
 use Rattle.refinement.specs.Splitting.{line, Keeps, KeepsOn, Any, Chosen, Table, Lent, Represented}
 use Rattle.refinement.proofs.Splits.{keeps-by-first}
-use Rattle.refinement.proofs.Sifting.{still-first}
+use Rattle.kernel.proofs.Names.{name-back}
 
 -- ---- results as cells of a line
 
@@ -111,7 +111,7 @@ module _ (a : Algebra) (w : WellFormed a) {live : List ℕ} {used : ℕ} (g : �
   before : (u : ℕ) → u < a .size → Picked true g (g u)
   before u l =
       let lr : g u < a .size = omega (arith, c .below u l) in
-      (subst (Listed live used) (still-first c (s .canonical) (s .within) (g u) lr (c .root u l)) (s .listed (g u) lr), λ e. c .root u l)
+      (subst (Listed live used) (name-back (s .canonical) c (s .within) (g u) lr (c .root u l)) (s .listed (g u) lr), λ e. c .root u l)
 
   -- a line that keeps the listed elements of g, and all of the congruence that they stand for, keeps g
   line-kept : (t : ℕ → ℕ) → ((x : ℕ) → t x < a .size) → Keeps (a .size) t (s .name) → KeepsOn (Listed live used) t g → Keeps (a .size) t g

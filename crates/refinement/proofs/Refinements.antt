@@ -17,7 +17,7 @@ use Rattle.algebra.proofs.Accepted.{WellFormed}
 use Rattle.algebra.proofs.Congruences.{congruence-is, congruence-of}
 use Rattle.translation.proofs.Translations.{congruence-compatible, compatible-congruence}
 use Rattle.refinement.specs.Splitting.{Elements, Sifted, Lists, Split, Represented}
-use Rattle.refinement.proofs.Names.{names-one}
+use Rattle.kernel.proofs.Names.{names-one}
 use Rattle.refinement.proofs.Compatibility.{result-below}
 
 -- the identity is compatible with every operation

@@ -9,6 +9,7 @@ use lib.ListN.{length, set}
 use lib.Seq.{getD-set-same, getD-set-other}
 use borrow.Author.Tests.{ne-eqb}
 use Rattle.equivalence.specs.Equivalence.{Map, byte}
+use Rattle.kernel.proofs.Names.{name-back}
 use Rattle.kernel.specs.Kernel.{Canonical, Within, bit, Listed}
 use Rattle.refinement.specs.Splitting.{Elements, KeepsOn, Sifted, Lists, Split}
 
@@ -78,20 +79,13 @@ elements-sifted {n} e s k = record {
   below = λ i l. let o = k .old i l in rw (o .1 .1) at (s .below (o .0) (o .1 .0));
 }
 
--- a first member stays one where blocks are split
-pub still-first : {n : ℕ} {f f′ : ℕ → ℕ} → Canonical n f → Canonical n f′ → Within n f′ f → (x : ℕ) → x < n → f x ≡ x → f′ x ≡ x
-still-first {n} {f} {f′} c c′ w x l e =
-    let low : f′ x ≤ x = c′ .below x l in
-    let there : f (f′ x) ≡ f x = w (f′ x) x (omega arith) l (c′ .root x l) in
-    omega (arith, c .below (f′ x) (omega arith))
-
 module _ {n used left left′ : ℕ} {f f′ : ℕ → ℕ} {live others others′ : List ℕ} where
   lists-sifted : Canonical n f → Canonical n f′ → Within n f′ f → length others′ ≡ length others → Lists n live used others left f → Sifted f′ others left others′ left′
       → Lists n live used others′ left′ f′
   lists-sifted c c′ w e s k = record {
     live-elements = s .live-elements;
     elements = elements-sifted e (s .elements) k;
-    all = λ x l h. k .all x (s .all x l (λ p. h (still-first c c′ w x (rw (l .1 .1) at (s .live-elements .below (l .0) (l .1 .0))) p))) h;
+    all = λ x l h. k .all x (s .all x l (λ p. h (name-back c′ c w x (rw (l .1 .1) at (s .live-elements .below (l .0) (l .1 .0))) p))) h;
   }
 
 -- what keeps the listed others keeps all in use

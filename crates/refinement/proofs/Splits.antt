@@ -10,7 +10,7 @@ use borrow.Author.Count.{below-more}
 use Rattle.equivalence.specs.Equivalence.{Map, byte}
 use Rattle.kernel.specs.Kernel.{Canonical, Within, names, Listed}
 use Rattle.refinement.specs.Splitting.{Keeps, KeepsOn, Alike, Lent, Split}
-use Rattle.refinement.proofs.Names.{names-another}
+use Rattle.kernel.proofs.Names.{names-another}
 
 -- ---- a line that keeps a map
 

@@ -11,7 +11,7 @@ use lib.Seq.{ext-getD, getD-set-other}
 use Rattle.equivalence.specs.Equivalence.{byte}
 use Rattle.kernel.specs.Kernel.{Within, Filled}
 use Rattle.equivalence.specs.Lists.{first}
-use Rattle.equivalence.proofs.Kernels.{identity-canonical, identity-within}
+use Rattle.kernel.proofs.Kernels.{identity-canonical, identity-within}
 use Rattle.algebra.specs.Algebra.{Algebra}
 use Rattle.translation.specs.Translations.{result, Compatible, Closed, Refined}
 use Rattle.closure.specs.Starts.{Heeded}

@@ -6,8 +6,8 @@ use borrow.Author.Needs.{needs}
 use Rattle.algebra.proofs.Accepted.{accepted-wellFormed}
 use Rattle.algebra.specs.Algebra.{algebraOf}
 use Rattle.closure.proofs.Starting.{accepted-contexts, identity-total, identity-ready, identity-begun, bounded-start, grown-closed}
-use Rattle.equivalence.proofs.Kernels.{identity-within}
-use Rattle.closure.proofs.Queues.{grown-first}
+use Rattle.kernel.proofs.Kernels.{identity-within}
+use Rattle.sweep.proofs.Queues.{grown-first}
 use Rattle.equivalence.specs.Equivalence.{byte, blocks, identity}
 use Rattle.equivalence.specs.Lists.{first}
 use Rattle.equivalence.specs.Order.{pairs}

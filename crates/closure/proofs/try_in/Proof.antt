@@ -6,8 +6,8 @@ use Rattle.algebra.proofs.Accepted.{accepted-wellFormed}
 use Rattle.algebra.specs.Algebra.{algebraOf}
 use Rattle.closure.proofs.Collections.{collected-most, names-total}
 use Rattle.closure.proofs.Starting.{accepted-contexts, canonical-ready, congruence-begun, bounded-start, grown-tried}
-use Rattle.closure.proofs.Queues.{grown-first}
-use Rattle.equivalence.proofs.Kernels.{names-positive}
+use Rattle.sweep.proofs.Queues.{grown-first}
+use Rattle.kernel.proofs.Kernels.{names-positive}
 use Rattle.equivalence.specs.Equivalence.{byte}
 use Rattle.closure.proofs.try_in.Statement.{statement}
 use Rattle.closure.proofs.try_in.Tie as tie

@@ -4,7 +4,7 @@ use mathlib.Core.Path.{_≡_, refl, sym}
 use native.Mathlib.Omega.{arith}
 use lib.ListN.{length, length-set}
 use borrow.Author.Needs.{needs}
-use Rattle.equivalence.proofs.Kernels.{filled-none, filled-more}
+use Rattle.kernel.proofs.Kernels.{filled-none, filled-more}
 use Rattle.equivalence.proofs.Maps.{whole-map}
 use Rattle.equivalence.proofs.Writing.{filled-written}
 use Rattle.equivalence.specs.Equivalence.{byte, whole}

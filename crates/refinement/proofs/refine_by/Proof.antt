@@ -9,7 +9,7 @@ use Rattle.algebra.specs.Algebra.{Algebra, algebraOf}
 use Rattle.translation.specs.Translations.{Compatible}
 use Rattle.algebra.proofs.Accepted.{accepted-wellFormed}
 use Rattle.refinement.specs.Splitting.{Lists, Split}
-use Rattle.refinement.proofs.Names.{names-most, names-full}
+use Rattle.kernel.proofs.Names.{names-most, names-full}
 use Rattle.refinement.proofs.Splits.{split-none, split-more}
 use Rattle.refinement.proofs.Compatibility.{represented-again}
 use Rattle.refinement.proofs.Refinements.{identity-compatible, whole-refined, split-refined}

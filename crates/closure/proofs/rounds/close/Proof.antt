@@ -7,11 +7,11 @@ use Rattle.algebra.proofs.Accepted.{accepted-wellFormed}
 use Rattle.algebra.specs.Algebra.{algebraOf, operations}
 use Rattle.translation.specs.Translations.{Compatible}
 use Rattle.closure.proofs.Closings.{Running, running-none, running-more, running-compatible, retired-contexts}
-use Rattle.closure.proofs.Images.{compatible-whole, compatible-images, listed-below}
-use Rattle.closure.proofs.Queues.{Since, since-none, since-ready, since-more}
-use Rattle.closure.proofs.Sweeps.{halted-unless, bounded-since}
-use Rattle.closure.specs.Contexts.{Contexts, Heeds}
-use Rattle.closure.specs.Queue.{state}
+use Rattle.sweep.proofs.Images.{compatible-whole, compatible-images, listed-below}
+use Rattle.sweep.proofs.Queues.{Since, since-none, since-ready, since-more}
+use Rattle.sweep.proofs.Sweeps.{halted-unless, bounded-since}
+use Rattle.sweep.specs.Contexts.{Contexts, Heeds}
+use Rattle.sweep.specs.Queue.{state}
 use Rattle.equivalence.proofs.Tests.{left, right}
 use Rattle.equivalence.specs.Equivalence.{byte}
 use Rattle.closure.proofs.rounds.close.Statement.{statement}

@@ -3,7 +3,7 @@ use Prim.Native.Nat.{ℕ, _+_, _*_, _-_, _≤_, _<_, _/_}
 use mathlib.Core.Path.{_≡_, refl}
 use native.Mathlib.Omega.{arith}
 use lib.ListN.{length}
-use Rattle.closure.proofs.Queues.{Since, since-none, since-ready, since-more}
+use Rattle.sweep.proofs.Queues.{Since, since-none, since-ready, since-more}
 use Rattle.closure.proofs.Starting.{pairs-more}
 use Rattle.closure.specs.Starts.{JoinsPairs}
 use Rattle.equivalence.specs.Equivalence.{byte, join}

@@ -1,4 +1,4 @@
-use Rattle.equivalence.proofs.Kernels.{relabelled-either}
+use Rattle.kernel.proofs.Kernels.{relabelled-either}
 use borrow.Author.Needs.{needs}
 use Rattle.equivalence.proofs.blocks.merge.Statement.{statement}
 use Rattle.equivalence.proofs.blocks.merge.Tie as tie

@@ -1,5 +1,5 @@
 use mathlib.Core.Path.{sym}
-use Rattle.equivalence.proofs.Kernels.{relabel-same, relabel-other}
+use Rattle.kernel.proofs.Kernels.{relabel-same, relabel-other}
 use Rattle.equivalence.proofs.blocks.relabelled.Statement.{statement}
 use Rattle.equivalence.proofs.blocks.relabelled.Tie as tie
 

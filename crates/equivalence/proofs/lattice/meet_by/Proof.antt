@@ -6,7 +6,7 @@ use borrow.Author.Needs.{needs}
 use Rattle.equivalence.specs.Equivalence.{byte, meet}
 use Rattle.kernel.specs.Kernel.{Filled}
 use Rattle.equivalence.proofs.Meeting.{Seen, seen-none, placed-below, seen-is, seen-more}
-use Rattle.equivalence.proofs.Kernels.{filled-none, filled-more}
+use Rattle.kernel.proofs.Kernels.{filled-none, filled-more}
 use Rattle.equivalence.proofs.lattice.meet_by.Statement.{statement}
 use Rattle.equivalence.proofs.lattice.meet_by.Tie as tie
 

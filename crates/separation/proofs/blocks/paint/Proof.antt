@@ -4,7 +4,7 @@ use native.Mathlib.Omega.{arith}
 use lib.ListN.{length, length-set}
 use Rattle.equivalence.specs.Equivalence.{byte}
 use Rattle.kernel.specs.Kernel.{Filled}
-use Rattle.equivalence.proofs.Kernels.{filled-none, filled-more}
+use Rattle.kernel.proofs.Kernels.{filled-none, filled-more}
 use Rattle.separation.specs.Blocks.{oneOf}
 use borrow.Author.Needs.{needs}
 use Rattle.separation.proofs.blocks.paint.Statement.{statement}

@@ -1,0 +1,217 @@
+-- The cells of a table against the results of its operation: a pass over the lines and planes of a table joins all images whose other
+-- arguments are listed. And images: they are elements, and what joins them keeps joining them.
+use Prim.Native.Nat.{ℕ, zero, suc, _+_, _*_, _^_, _≤_, _<_}
+use mathlib.Core.List.{List, [], _∷_, _++_}
+use mathlib.Core.Path.{_≡_, refl, sym, ap, subst, _∙_, subst₂}
+use native.Mathlib.Omega.{arith}
+use lib.ListN.{length, getD, length-append}
+use Rattle.equivalence.specs.Equivalence.{byte}
+use Rattle.kernel.specs.Kernel.{Within, Listed}
+use Rattle.algebra.specs.Accepted.{Accepted}
+use Rattle.algebra.specs.Algebra.{Algebra, place}
+use Rattle.translation.specs.Translations.{AllBelow, tableStart, result, Compatible}
+use Rattle.algebra.proofs.Accepted.{WellFormed, accepted-wellFormed}
+use Rattle.translation.proofs.Places.{place-lt, place-one, place-two, place-three}
+use Rattle.algebra.proofs.Tables.{start-room}
+use Rattle.sweep.specs.Contexts.{All, ImagesIn, OperationsIn, OnLine, OnPlane, OnTable, Contexts, TableFits}
+use Rattle.sweep.proofs.Sweeps.{each-more}
+
+-- ---- tables and images
+
+module _ (a : Algebra) (j : ℕ) (live : List ℕ) (count x y : ℕ) (g : ℕ → ℕ) where
+  cell-at : (xs : List ℕ) (k : ℕ) → tableStart a j + place (a .size) xs ≡ k → g (result a j xs) ≡ g (byte (a .cells) k)
+  unfolding result
+  cell-at xs k e = ap (λ (i : ℕ). g (byte (a .cells) i)) e
+
+  -- one other argument, behind or before
+  last-line : OnLine (a .cells) live count (a .size) (tableStart a j + x) (tableStart a j + y) g → (c : ℕ) → Listed live count c
+      → g (result a j (c ∷ x ∷ [])) ≡ g (result a j (c ∷ y ∷ []))
+  last-line h c m =
+      subst (λ (c : ℕ). g (result a j (c ∷ x ∷ [])) ≡ g (result a j (c ∷ y ∷ []))) (m .1 .1)
+      (let b = byte live (m .0) in
+      cell-at (b ∷ x ∷ []) (tableStart a j + x + b * a .size) (omega (arith, place-two (a .size) b x)) ∙ h (m .0) (m .1 .0)
+      ∙ sym (cell-at (b ∷ y ∷ []) (tableStart a j + y + b * a .size) (omega (arith, place-two (a .size) b y))))
+
+  first-line : OnLine (a .cells) live count 1 (tableStart a j + x * a .size) (tableStart a j + y * a .size) g → (c : ℕ) → Listed live count c
+      → g (result a j (x ∷ c ∷ [])) ≡ g (result a j (y ∷ c ∷ []))
+  first-line h c m =
+      subst (λ (c : ℕ). g (result a j (x ∷ c ∷ [])) ≡ g (result a j (y ∷ c ∷ []))) (m .1 .1)
+      (let b = byte live (m .0) in
+      cell-at (x ∷ b ∷ []) (tableStart a j + x * a .size + b * 1) (omega (arith, place-two (a .size) x b)) ∙ h (m .0) (m .1 .0)
+      ∙ sym (cell-at (y ∷ b ∷ []) (tableStart a j + y * a .size + b * 1) (omega (arith, place-two (a .size) y b))))
+
+  -- two other arguments, behind, around or before
+  third-plane : OnPlane (a .cells) live count (a .size * a .size) (a .size) (tableStart a j + x) (tableStart a j + y) g → (c d : ℕ) → Listed live count c → Listed live count d
+      → g (result a j (c ∷ d ∷ x ∷ [])) ≡ g (result a j (c ∷ d ∷ y ∷ []))
+  third-plane h c d m k =
+      subst₂ (λ (c d : ℕ). g (result a j (c ∷ d ∷ x ∷ [])) ≡ g (result a j (c ∷ d ∷ y ∷ []))) (m .1 .1) (k .1 .1)
+      (let b = byte live (m .0) in
+      let e = byte live (k .0) in
+      cell-at (b ∷ e ∷ x ∷ []) (tableStart a j + x + b * (a .size * a .size) + e * a .size) (omega (arith, place-three (a .size) b e x))
+      ∙ h (m .0) (m .1 .0) (k .0) (k .1 .0)
+      ∙ sym (cell-at (b ∷ e ∷ y ∷ []) (tableStart a j + y + b * (a .size * a .size) + e * a .size) (omega (arith, place-three (a .size) b e y))))
+
+  second-plane : OnPlane (a .cells) live count (a .size * a .size) 1 (tableStart a j + x * a .size) (tableStart a j + y * a .size) g → (c d : ℕ) → Listed live count c → Listed live count d
+      → g (result a j (c ∷ x ∷ d ∷ [])) ≡ g (result a j (c ∷ y ∷ d ∷ []))
+  second-plane h c d m k =
+      subst₂ (λ (c d : ℕ). g (result a j (c ∷ x ∷ d ∷ [])) ≡ g (result a j (c ∷ y ∷ d ∷ []))) (m .1 .1) (k .1 .1)
+      (let b = byte live (m .0) in
+      let e = byte live (k .0) in
+      cell-at (b ∷ x ∷ e ∷ []) (tableStart a j + x * a .size + b * (a .size * a .size) + e * 1) (omega (arith, place-three (a .size) b x e))
+      ∙ h (m .0) (m .1 .0) (k .0) (k .1 .0)
+      ∙ sym (cell-at (b ∷ y ∷ e ∷ []) (tableStart a j + y * a .size + b * (a .size * a .size) + e * 1) (omega (arith, place-three (a .size) b y e))))
+
+  first-plane : OnPlane (a .cells) live count (a .size) 1 (tableStart a j + x * (a .size * a .size)) (tableStart a j + y * (a .size * a .size)) g → (c d : ℕ) → Listed live count c → Listed live count d
+      → g (result a j (x ∷ c ∷ d ∷ [])) ≡ g (result a j (y ∷ c ∷ d ∷ []))
+  first-plane h c d m k =
+      subst₂ (λ (c d : ℕ). g (result a j (x ∷ c ∷ d ∷ [])) ≡ g (result a j (y ∷ c ∷ d ∷ []))) (m .1 .1) (k .1 .1)
+      (let b = byte live (m .0) in
+      let e = byte live (k .0) in
+      cell-at (x ∷ b ∷ e ∷ []) (tableStart a j + x * (a .size * a .size) + b * a .size + e * 1) (omega (arith, place-three (a .size) x b e))
+      ∙ h (m .0) (m .1 .0) (k .0) (k .1 .0)
+      ∙ sym (cell-at (y ∷ b ∷ e ∷ []) (tableStart a j + y * (a .size * a .size) + b * a .size + e * 1) (omega (arith, place-three (a .size) y b e))))
+
+  -- from a table to its operation's images, by arity
+  around : (s : ℕ) → s ≤ 3 → OnTable (a .size) (a .cells) live count (tableStart a j) s x y g → (pre post : List ℕ) → length pre + 1 + length post ≡ s
+      → All (Listed live count) pre → All (Listed live count) post → g (result a j (pre ++ (x ∷ post))) ≡ g (result a j (pre ++ (y ∷ post)))
+  around zero l h pre post e p q = absurd (omega arith)
+  around (suc zero) l h [] [] e p q =
+      cell-at (x ∷ []) (tableStart a j + x) (omega (arith, place-one (a .size) x)) ∙ h ∙ sym (cell-at (y ∷ []) (tableStart a j + y) (omega (arith, place-one (a .size) y)))
+  around (suc zero) l h [] (c ∷ post) e p q = absurd (omega arith)
+  around (suc zero) l h (c ∷ pre) post e p q = absurd (omega arith)
+  around (suc (suc zero)) l h [] [] e p q = absurd (omega arith)
+  around (suc (suc zero)) l h [] (c ∷ []) e p q = first-line (h .1) c (q .0)
+  around (suc (suc zero)) l h [] (c ∷ d ∷ post) e p q = absurd (omega arith)
+  around (suc (suc zero)) l h (c ∷ []) [] e p q = last-line (h .0) c (p .0)
+  around (suc (suc zero)) l h (c ∷ []) (d ∷ post) e p q = absurd (omega arith)
+  around (suc (suc zero)) l h (c ∷ d ∷ pre) post e p q = absurd (omega arith)
+  around (suc (suc (suc zero))) l h [] [] e p q = absurd (omega arith)
+  around (suc (suc (suc zero))) l h [] (c ∷ []) e p q = absurd (omega arith)
+  around (suc (suc (suc zero))) l h [] (c ∷ d ∷ []) e p q = first-plane (h .1 .1) c d (q .0) (q .1 .0)
+  around (suc (suc (suc zero))) l h [] (c ∷ d ∷ b ∷ post) e p q = absurd (omega arith)
+  around (suc (suc (suc zero))) l h (c ∷ []) [] e p q = absurd (omega arith)
+  around (suc (suc (suc zero))) l h (c ∷ []) (d ∷ []) e p q = second-plane (h .1 .0) c d (p .0) (q .0)
+  around (suc (suc (suc zero))) l h (c ∷ []) (d ∷ b ∷ post) e p q = absurd (omega arith)
+  around (suc (suc (suc zero))) l h (c ∷ d ∷ []) [] e p q = third-plane (h .0) c d (p .0) (p .1 .0)
+  around (suc (suc (suc zero))) l h (c ∷ d ∷ []) (b ∷ post) e p q = absurd (omega arith)
+  around (suc (suc (suc zero))) l h (c ∷ d ∷ b ∷ pre) post e p q = absurd (omega arith)
+  around (suc (suc (suc (suc s)))) l h pre post e p q = absurd (omega arith)
+
+  pub table-images : getD (a .arities) j 0 ≤ 3 → OnTable (a .size) (a .cells) live count (tableStart a j) (getD (a .arities) j 0) x y g → ImagesIn a j (Listed live count) x y g
+  table-images l h pre post e p q = around (getD (a .arities) j 0) l h pre post e p q
+
+  -- and back
+  listed : (i : ℕ) → i < count → Listed live count (byte live i)
+  listed i l = (i, (l, refl))
+
+  table-of : (s : ℕ) → s ≤ 3 → s ≡ getD (a .arities) j 0 → ImagesIn a j (Listed live count) x y g → OnTable (a .size) (a .cells) live count (tableStart a j) s x y g
+  table-of zero l e h = tt
+  table-of (suc zero) l e h =
+      sym (cell-at (x ∷ []) (tableStart a j + x) (omega (arith, place-one (a .size) x))) ∙ h [] [] (omega arith) tt tt
+      ∙ cell-at (y ∷ []) (tableStart a j + y) (omega (arith, place-one (a .size) y))
+  table-of (suc (suc zero)) l e h = (
+    λ i li. let b = byte live i in
+        sym (cell-at (b ∷ x ∷ []) (tableStart a j + x + b * a .size) (omega (arith, place-two (a .size) b x))) ∙ h (b ∷ []) [] (omega arith) (listed i li, tt) tt
+        ∙ cell-at (b ∷ y ∷ []) (tableStart a j + y + b * a .size) (omega (arith, place-two (a .size) b y)),
+    λ i li. let b = byte live i in
+        sym (cell-at (x ∷ b ∷ []) (tableStart a j + x * a .size + b * 1) (omega (arith, place-two (a .size) x b))) ∙ h [] (b ∷ []) (omega arith) tt (listed i li, tt)
+        ∙ cell-at (y ∷ b ∷ []) (tableStart a j + y * a .size + b * 1) (omega (arith, place-two (a .size) y b)),
+  )
+  table-of (suc (suc (suc zero))) l e h = (
+    λ i li k lk. let b = byte live i in
+        let d = byte live k in
+        sym (cell-at (b ∷ d ∷ x ∷ []) (tableStart a j + x + b * (a .size * a .size) + d * a .size) (omega (arith, place-three (a .size) b d x)))
+        ∙ h (b ∷ d ∷ []) [] (omega arith) (listed i li, (listed k lk, tt)) tt
+        ∙ cell-at (b ∷ d ∷ y ∷ []) (tableStart a j + y + b * (a .size * a .size) + d * a .size) (omega (arith, place-three (a .size) b d y)),
+    (
+      λ i li k lk. let b = byte live i in
+          let d = byte live k in
+          sym (cell-at (b ∷ x ∷ d ∷ []) (tableStart a j + x * a .size + b * (a .size * a .size) + d * 1) (omega (arith, place-three (a .size) b x d)))
+          ∙ h (b ∷ []) (d ∷ []) (omega arith) (listed i li, tt) (listed k lk, tt)
+          ∙ cell-at (b ∷ y ∷ d ∷ []) (tableStart a j + y * a .size + b * (a .size * a .size) + d * 1) (omega (arith, place-three (a .size) b y d)),
+      λ i li k lk. let b = byte live i in
+          let d = byte live k in
+          sym (cell-at (x ∷ b ∷ d ∷ []) (tableStart a j + x * (a .size * a .size) + b * a .size + d * 1) (omega (arith, place-three (a .size) x b d)))
+          ∙ h [] (b ∷ d ∷ []) (omega arith) tt (listed i li, (listed k lk, tt))
+          ∙ cell-at (y ∷ b ∷ d ∷ []) (tableStart a j + y * (a .size * a .size) + b * a .size + d * 1) (omega (arith, place-three (a .size) y b d)),
+    ),
+  )
+  table-of (suc (suc (suc (suc s)))) l e h = absurd (omega arith)
+
+  pub images-table : getD (a .arities) j 0 ≤ 3 → ImagesIn a j (Listed live count) x y g → OnTable (a .size) (a .cells) live count (tableStart a j) (getD (a .arities) j 0) x y g
+  images-table l h = table-of (getD (a .arities) j 0) l refl h
+
+-- ---- results
+
+pub all-map : {L M : ℕ → Type 0} → ((c : ℕ) → L c → M c) → (xs : List ℕ) → All L xs → All M xs
+all-map h [] p = tt
+all-map h (x ∷ xs) p = (h x (p .0), all-map h xs (p .1))
+
+pub all-below : (n : ℕ) (xs : List ℕ) → All (λ x. x < n) xs → AllBelow n xs
+all-below n [] p = tt
+all-below n (x ∷ xs) p = (p .0, all-below n xs (p .1))
+
+pub below-all : (n : ℕ) (xs : List ℕ) → AllBelow n xs → All (λ x. x < n) xs
+below-all n [] p = tt
+below-all n (x ∷ xs) p = (p .0, below-all n xs (p .1))
+
+pub all-append : (L : ℕ → Type 0) (xs ys : List ℕ) → All L xs → All L ys → All L (xs ++ ys)
+all-append L [] ys p q = q
+all-append L (x ∷ xs) ys p q = (p .0, all-append L xs ys (p .1) q)
+
+module _ (a : Algebra) (ok : WellFormed a) (j : ℕ) (lj : j < length (a .arities)) where
+  pub result-below : (xs : List ℕ) → length xs ≡ getD (a .arities) j 0 → All (λ x. x < a .size) xs → result a j xs < a .size
+  unfolding result
+  result-below xs e p =
+      let l : place (a .size) xs < a .size ^ getD (a .arities) j 0 = rw e at (place-lt (a .size) xs (all-below (a .size) xs p)) in
+      ok .below (tableStart a j + place (a .size) xs) (omega (arith, ok .filled, start-room (a .size) (a .arities) j lj))
+
+  module _ {L : ℕ → Type 0} (small : (c : ℕ) → L c → c < a .size) where
+    image-below : (x : ℕ) → x < a .size → (pre post : List ℕ) → length pre + 1 + length post ≡ getD (a .arities) j 0 → All L pre → All L post → result a j (pre ++ (x ∷ post)) < a .size
+    image-below x l pre post e p q =
+        result-below (pre ++ (x ∷ post)) (length-append pre (x ∷ post) ∙ omega arith) (all-append (λ c. c < a .size) pre (x ∷ post) (all-map small pre p) (l, all-map small post q))
+
+    -- what joins the images keeps joining them
+    pub images-kept : {x y : ℕ} {f f′ : ℕ → ℕ} → x < a .size → y < a .size → Within (a .size) f f′ → ImagesIn a j L x y f → ImagesIn a j L x y f′
+    images-kept {x} {y} lx ly w h pre post e p q =
+        w (result a j (pre ++ (x ∷ post))) (result a j (pre ++ (y ∷ post))) (image-below x lx pre post e p q) (image-below y ly pre post e p q) (h pre post e p q)
+
+    pub images-whole : {x y : ℕ} {f : ℕ → ℕ} → x < a .size → y < a .size → ((c : ℕ) → c < a .size → f c ≡ 0) → ImagesIn a j L x y f
+    images-whole {x} {y} lx ly z pre post e p q =
+        z (result a j (pre ++ (x ∷ post))) (image-below x lx pre post e p q) ∙ sym (z (result a j (pre ++ (y ∷ post))) (image-below y ly pre post e p q))
+
+-- with one block left everything is compatible
+pub compatible-whole : (a : Algebra) → WellFormed a → (f : ℕ → ℕ) → ((c : ℕ) → c < a .size → f c ≡ 0) → Compatible a f
+compatible-whole a ok f z x y lx ly e j lj pre post s p q =
+    images-whole a ok j lj {L = λ c. c < a .size} (λ c l. l) lx ly z pre post s (below-all (a .size) pre p) (below-all (a .size) post q)
+
+-- what is compatible joins the images of two elements that it joins
+pub compatible-images : (a : Algebra) {L : ℕ → Type 0} → ((c : ℕ) → L c → c < a .size) → (g : ℕ → ℕ) → Compatible a g → (x y : ℕ) → x < a .size → y < a .size → g x ≡ g y
+    → OperationsIn a (length (a .arities)) L x y g
+compatible-images a small g h x y lx ly e j lj pre post s p q =
+    h x y lx ly e j lj pre post s (all-below (a .size) pre (all-map small pre p)) (all-below (a .size) post (all-map small post q))
+
+-- ---- the pass over all operations
+
+pub listed-below : {n : ℕ} {cells live : List ℕ} {count : ℕ} → Contexts n cells live count → (c : ℕ) → Listed live count c → c < n
+listed-below {n} k c m = subst (λ (z : ℕ). z < n) (m .1 .1) (k .live-below (m .0) (m .1 .0))
+
+module _ (a : Algebra) (accepted : Accepted a) (live : List ℕ) (count : ℕ) (contexts : Contexts (a .size) (a .cells) live count) (x y : ℕ) (lx : x < a .size) (ly : y < a .size) where
+  ok : WellFormed a
+  ok = accepted-wellFormed a accepted
+
+  pub operation-fits : (j o : ℕ) → j < length (a .arities) → o ≡ tableStart a j → TableFits (a .size) (a .cells) o (getD (a .arities) j 0) x y
+  operation-fits j o l e = record { left = lx; right = ly; room = omega (arith, ok .filled, start-room (a .size) (a .arities) j l) }
+
+  pub operation-table : (g : ℕ → ℕ) (j o : ℕ) → j < length (a .arities) → o ≡ tableStart a j → OperationsIn a (length (a .arities)) (Listed live count) x y g
+      → OnTable (a .size) (a .cells) live count o (getD (a .arities) j 0) x y g
+  operation-table g j o l e h = rw e (images-table a j live count x y g (ok .arity j l) (h j l))
+
+  pub operations-more : (f f′ : ℕ → ℕ) (j o : ℕ) → j < length (a .arities) → o ≡ tableStart a j → Within (a .size) f f′
+      → OnTable (a .size) (a .cells) live count o (getD (a .arities) j 0) x y f′ → OperationsIn a j (Listed live count) x y f → OperationsIn a (j + 1) (Listed live count) x y f′
+  operations-more f f′ j o l e w t h =
+      each-more (λ (k : ℕ) (g : ℕ → ℕ). ImagesIn a k (Listed live count) x y g) f f′ (λ k lk. images-kept a ok k (omega arith) (listed-below contexts) lx ly w) h
+      (table-images a j live count x y f′ (ok .arity j l) (rw e at t))
+
+  pub operations-whole : (f : ℕ → ℕ) → ((c : ℕ) → c < a .size → f c ≡ 0) → OperationsIn a (length (a .arities)) (Listed live count) x y f
+  operations-whole f z j l = images-whole a ok j l (listed-below contexts) lx ly z
