@@ -4,7 +4,7 @@ use mathlib.Core.Path.{_≡_, refl}
 use Rattle.equivalence.specs.Equivalence.{isMap, holds, inside, roots, blocks, blockOf, mapOf, identity, whole, same, isIdentity, meet, meetAll, maps, best}
 use Rattle.equivalence.specs.Lists.{upTo, every, any, keep, first, concat}
 use Rattle.equivalence.specs.Order.{pairs, notLaterOn, notLater, firstHeld}
-use Rattle.equivalence.specs.Refusal.{lowest, sizeTest, mapTest, spaceTest, answered, written, lentAfter, serve}
+use Rattle.equivalence.specs.Refusal.{lowest, sizeTest, mapTest, spaceTest, answered, written, lentAfter, serve, pairsTest}
 use Rattle.algebra.specs.Accepted.{algebraTests}
 use Rattle.algebra.specs.Algebra.{cellCount, operationsOf, operations, arguments, place, value}
 use Rattle.algebra.specs.Congruence.{respects, isCongruence, congruences}
@@ -12,7 +12,7 @@ use Rattle.division.specs.Quotient.{quotientTable, quotientCells}
 use Rattle.theory.specs.Decompose.{added, gathered, pruned, listed, reducible, commonPair}
 use Rattle.theory.specs.Extremal.{holdsAll, generated, separated}
 use Rattle.theory.proofs.Examples.{u, c, bare, minimum}
-use Rattle.congruence.specs.Calls.{element, pairsTest, congruenceTest, generateCall, quotientCall, decomposed}
+use Rattle.congruence.specs.Calls.{element, congruenceTest, generateCall, quotientCall, decomposed}
 use Rattle.equivalence.specs.declared.Refusal.the-variants.{Range, Space, NotCongruence}
 use Rattle.congruence.specs.declared.Generated.the-variants.{Merges, Refused as GenerateRefused}
 use Rattle.congruence.specs.declared.Divided.the-variants.{Blocks, Refused as DivideRefused}
