@@ -17,7 +17,7 @@ use Rattle.algebra.specs.Algebra.{Algebra, algebraOf, cellCount}
 use Rattle.algebra.specs.Congruence.{isCongruence, Congruence}
 use Rattle.algebra.proofs.Accepted.{WellFormed, accepted-wellFormed, not-yes, wellFormed-accepted}
 use Rattle.algebra.proofs.Congruences.{congruence-is}
-use Rattle.congruence.specs.Calls.{element, congruenceTest, quotientCall, decomposed, factorBytes, decomposeCall}
+use Rattle.congruence.specs.Calls.{element, congruenceTest, quotientSpace, quotientTests, quotientCall, decomposed, factorBytes, factorSpace, decomposeTests, decomposeCall}
 use Rattle.theory.specs.Decompose.{listed, reducible, commonPair}
 use Rattle.congruence.specs.Demands.{Answers11, QuotientDraws11, FactorCalls}
 use Rattle.congruence.proofs.Demands.{listed-right}
@@ -92,7 +92,7 @@ module _ (a : Algebra) (accepted : Accepted a) (m : Map) (p : Congruence a m) (t
 
 -- ---- demand 3 over the calls
 
-blocks-injective : (b c : ℕ) → Blocks b ≡ Blocks c → b ≡ c
+pub blocks-injective : (b c : ℕ) → Blocks b ≡ Blocks c → b ≡ c
 blocks-injective b c e = cc
 
 size-quotient : (a : Algebra) (m : Map) (again : List ℕ) → (blocks (a .size) m - 1) * blocks (a .size) m ≤ length again → (quotient a m .size - 1) * quotient a m .size ≤ length again

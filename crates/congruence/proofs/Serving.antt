@@ -20,7 +20,7 @@ use Rattle.algebra.specs.Accepted.{algebraTests, Accepted}
 use Rattle.algebra.specs.Algebra.{Algebra, cellCount}
 use Rattle.algebra.specs.Congruence.{isCongruence}
 use Rattle.algebra.proofs.Accepted.{every-at, accepted-wellFormed}
-use Rattle.congruence.specs.Calls.{congruenceTest, mapsIn, mapsTest, certifyCall}
+use Rattle.congruence.specs.Calls.{congruenceTest, mapsIn, mapsTest, generateTests, containedTests, separateTests, quotientSpace, quotientTests, factorSpace, decomposeTests, certifyTests, certifyCall}
 use Rattle.theory.specs.Certify.{certified}
 use Rattle.listing.specs.Listing.{listing, MapsListed}
 use Rattle.theory.proofs.LeastCongruence.{Below}
@@ -132,6 +132,10 @@ module _ (a : Algebra) (m : Map) (rest : List Test) where
   unfolding congruenceTest
   congruence-passed e f = lowest-next (congruenceTest a m) rest (not-T-of (ap not (sym e) ∙ f))
 
+pub of-congruenceTest : (a : Algebra) (m : Map) → ¬ T (congruenceTest a m .applies) → T (isCongruence a m)
+unfolding congruenceTest
+of-congruenceTest a m t = elim (T? (isCongruence a m)) [ yes s ↦ s | no s ↦ absurd (t (not-T (isCongruence a m) s)) ]
+
 -- ---- 8, of a list of maps
 
 module _ (n : ℕ) (bytes : List ℕ) (rest : List Test) where
@@ -214,12 +218,13 @@ module _ (a : Algebra) (room : ℕ) where
       (p .0, of-elementsTest (a .size) v w (q .0), of-spaceTest (a .size) room (r .0), of-equalTest v w (of-passed (equalTest v w) [] (r .1) .0))
 
   pub of-quotientTests : (m : Map) → Passed ≡ lowest (quotientTests a m room)
-      → Accepted a × T (isMap (a .size) m) × (quotientSpace a m ≤ room)
+      → Accepted a × T (isMap (a .size) m) × (quotientSpace a m ≤ room) × T (isCongruence a m)
   of-quotientTests m e =
       let wanted : ℕ = quotientSpace a m in
       let p = of-checked a (mapTest (a .size) m ∷ spaceTest wanted room ∷ congruenceTest a m ∷ []) e in
       let q = of-passed (mapTest (a .size) m) (spaceTest wanted room ∷ congruenceTest a m ∷ []) (p .1) in
-      (p .0, isMap-of (a .size) m (of-mapTest (a .size) m (q .0)), of-spaceTest wanted room (of-passed (spaceTest wanted room) (congruenceTest a m ∷ []) (q .1) .0))
+      let r = of-passed (spaceTest wanted room) (congruenceTest a m ∷ []) (q .1) in
+      (p .0, isMap-of (a .size) m (of-mapTest (a .size) m (q .0)), of-spaceTest wanted room (r .0), of-congruenceTest a m (of-passed (congruenceTest a m) [] (r .1) .0))
 
 pub of-decomposeTests : (a : Algebra) (room : ℕ) → Passed ≡ lowest (decomposeTests a room) → Accepted a × (factorSpace (a .size) ≤ room)
 of-decomposeTests a room e =
