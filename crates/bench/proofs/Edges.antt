@@ -6,12 +6,11 @@ use mathlib.Core.Path.{_≡_, refl}
 use lib.ListN.{length}
 use Rattle.equivalence.specs.Equivalence.{Map, isMap, holds, inside, roots, blocks, mapOf, identity, maps, best}
 use Rattle.equivalence.specs.Lists.{upTo, every, keep, first, concat}
-use Rattle.equivalence.specs.Refusal.{lowest, sizeTest, answered, written}
+use Rattle.equivalence.specs.Refusal.{lowest, sizeTest, answered, written, elementsTest}
 use Rattle.equivalence.specs.declared.Refusal.the-variants.{Size, Range, NotMap, Tally}
 use Rattle.algebra.specs.Accepted.{algebraTests}
 use Rattle.algebra.specs.Algebra.{Algebra, algebraOf, cellCount, operationsOf, operations, arguments, place, value}
 use Rattle.algebra.specs.Congruence.{respects, isCongruence, congruences}
-use Rattle.congruence.specs.Calls.{elementsTest}
 use Rattle.theory.specs.Extremal.{extended}
 use Rattle.bench.specs.Calls.{sheetTest, benchTest, tallyTest, benched, startCall, mapByAdd, lostByAdd, placeTests, addTests, addCall, clearTests, clearCall}
 use Rattle.bench.specs.Lessons.{Start, Add, Clear, Made, sizeAfter, additions, drawn, mapAfter, lostAfter}

@@ -10,7 +10,7 @@ use lib.Dec.{T, eqb, ltb, eqb→eq, ltb→lt, lt→ltb}
 use lib.ListN.{length}
 use Rattle.equivalence.specs.Equivalence.{isMap}
 use Rattle.equivalence.specs.Lists.{every}
-use Rattle.equivalence.specs.Refusal.{Test, lowest, sizeTest, answered}
+use Rattle.equivalence.specs.Refusal.{Test, lowest, sizeTest, answered, elementsTest}
 use Rattle.equivalence.proofs.Refusals.{of-passed, lowest-append, lowest-failed}
 use Rattle.equivalence.proofs.Tests.{not-T-of, or-left, or-right, eq→eqb}
 use Rattle.equivalence.specs.declared.Check.the-variants.{Passed, Failed}
@@ -18,7 +18,6 @@ use Rattle.equivalence.specs.declared.Check.{Check}
 use Rattle.equivalence.specs.declared.Refusal.{Refusal}
 use Rattle.algebra.specs.Accepted.{algebraTests, Accepted}
 use Rattle.algebra.specs.Algebra.{Algebra}
-use Rattle.congruence.specs.Calls.{elementsTest}
 use Rattle.bench.specs.Calls.{sheetTest, benchTest, placeTests, addTests, clearTests, benched}
 use Rattle.bench.specs.State.{mapOn, sheetOf}
 use Rattle.bench.proofs.Drawing.{of-every-sheet}

@@ -5,11 +5,10 @@ use mathlib.Core.List.{List, [], _∷_, _++_}
 use lib.Dec.{eqb, ltb}
 use Rattle.equivalence.specs.Equivalence.{Map, isMap, identity}
 use Rattle.equivalence.specs.Lists.{every}
-use Rattle.equivalence.specs.Refusal.{Test, lowest, sizeTest, answered}
+use Rattle.equivalence.specs.Refusal.{Test, lowest, sizeTest, answered, elementsTest}
 use Rattle.equivalence.specs.declared.Refusal.the-variants.{Range, NotMap, Tally}
 use Rattle.algebra.specs.Accepted.{algebraTests}
 use Rattle.algebra.specs.Algebra.{Algebra}
-use Rattle.congruence.specs.Calls.{elementsTest}
 use Rattle.theory.specs.Extremal.{extended}
 use Rattle.bench.specs.State.{mapOn, zeroBench, freshBench, sheetOf, withMap, raisedBy, blocksLost}
 use Rattle.bench.specs.declared.Answer.the-variants.{Done, Refused}

@@ -4,11 +4,11 @@ use mathlib.Core.Path.{_≡_, refl}
 use Rattle.equivalence.specs.Equivalence.{isMap, holds, inside, roots, blocks, blockOf, mapOf, identity, whole, same, isIdentity, meet, meetAll, maps, best, join}
 use Rattle.equivalence.specs.Lists.{upTo, every, any, keep, first, concat, stretch}
 use Rattle.equivalence.specs.Order.{pairs, notLaterOn, notLater, firstHeld}
-use Rattle.equivalence.specs.Refusal.{numberOf, lowest, sizeTest, mapTest, spaceTest, answered, written, lentAfter, serve}
+use Rattle.equivalence.specs.Refusal.{numberOf, lowest, sizeTest, mapTest, spaceTest, answered, written, lentAfter, serve, pairsTest, elementsTest, equalTest}
 use Rattle.algebra.specs.Accepted.{algebraTests}
 use Rattle.algebra.specs.Algebra.{cellCount, operationsOf, operations, arguments, place, value}
 use Rattle.algebra.specs.Congruence.{respects, isCongruence, congruences}
-use Rattle.congruence.specs.Calls.{pairsTest, elementsTest, equalTest, generateCall, containedCall, separateCall, decomposed, factorBytes, decomposeCall}
+use Rattle.congruence.specs.Calls.{generateCall, containedCall, separateCall, decomposed, factorBytes, decomposeCall}
 use Rattle.theory.specs.Decompose.{added, gathered, pruned, listed, reducible, commonPair}
 use Rattle.theory.specs.Extremal.{holdsAll, generated, contained, separated}
 use Rattle.reader.specs.Reading.{ascii, onward, _>>=_, mark, begins, opened}

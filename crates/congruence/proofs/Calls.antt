@@ -17,7 +17,7 @@ use Rattle.algebra.specs.Algebra.{Algebra, algebraOf, cellCount}
 use Rattle.algebra.specs.Congruence.{isCongruence, Congruence}
 use Rattle.algebra.proofs.Accepted.{WellFormed, accepted-wellFormed, not-yes, wellFormed-accepted}
 use Rattle.algebra.proofs.Congruences.{congruence-is}
-use Rattle.congruence.specs.Calls.{element, congruenceTest, quotientCall, decomposed, factorBytes, decomposeCall}
+use Rattle.congruence.specs.Calls.{element, congruenceTest, quotientSpace, quotientTests, quotientCall, decomposed, factorBytes, factorSpace, decomposeTests, decomposeCall}
 use Rattle.theory.specs.Decompose.{listed, reducible, commonPair}
 use Rattle.congruence.specs.Demands.{Answers11, QuotientDraws11, FactorCalls}
 use Rattle.congruence.proofs.Demands.{listed-right}
@@ -38,10 +38,10 @@ space-passed wanted lent h t = absurd (omega (arith, ltb→lt (length lent) want
 
 -- ---- Decompose
 
-module _ (a : Algebra) (accepted : Accepted a) (lent : List ℕ) (room : (a .size - 1) * a .size ≤ length lent) where
-  decompose-passed : lowest (algebraTests a ++ (spaceTest ((a .size - 1) * a .size) (length lent) ∷ [])) ≡ Passed
+module _ (a : Algebra) (accepted : Accepted a) (lent : List ℕ) (room : factorSpace (a .size) ≤ length lent) where
+  decompose-passed : lowest (decomposeTests a (length lent)) ≡ Passed
   unfolding Accepted
-  decompose-passed = lowest-append (algebraTests a) _ accepted ∙ lowest-next _ [] (space-passed ((a .size - 1) * a .size) lent room) ∙ lowest-none
+  decompose-passed = lowest-append (algebraTests a) _ accepted ∙ lowest-next _ [] (space-passed (factorSpace (a .size)) lent room) ∙ lowest-none
 
   decompose-served : decomposeCall a lent ≡ (decomposed a, written (factorBytes a) lent)
   unfolding decomposeCall
@@ -63,13 +63,13 @@ factors-reducible a k e =
 
 -- ---- Quotient
 
-module _ (a : Algebra) (accepted : Accepted a) (m : Map) (p : Congruence a m) (tables : List ℕ) (room : cellCount (blocks (a .size) m) (a .arities) ≤ length tables) where
-  quotient-passed : lowest (algebraTests a ++ (mapTest (a .size) m ∷ spaceTest (cellCount (blocks (a .size) m) (a .arities)) (length tables) ∷ congruenceTest a m ∷ [])) ≡ Passed
+module _ (a : Algebra) (accepted : Accepted a) (m : Map) (p : Congruence a m) (tables : List ℕ) (room : quotientSpace a m ≤ length tables) where
+  quotient-passed : lowest (quotientTests a m (length tables)) ≡ Passed
   unfolding Accepted mapTest congruenceTest
   quotient-passed =
       lowest-append (algebraTests a) _ accepted
       ∙ lowest-next _ _ (not-yes (isMap (a .size) m) (p .map))
-      ∙ lowest-next _ _ (space-passed (cellCount (blocks (a .size) m) (a .arities)) tables room)
+      ∙ lowest-next _ _ (space-passed (quotientSpace a m) tables room)
       ∙ lowest-next _ [] (not-yes (isCongruence a m) (p .respects))
       ∙ lowest-none
 
@@ -84,15 +84,15 @@ module _ (a : Algebra) (accepted : Accepted a) (m : Map) (p : Congruence a m) (t
   quotient-bytes = ap (λ (r : Divided × List ℕ). r .1) quotient-served
 
   -- the tables that were written, with b and the arities, are the quotient
-  pub quotient-algebra : algebraOf (blocks (a .size) m) (a .arities) (take (cellCount (blocks (a .size) m) (a .arities)) (quotientCall a m tables .1)) ≡ quotient a m
+  pub quotient-algebra : algebraOf (blocks (a .size) m) (a .arities) (take (quotientSpace a m) (quotientCall a m tables .1)) ≡ quotient a m
   unfolding quotient written
   quotient-algebra =
-      let long : length (quotientCells a m) ≡ cellCount (blocks (a .size) m) (a .arities) = quotientCells-length a m in
-      rw (quotient-bytes, take-at (quotientCells a m) (drop (length (quotientCells a m)) tables) (cellCount (blocks (a .size) m) (a .arities)) long)
+      let long : length (quotientCells a m) ≡ quotientSpace a m = quotientCells-length a m in
+      rw (quotient-bytes, take-at (quotientCells a m) (drop (length (quotientCells a m)) tables) (quotientSpace a m) long)
 
 -- ---- demand 3 over the calls
 
-blocks-injective : (b c : ℕ) → Blocks b ≡ Blocks c → b ≡ c
+pub blocks-injective : (b c : ℕ) → Blocks b ≡ Blocks c → b ≡ c
 blocks-injective b c e = cc
 
 size-quotient : (a : Algebra) (m : Map) (again : List ℕ) → (blocks (a .size) m - 1) * blocks (a .size) m ≤ length again → (quotient a m .size - 1) * quotient a m .size ≤ length again
@@ -119,7 +119,7 @@ module _ (a : Algebra) (accepted : Accepted a) where
             );
       }
 
-  pub factor-calls : (lent : List ℕ) → (a .size - 1) * a .size ≤ length lent → FactorCalls a lent
+  pub factor-calls : (lent : List ℕ) → factorSpace (a .size) ≤ length lent → FactorCalls a lent
   unfolding written
   factor-calls lent room =
       let well : WellFormed a = accepted-wellFormed a accepted in

@@ -54,6 +54,10 @@ pub factorBytes-yes : (a : Algebra) → T (reducible a) → factorBytes a ≡ co
 unfolding factorBytes
 factorBytes-yes a t = pick-yes (reducible a) (concat (listed a)) [] t
 
+pub factorBytes-no : (a : Algebra) → ¬ T (reducible a) → factorBytes a ≡ []
+unfolding factorBytes
+factorBytes-no a t = pick-no (reducible a) (concat (listed a)) [] t
+
 module _ (a : Algebra) (lent : List ℕ) {after : List ℕ} {found : Found} (f : Factored a found lent after) where
   pub answer-factors : {k : ℕ} → found ≡ Counted k → (Factors k ≡ decomposed a) × (after ≡ written (factorBytes a) lent)
   answer-factors {k} e =
@@ -61,7 +65,7 @@ module _ (a : Algebra) (lent : List ℕ) {after : List ℕ} {found : Found} (f :
       (rw (decomposed-yes a (g .0), g .1), rw (factorBytes-yes a (g .0)) (g .2))
 
   pub answer-irreducible : {x y : Element} → found ≡ Paired x y → (Irreducible x y ≡ decomposed a) × (after ≡ written (factorBytes a) lent)
-  unfolding written factorBytes
+  unfolding written
   answer-irreducible {x} {y} e =
       let g : Factored a (Paired x y) lent after = rw e at f in
-      (rw (decomposed-no a (g .0), g .1), rw (pick-no (reducible a) (concat (listed a)) [] (g .0)) (g .2))
+      (rw (decomposed-no a (g .0), g .1), rw (factorBytes-no a (g .0)) (g .2))

@@ -2,20 +2,22 @@
 use Prim.Native.Nat.{ℕ, _≤_, _<_}
 use mathlib.Core.List.{List, [], map}
 use mathlib.Core.Logic.{inl, inr, _≢_}
-use mathlib.Core.Path.{ap}
+use mathlib.Core.Path.{_≡_, refl, ap, _∙_}
 use native.Mathlib.Omega.{arith}
 use lib.Dec.{T, T-not}
-use lib.ListN.{length, getD}
-use Rattle.equivalence.specs.Equivalence.{Map, isMap, isIdentity, meet, join}
+use lib.ListN.{length, getD, length-map}
+use Rattle.equivalence.specs.Equivalence.{Map, isMap, isIdentity, meet, join, blocks, blockOf}
+use Rattle.equivalence.proofs.BlockNumbers.{smallest, smallest-below, block-smallest}
 use Rattle.equivalence.specs.Lists.{every, first, without}
 use Rattle.equivalence.specs.Order.{Pair, pairs}
 use Rattle.equivalence.proofs.Joins.{join-law}
-use Rattle.equivalence.proofs.Lists.{member-at}
+use Rattle.equivalence.proofs.Lists.{member-at, map-at}
 use Rattle.equivalence.proofs.Maps.{holds-of, of-holds, isMap-of, of-isMap, inside-of, of-inside}
 use Rattle.equivalence.proofs.Meets.{meet-map, of-meet, meet-greatest, meets-of, of-meets}
 use Rattle.equivalence.proofs.Tests.{T?, left, right}
 use Rattle.algebra.specs.Accepted.{Accepted}
-use Rattle.algebra.specs.Algebra.{Algebra}
+use Rattle.algebra.specs.Algebra.{Algebra, Operation, operations, value}
+use Rattle.division.specs.Quotient.{quotient}
 use Rattle.algebra.specs.Congruence.{Congruence, congruences}
 use Rattle.algebra.proofs.Accepted.{WellFormed, accepted-wellFormed}
 use Rattle.algebra.proofs.Arguments.{of-arguments}
@@ -24,7 +26,7 @@ use Rattle.congruence.specs.Calls.{element}
 use Rattle.theory.specs.Certify.{certified}
 use Rattle.theory.specs.Decompose.{listed, reducible, commonPair}
 use Rattle.theory.specs.Splitting.{Unsplit}
-use Rattle.congruence.specs.Demands.{LeastCongruence, GreatestCongruence, MeetRight, JoinRight, QuotientAtMembers, MaximalApart, EarliestCongruence, HeldByAll, FirstCommonPair, FactorsRight, FactorTheorem}
+use Rattle.congruence.specs.Demands.{LeastCongruence, GreatestCongruence, MeetRight, JoinRight, operationAt, QuotientAtMembers, MaximalApart, EarliestCongruence, HeldByAll, FirstCommonPair, FactorsRight, FactorTheorem}
 use Rattle.theory.specs.Extremal.{generated, contained, separated}
 use Rattle.theory.proofs.Certificates.{listed-certified}
 use Rattle.theory.proofs.CommonPair.{Common, FirstCommon, commonPair-law, commonPair-one}
@@ -32,7 +34,7 @@ use Rattle.theory.proofs.Factors.{listed-law, two-at-least, unsplit}
 use Rattle.congruence.proofs.Decomposing.{decomposed-yes, irreducible-of, of-irreducible, quotient-irreducible}
 use Rattle.theory.proofs.GreatestCongruence.{contained-law}
 use Rattle.theory.proofs.LeastCongruence.{Below, generated-law}
-use Rattle.theory.proofs.Quotients.{onBlocks, block-value}
+use Rattle.theory.proofs.Quotients.{onBlocks, operations-quotient, block-value}
 use Rattle.theory.proofs.Separation.{MaximalFor, separated-earliest, separated-law}
 
 -- ---- demand 2
@@ -80,10 +82,23 @@ module _ (a : Algebra) (accepted : Accepted a) where
       }
 
   -- Quotient: which members of the blocks are taken does not matter
-  pub quotient-at-members : (m : Map) → Congruence a m → QuotientAtMembers a m
-  unfolding onBlocks
+  pub quotient-at-members : (m : Map) → Congruence a m → QuotientAtMembers a m (quotient a m)
+  unfolding quotient onBlocks
   quotient-at-members m p =
-      record { cell = λ f i xs j. block-value a (accepted-wellFormed a accepted) m (congruence-is a m p) f i xs (of-arguments (a .size) (f .arity) xs j) }
+      let w = accepted-wellFormed a accepted in
+      let q = congruence-is a m p in
+      let count : length (operations (quotient a m)) ≡ length (operations a) = ap length (operations-quotient a m) ∙ length-map (operations a) (onBlocks (a .size) m) in
+      let each : (i : ℕ) → i < length (operations a) → operationAt (quotient a m) i ≡ onBlocks (a .size) m (operationAt a i) =
+      λ i l. ap (λ (fs : List Operation). getD fs i (record { arity = 0; table = [] })) (operations-quotient a m)
+      ∙ map-at (onBlocks (a .size) m) (operations a) i (record { arity = 0; table = [] }) (record { arity = 0; table = [] }) l in
+      record {
+        size = refl;
+        block = λ b l. let s = smallest-below (a .size) m (q .map) b l in (smallest (a .size) m b, s .0, block-smallest (a .size) m (q .map) b l);
+        count = count;
+        arity = λ i l. ap (λ (f : Operation). f .arity) (each i l);
+        cell = λ i l xs j. ap (λ (f : Operation). value (blocks (a .size) m) f (map (blockOf m) xs)) (each i l)
+            ∙ block-value a w m q (operationAt a i) (member-at (operations a) i (record { arity = 0; table = [] }) l) xs (of-arguments (a .size) (operationAt a i .arity) xs j);
+      }
 
   -- ---- demand 3
 

@@ -1,5 +1,7 @@
+pub mod Examples
 pub mod Serving
 pub mod Decomposing
+pub mod Reasons
 pub mod Demands
 pub mod Calls
-pub mod Examples
+pub mod Meanings

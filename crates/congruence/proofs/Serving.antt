@@ -12,7 +12,7 @@ use lib.Dec.{T, eqb, ltb, T-not, not-T, eqb→eq, ltb→lt, lt→ltb}
 use lib.ListN.{length, getD}
 use Rattle.equivalence.specs.Equivalence.{Map, isMap, blocks}
 use Rattle.equivalence.specs.Lists.{every}
-use Rattle.equivalence.specs.Refusal.{Test, lowest, mapTest, spaceTest, answered, written, serve}
+use Rattle.equivalence.specs.Refusal.{Test, lowest, mapTest, spaceTest, answered, written, serve, pairsTest, elementsTest, equalTest}
 use Rattle.equivalence.proofs.Maps.{isMap-of}
 use Rattle.equivalence.proofs.Refusals.{space-passed, lowest-next, lowest-here, of-passed, lowest-append, lowest-failed, passed-append, serve-passed, serve-failed, of-mapTest, space-refused, of-spaceTest}
 use Rattle.equivalence.proofs.Tests.{T?, pick-yes, pick-no, or-left, or-right, or-cases, eq→eqb, T-of, not-T-of}
@@ -20,7 +20,7 @@ use Rattle.algebra.specs.Accepted.{algebraTests, Accepted}
 use Rattle.algebra.specs.Algebra.{Algebra, cellCount}
 use Rattle.algebra.specs.Congruence.{isCongruence}
 use Rattle.algebra.proofs.Accepted.{every-at, accepted-wellFormed}
-use Rattle.congruence.specs.Calls.{pairsTest, elementsTest, equalTest, congruenceTest, mapsIn, mapsTest, certifyCall}
+use Rattle.congruence.specs.Calls.{congruenceTest, mapsIn, mapsTest, generateTests, containedTests, separateTests, quotientSpace, quotientTests, factorSpace, decomposeTests, certifyTests, certifyCall}
 use Rattle.theory.specs.Certify.{certified}
 use Rattle.listing.specs.Listing.{listing, MapsListed}
 use Rattle.theory.proofs.LeastCongruence.{Below}
@@ -132,6 +132,10 @@ module _ (a : Algebra) (m : Map) (rest : List Test) where
   unfolding congruenceTest
   congruence-passed e f = lowest-next (congruenceTest a m) rest (not-T-of (ap not (sym e) ∙ f))
 
+pub of-congruenceTest : (a : Algebra) (m : Map) → ¬ T (congruenceTest a m .applies) → T (isCongruence a m)
+unfolding congruenceTest
+of-congruenceTest a m t = elim (T? (isCongruence a m)) [ yes s ↦ s | no s ↦ absurd (t (not-T (isCongruence a m) s)) ]
+
 -- ---- 8, of a list of maps
 
 module _ (n : ℕ) (bytes : List ℕ) (rest : List Test) where
@@ -193,19 +197,19 @@ module _ (wanted lent : ℕ) (rest : List Test) {measured : ℕ} (e : measured �
 -- ---- what a call may rely on once its tests have passed
 
 module _ (a : Algebra) (room : ℕ) where
-  pub of-generateTests : (ps : List ℕ) → Passed ≡ lowest (algebraTests a ++ (pairsTest (a .size) ps ∷ spaceTest (a .size) room ∷ [])) → Accepted a × Below (a .size) ps × (a .size ≤ room)
+  pub of-generateTests : (ps : List ℕ) → Passed ≡ lowest (generateTests a ps room) → Accepted a × Below (a .size) ps × (a .size ≤ room)
   of-generateTests ps e =
       let p = of-checked a (pairsTest (a .size) ps ∷ spaceTest (a .size) room ∷ []) e in
       let q = of-passed (pairsTest (a .size) ps) (spaceTest (a .size) room ∷ []) (p .1) in
       (p .0, of-pairsTest (a .size) ps (q .0), of-spaceTest (a .size) room (of-passed (spaceTest (a .size) room) [] (q .1) .0))
 
-  pub of-containedTests : (m : Map) → Passed ≡ lowest (algebraTests a ++ (mapTest (a .size) m ∷ spaceTest (a .size) room ∷ [])) → Accepted a × T (isMap (a .size) m) × (a .size ≤ room)
+  pub of-containedTests : (m : Map) → Passed ≡ lowest (containedTests a m room) → Accepted a × T (isMap (a .size) m) × (a .size ≤ room)
   of-containedTests m e =
       let p = of-checked a (mapTest (a .size) m ∷ spaceTest (a .size) room ∷ []) e in
       let q = of-passed (mapTest (a .size) m) (spaceTest (a .size) room ∷ []) (p .1) in
       (p .0, isMap-of (a .size) m (of-mapTest (a .size) m (q .0)), of-spaceTest (a .size) room (of-passed (spaceTest (a .size) room) [] (q .1) .0))
 
-  pub of-separateTests : (v w : ℕ) → Passed ≡ lowest (algebraTests a ++ (elementsTest (a .size) v w ∷ spaceTest (a .size) room ∷ equalTest v w ∷ []))
+  pub of-separateTests : (v w : ℕ) → Passed ≡ lowest (separateTests a v w room)
       → Accepted a × ((v < a .size) × (w < a .size)) × (a .size ≤ room) × ¬ (v ≡ w)
   of-separateTests v w e =
       let p = of-checked a (elementsTest (a .size) v w ∷ spaceTest (a .size) room ∷ equalTest v w ∷ []) e in
@@ -213,20 +217,21 @@ module _ (a : Algebra) (room : ℕ) where
       let r = of-passed (spaceTest (a .size) room) (equalTest v w ∷ []) (q .1) in
       (p .0, of-elementsTest (a .size) v w (q .0), of-spaceTest (a .size) room (r .0), of-equalTest v w (of-passed (equalTest v w) [] (r .1) .0))
 
-  pub of-quotientTests : (m : Map) → Passed ≡ lowest (algebraTests a ++ (mapTest (a .size) m ∷ spaceTest (cellCount (blocks (a .size) m) (a .arities)) room ∷ congruenceTest a m ∷ []))
-      → Accepted a × T (isMap (a .size) m) × (cellCount (blocks (a .size) m) (a .arities) ≤ room)
+  pub of-quotientTests : (m : Map) → Passed ≡ lowest (quotientTests a m room)
+      → Accepted a × T (isMap (a .size) m) × (quotientSpace a m ≤ room) × T (isCongruence a m)
   of-quotientTests m e =
-      let wanted : ℕ = cellCount (blocks (a .size) m) (a .arities) in
+      let wanted : ℕ = quotientSpace a m in
       let p = of-checked a (mapTest (a .size) m ∷ spaceTest wanted room ∷ congruenceTest a m ∷ []) e in
       let q = of-passed (mapTest (a .size) m) (spaceTest wanted room ∷ congruenceTest a m ∷ []) (p .1) in
-      (p .0, isMap-of (a .size) m (of-mapTest (a .size) m (q .0)), of-spaceTest wanted room (of-passed (spaceTest wanted room) (congruenceTest a m ∷ []) (q .1) .0))
+      let r = of-passed (spaceTest wanted room) (congruenceTest a m ∷ []) (q .1) in
+      (p .0, isMap-of (a .size) m (of-mapTest (a .size) m (q .0)), of-spaceTest wanted room (r .0), of-congruenceTest a m (of-passed (congruenceTest a m) [] (r .1) .0))
 
-pub of-decomposeTests : (a : Algebra) (room : ℕ) → Passed ≡ lowest (algebraTests a ++ (spaceTest ((a .size - 1) * a .size) room ∷ [])) → Accepted a × ((a .size - 1) * a .size ≤ room)
+pub of-decomposeTests : (a : Algebra) (room : ℕ) → Passed ≡ lowest (decomposeTests a room) → Accepted a × (factorSpace (a .size) ≤ room)
 of-decomposeTests a room e =
-    let p = of-checked a (spaceTest ((a .size - 1) * a .size) room ∷ []) e in
-    (p .0, of-spaceTest ((a .size - 1) * a .size) room (of-passed (spaceTest ((a .size - 1) * a .size) room) [] (p .1) .0))
+    let p = of-checked a (spaceTest (factorSpace (a .size)) room ∷ []) e in
+    (p .0, of-spaceTest (factorSpace (a .size)) room (of-passed (spaceTest (factorSpace (a .size)) room) [] (p .1) .0))
 
-pub of-certifyTests : (a : Algebra) (bytes : List ℕ) → Passed ≡ lowest (algebraTests a ++ (mapsTest (a .size) bytes ∷ [])) → Accepted a × MapsListed (a .size) (length bytes / a .size) bytes
+pub of-certifyTests : (a : Algebra) (bytes : List ℕ) → Passed ≡ lowest (certifyTests a bytes) → Accepted a × MapsListed (a .size) (length bytes / a .size) bytes
 of-certifyTests a bytes e =
     let p = of-checked a (mapsTest (a .size) bytes ∷ []) e in
     let w = accepted-wellFormed a (p .0) in
@@ -246,11 +251,11 @@ module _ {ℓ} {A : Type ℓ} (refused : Refusal → A) (tests : List Test) (ans
 -- ---- Certify's answer
 
 module _ (a : Algebra) (bytes : List ℕ) where
-  pub certify-declined : (r : Refusal) → Failed r ≡ lowest (algebraTests a ++ (mapsTest (a .size) bytes ∷ [])) → CertifyRefused r ≡ certifyCall a bytes
+  pub certify-declined : (r : Refusal) → Failed r ≡ lowest (certifyTests a bytes) → CertifyRefused r ≡ certifyCall a bytes
   unfolding certifyCall answered
   certify-declined r e = rw (← e)
 
-  module _ (passed : Passed ≡ lowest (algebraTests a ++ (mapsTest (a .size) bytes ∷ []))) {r : Bool} (e : r ≡ certified a (listing (a .size) (length bytes / a .size) bytes)) where
+  module _ (passed : Passed ≡ lowest (certifyTests a bytes)) {r : Bool} (e : r ≡ certified a (listing (a .size) (length bytes / a .size) bytes)) where
     pub certify-yes : r ≡ true → Yes ≡ certifyCall a bytes
     unfolding certifyCall answered mapsIn listing
     certify-yes f = rw (← passed) (sym (pick-yes (certified a (mapsIn (a .size) bytes)) Yes No (T-of (sym e ∙ f))))

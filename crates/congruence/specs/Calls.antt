@@ -6,8 +6,8 @@ use lib.Dec.{eqb, ltb}
 use lib.ListN.{length}
 use Rattle.equivalence.specs.Lists.{upTo, every, concat, stretch}
 use Rattle.equivalence.specs.Equivalence.{Map, isMap, blocks}
-use Rattle.equivalence.specs.Refusal.{Test, lowest, mapTest, spaceTest, answered, serve}
-use Rattle.equivalence.specs.declared.Refusal.the-variants.{Range, NotMap, Equal, NotCongruence}
+use Rattle.equivalence.specs.Refusal.{Test, lowest, pairsTest, elementsTest, mapTest, spaceTest, equalTest, answered, serve}
+use Rattle.equivalence.specs.declared.Refusal.the-variants.{NotMap, NotCongruence}
 use Rattle.equivalence.specs.declared.Element.{Element}
 use Rattle.equivalence.specs.declared.Written.{Written}
 use Rattle.equivalence.specs.declared.Written.the-variants.{Done, Refused as WriteRefused}
@@ -31,18 +31,6 @@ use Rattle.congruence.specs.declared.Certified.the-variants.{Yes, No, Re
 abbrev pub element : ℕ → Element
 element x = record { 0 = x }
 
--- 7: an odd list of pairs, or an element not below n
-unfoldable pub pairsTest : ℕ → List ℕ → Test
-pairsTest n ps = record { applies = not (eqb (length ps % 2) 0) || not (every (λ x. ltb x n) ps); reason = Range }
-
--- 7: v or w is not below n
-unfoldable pub elementsTest : ℕ → ℕ → ℕ → Test
-elementsTest n v w = record { applies = not (ltb v n) || not (ltb w n); reason = Range }
-
--- 10: v and w are equal
-unfoldable pub equalTest : ℕ → ℕ → Test
-equalTest v w = record { applies = eqb v w; reason = Equal }
-
 -- 12: the map is no congruence
 unfoldable pub congruenceTest : Algebra → Map → Test
 congruenceTest a m = record { applies = not (isCongruence a m); reason = NotCongruence }
@@ -56,27 +44,42 @@ unfoldable pub mapsTest : ℕ → List ℕ → Test
 mapsTest n bytes =
     record { applies = not (eqb (length bytes % n) 0) || ltb 63 (length bytes / n) || not (every (isMap n) (mapsIn n bytes)); reason = NotMap }
 
--- Generate (1 to 7, 9): the least congruence that holds the pairs; its merges are n minus the final blocks
+-- Generate's tests: 1 to 7, 9
+abbrev pub generateTests : Algebra → List ℕ → ℕ → List Test
+generateTests a ps room = algebraTests a ++ (pairsTest (a .size) ps ∷ spaceTest (a .size) room ∷ [])
+
+-- Generate: the least congruence that holds the pairs; its merges are n minus the final blocks
 unfoldable pub generateCall : Algebra → List ℕ → List ℕ → Generated × List ℕ
 generateCall a ps lent =
-    serve GenerateRefused (algebraTests a ++ (pairsTest (a .size) ps ∷ spaceTest (a .size) (length lent) ∷ []))
-    (Merges (a .size - blocks (a .size) (generated a ps))) (generated a ps) lent
+    serve GenerateRefused (generateTests a ps (length lent)) (Merges (a .size - blocks (a .size) (generated a ps))) (generated a ps) lent
 
--- Contained (1 to 6, 8, 9)
+-- Contained's tests: 1 to 6, 8, 9
+abbrev pub containedTests : Algebra → Map → ℕ → List Test
+containedTests a e room = algebraTests a ++ (mapTest (a .size) e ∷ spaceTest (a .size) room ∷ [])
+
+-- Contained: the greatest congruence inside the map
 unfoldable pub containedCall : Algebra → Map → List ℕ → Written × List ℕ
-containedCall a e lent =
-    serve WriteRefused (algebraTests a ++ (mapTest (a .size) e ∷ spaceTest (a .size) (length lent) ∷ [])) Done (contained a e) lent
+containedCall a e lent = serve WriteRefused (containedTests a e (length lent)) Done (contained a e) lent
 
--- Separate (1 to 7, 9, 10)
+-- Separate's tests: 1 to 7, 9, 10
+abbrev pub separateTests : Algebra → ℕ → ℕ → ℕ → List Test
+separateTests a v w room = algebraTests a ++ (elementsTest (a .size) v w ∷ spaceTest (a .size) room ∷ equalTest v w ∷ [])
+
+-- Separate: the earliest congruence that holds v and w apart
 unfoldable pub separateCall : Algebra → ℕ → ℕ → List ℕ → Written × List ℕ
-separateCall a v w lent =
-    serve WriteRefused (algebraTests a ++ (elementsTest (a .size) v w ∷ spaceTest (a .size) (length lent) ∷ equalTest v w ∷ [])) Done (separated a v w) lent
+separateCall a v w lent = serve WriteRefused (separateTests a v w (length lent)) Done (separated a v w) lent
 
--- Quotient (1 to 6, 8, 9 with the given map's number of blocks, 12): the tables over blocks, and how many blocks there are
+-- what Quotient wants of space: the cells of the tables over the map's blocks
+abbrev pub quotientSpace : Algebra → Map → ℕ
+quotientSpace a m = cellCount (blocks (a .size) m) (a .arities)
+
+-- Quotient's tests: 1 to 6, 8, 9 with the given map's number of blocks, 12
+abbrev pub quotientTests : Algebra → Map → ℕ → List Test
+quotientTests a m room = algebraTests a ++ (mapTest (a .size) m ∷ spaceTest (quotientSpace a m) room ∷ congruenceTest a m ∷ [])
+
+-- Quotient: the tables over blocks, and how many blocks there are
 unfoldable pub quotientCall : Algebra → Map → List ℕ → Divided × List ℕ
-quotientCall a m lent =
-    serve DivideRefused (algebraTests a ++ (mapTest (a .size) m ∷ spaceTest (cellCount (blocks (a .size) m) (a .arities)) (length lent) ∷ congruenceTest a m ∷ []))
-    (Blocks (blocks (a .size) m)) (quotientCells a m) lent
+quotientCall a m lent = serve DivideRefused (quotientTests a m (length lent)) (Blocks (blocks (a .size) m)) (quotientCells a m) lent
 
 -- what Decompose finds of an accepted algebra: the factors, or 11 with a pair
 unfoldable pub decomposed : Algebra → Decomposed
@@ -87,12 +90,23 @@ decomposed a =
 unfoldable pub factorBytes : Algebra → List ℕ
 factorBytes a = elim (reducible a) [ true ↦ concat (listed a) | false ↦ [] ]
 
--- Decompose (1 to 6, 9, then 11)
-unfoldable pub decomposeCall : Algebra → List ℕ → Decomposed × List ℕ
-decomposeCall a lent =
-    serve DecomposeRefused (algebraTests a ++ (spaceTest ((a .size - 1) * a .size) (length lent) ∷ [])) (decomposed a) (factorBytes a) lent
+-- what Decompose wants of space over n elements: n - 1 maps
+abbrev pub factorSpace : ℕ → ℕ
+factorSpace n = (n - 1) * n
 
--- Certify (1 to 6, 8)
+-- Decompose's tests: 1 to 6, 9; 11 comes after these
+abbrev pub decomposeTests : Algebra → ℕ → List Test
+decomposeTests a room = algebraTests a ++ (spaceTest (factorSpace (a .size)) room ∷ [])
+
+-- Decompose: the factors and their count, or 11
+unfoldable pub decomposeCall : Algebra → List ℕ → Decomposed × List ℕ
+decomposeCall a lent = serve DecomposeRefused (decomposeTests a (length lent)) (decomposed a) (factorBytes a) lent
+
+-- Certify's tests: 1 to 6, 8
+abbrev pub certifyTests : Algebra → List ℕ → List Test
+certifyTests a bytes = algebraTests a ++ (mapsTest (a .size) bytes ∷ [])
+
+-- Certify: yes or no
 unfoldable pub certifyCall : Algebra → List ℕ → Certified
 certifyCall a bytes =
-    answered CertifyRefused (lowest (algebraTests a ++ (mapsTest (a .size) bytes ∷ []))) (elim (certified a (mapsIn (a .size) bytes)) [ true ↦ Yes | false ↦ No ])
+    answered CertifyRefused (lowest (certifyTests a bytes)) (elim (certified a (mapsIn (a .size) bytes)) [ true ↦ Yes | false ↦ No ])

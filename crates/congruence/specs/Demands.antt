@@ -1,5 +1,5 @@
 -- Demands 2 and 3, stated over the definitions that the contracts cite.
-use Prim.Native.Nat.{ℕ, _≤_, _<_, _-_, _*_}
+use Prim.Native.Nat.{ℕ, _≤_, _<_, _-_}
 use mathlib.Core.Path.{_≡_}
 use mathlib.Core.Logic.{_⊎_, _↔_}
 use mathlib.Core.List.{List, [], map}
@@ -13,10 +13,10 @@ use Rattle.equivalence.specs.declared.Element.{Element}
 use Rattle.algebra.specs.Algebra.{Algebra, algebraOf, Operation, operations, arguments, value, cellCount}
 use Rattle.algebra.specs.Congruence.{Congruence}
 use Rattle.theory.specs.Extremal.{holdsAll}
-use Rattle.division.specs.Quotient.{quotientTable, quotient}
+use Rattle.division.specs.Quotient.{quotient}
 use Rattle.theory.specs.Decompose.{listed, commonPair}
 use Rattle.theory.specs.Splitting.{Unsplit}
-use Rattle.congruence.specs.Calls.{element, decomposed, decomposeCall, quotientCall}
+use Rattle.congruence.specs.Calls.{element, quotientSpace, quotientCall, decomposed, factorSpace, decomposeCall}
 use Rattle.congruence.specs.declared.Decomposed.the-variants.{Factors, Irreducible}
 use Rattle.congruence.specs.declared.Divided.the-variants.{Blocks}
 
@@ -46,10 +46,19 @@ pub record JoinRight (n : ℕ) (a b m : Map) : Type 0 where
   pub right : T (inside n b m)
   pub least : (c : Map) → T (isMap n c) → T (inside n a c) → T (inside n b c) → T (inside n m c)
 
--- Demand 2, Quotient: the cell at the blocks of any members is the block of the result at those members
-pub record QuotientAtMembers (a : Algebra) (m : Map) : Type 0 where
-  pub cell : (f : Operation) → Member f (operations a) → (xs : List ℕ) → Member xs (arguments (a .size) (f .arity))
-      → value (blocks (a .size) m) (record { arity = f .arity; table = quotientTable (a .size) m f }) (map (blockOf m) xs) ≡ blockOf m (value (a .size) f xs)
+-- operation number i of an algebra
+abbrev pub operationAt : Algebra → ℕ → Operation
+operationAt a i = getD (operations a) i (record { arity = 0; table = [] })
+
+-- Demand 2, Quotient: q's elements are the numbers of m's blocks; for each operation of a it has one of the same arity, whose cell at the blocks of any
+-- members is the block of the result at those members
+pub record QuotientAtMembers (a : Algebra) (m : Map) (q : Algebra) : Type 0 where
+  pub size : q .size ≡ blocks (a .size) m
+  pub block : (b : ℕ) → b < q .size → (x : ℕ) × (x < a .size) × (blockOf m x ≡ b)
+  pub count : length (operations q) ≡ length (operations a)
+  pub arity : (i : ℕ) → i < length (operations a) → operationAt q i .arity ≡ operationAt a i .arity
+  pub cell : (i : ℕ) → i < length (operations a) → (xs : List ℕ) → Member xs (arguments (a .size) (operationAt a i .arity))
+      → value (q .size) (operationAt q i) (map (blockOf m) xs) ≡ blockOf m (value (a .size) (operationAt a i) xs)
 
 -- m holds x and y apart, and every strictly larger congruence joins them
 pub record MaximalApart (a : Algebra) (m : Map) (x y : ℕ) : Type 0 where
@@ -98,9 +107,9 @@ pub record FactorTheorem (a : Algebra) : Type 0 where
 
 -- Quotient by m is given, and Decompose on the tables and b that it gave answers 11
 pub record QuotientDraws11 (a : Algebra) (m : Map) : Type 0 where
-  pub given : (tables : List ℕ) → cellCount (blocks (a .size) m) (a .arities) ≤ length tables → quotientCall a m tables .0 ≡ Blocks (blocks (a .size) m)
-  pub draws11 : (tables : List ℕ) → cellCount (blocks (a .size) m) (a .arities) ≤ length tables
-      → (b : ℕ) → quotientCall a m tables .0 ≡ Blocks b → (again : List ℕ) → (b - 1) * b ≤ length again
+  pub given : (tables : List ℕ) → quotientSpace a m ≤ length tables → quotientCall a m tables .0 ≡ Blocks (blocks (a .size) m)
+  pub draws11 : (tables : List ℕ) → quotientSpace a m ≤ length tables
+      → (b : ℕ) → quotientCall a m tables .0 ≡ Blocks b → (again : List ℕ) → factorSpace b ≤ length again
       → (x : Element) × (y : Element) × (decomposeCall (algebraOf b (a .arities) (take (cellCount b (a .arities)) (quotientCall a m tables .1))) again .0 ≡ Irreducible x y)
 
 -- Demand 3 over the calls: Decompose; for each factor, Quotient of the same algebra by the factor's map as listed, bytes i × n to i × n + n;

@@ -1,9 +1,5 @@
--- Document 01's number and values for each case of an answer, and the 32-bit number that a C caller gets.
-use Prim.Native.Nat.{ℕ, _+_, _*_}
-use Rattle.equivalence.specs.Refusal.{numberOf}
-use Rattle.equivalence.specs.declared.Refusal.{Refusal}
-use Rattle.equivalence.specs.declared.Written.{Written}
-use Rattle.equivalence.specs.declared.Written.the-variants.{Done, Refused as WriteRefused}
+-- Document 01's number and values for each case of the services' answers.
+use Rattle.equivalence.specs.Outcome.{Outcome, success, refusal}
 use Rattle.congruence.specs.declared.Generated.{Generated}
 use Rattle.congruence.specs.declared.Generated.the-variants.{Merges, Refused as GenerateRefused}
 use Rattle.congruence.specs.declared.Divided.{Divided}
@@ -12,26 +8,6 @@ use Rattle.congruence.specs.declared.Decomposed.{Decomposed}
 use Rattle.congruence.specs.declared.Decomposed.the-variants.{Factors, Irreducible, Refused as DecomposeRefused}
 use Rattle.congruence.specs.declared.Certified.{Certified}
 use Rattle.congruence.specs.declared.Certified.the-variants.{Yes, No, Refused as CertifyRefused}
-
--- a reason, 0 for success, with a count and two elements, each 0 where there is none
-pub record Outcome : Type 0 where
-  pub reason : ℕ
-  pub count : ℕ
-  pub first : ℕ
-  pub second : ℕ
-
--- success with a count
-unfoldable pub success : ℕ → Outcome
-success k = record { reason = 0; count = k; first = 0; second = 0 }
-
--- a refusal carries zeros
-unfoldable pub refusal : Refusal → Outcome
-refusal r = record { reason = numberOf r; count = 0; first = 0; second = 0 }
-
--- Contained, Separate, Meet, Join
-unfoldable pub writtenOutcome : Written → Outcome
-writtenOutcome Done = success 0
-writtenOutcome (WriteRefused r) = refusal r
 
 -- Generate: the merges
 unfoldable pub generatedOutcome : Generated → Outcome
@@ -54,7 +30,3 @@ unfoldable pub certifiedOutcome : Certified → Outcome
 certifiedOutcome Yes = success 1
 certifiedOutcome No = success 0
 certifiedOutcome (CertifyRefused r) = refusal r
-
--- reason + 256 × count + 65,536 × first element + 16,777,216 × second element
-unfoldable pub packed : Outcome → ℕ
-packed o = o .reason + 256 * o .count + 65536 * o .first + 16777216 * o .second

@@ -1,15 +1,13 @@
 // The tests of each service, by rising number: the first that applies is the answer.
 ghost use mathlib.Core.Path.{_≡_};
-ghost use mathlib.Core.List.{[], _∷_, _++_};
-ghost use Prim.Native.Nat.{ℕ, _-_, _*_, _<_, _≤_};
+ghost use Prim.Native.Nat.{ℕ, _*_, _<_, _≤_};
 ghost use lib.Dec.{ltb};
 ghost use lib.ListN.{length, getD};
 ghost use Rattle.equivalence.specs.Lists.{every};
 ghost use Rattle.equivalence.specs.Equivalence.{isMap, blocks};
-ghost use Rattle.equivalence.specs.Refusal.{lowest, mapTest, spaceTest};
+ghost use Rattle.equivalence.specs.Refusal.{lowest};
 ghost use Rattle.algebra.specs.Algebra.{algebraOf, cellCount};
-ghost use Rattle.algebra.specs.Accepted.{algebraTests};
-ghost use Rattle.congruence.specs.Calls.{pairsTest, elementsTest, equalTest, congruenceTest, mapsTest};
+ghost use Rattle.congruence.specs.Calls.{generateTests, containedTests, separateTests, quotientTests, decomposeTests, certifyTests};
 ghost use Rattle.listing.specs.Listing.{listing};
 use equivalence::Check;
 use equivalence::Refusal;
@@ -30,7 +28,7 @@ fn all_below(s: &[u8], n: usize) -> bool
 
 // Generate's tests.
 pub fn generate_check(n: usize, arities: &[u8], cells: &[u8], pairs: &[u8], room: usize) -> Check
-    ensures { λ r. ⌜ r ≡ lowest (algebraTests (algebraOf n (now (arities .entry)) (now (cells .entry))) ++ (pairsTest n (now (pairs .entry)) ∷ spaceTest n room ∷ [])) ⌝ }
+    ensures { λ r. ⌜ r ≡ lowest (generateTests (algebraOf n (now (arities .entry)) (now (cells .entry))) (now (pairs .entry)) room) ⌝ }
 {
     let check = algebra::check(n, arities, cells);
     if let Check::Failed(reason) = check {
@@ -50,7 +48,7 @@ pub fn generate_check(n: usize, arities: &[u8], cells: &[u8], pairs: &[u8], room
 
 // Contained's tests.
 pub fn contained_check(n: usize, arities: &[u8], cells: &[u8], map: &[u8], room: usize) -> Check
-    ensures { λ r. ⌜ r ≡ lowest (algebraTests (algebraOf n (now (arities .entry)) (now (cells .entry))) ++ (mapTest n (now (map .entry)) ∷ spaceTest n room ∷ [])) ⌝ }
+    ensures { λ r. ⌜ r ≡ lowest (containedTests (algebraOf n (now (arities .entry)) (now (cells .entry))) (now (map .entry)) room) ⌝ }
 {
     let check = algebra::check(n, arities, cells);
     if let Check::Failed(reason) = check {
@@ -74,7 +72,7 @@ pub fn separate_check(
     w: usize,
     room: usize,
 ) -> Check
-    ensures { λ r. ⌜ r ≡ lowest (algebraTests (algebraOf n (now (arities .entry)) (now (cells .entry))) ++ (elementsTest n v w ∷ spaceTest n room ∷ equalTest v w ∷ [])) ⌝ }
+    ensures { λ r. ⌜ r ≡ lowest (separateTests (algebraOf n (now (arities .entry)) (now (cells .entry))) v w room) ⌝ }
 {
     let check = algebra::check(n, arities, cells);
     if let Check::Failed(reason) = check {
@@ -108,7 +106,7 @@ fn quotient_cells(n: usize, arities: &[u8], map: &[u8]) -> usize
 
 // Quotient's tests. Space is measured by the number of blocks of the given map, whether it is a congruence or not.
 pub fn quotient_check(n: usize, arities: &[u8], cells: &[u8], map: &[u8], room: usize) -> Check
-    ensures { λ r. ⌜ r ≡ lowest (algebraTests (algebraOf n (now (arities .entry)) (now (cells .entry))) ++ (mapTest n (now (map .entry)) ∷ spaceTest (cellCount (blocks n (now (map .entry))) (now (arities .entry))) room ∷ congruenceTest (algebraOf n (now (arities .entry)) (now (cells .entry))) (now (map .entry)) ∷ [])) ⌝ }
+    ensures { λ r. ⌜ r ≡ lowest (quotientTests (algebraOf n (now (arities .entry)) (now (cells .entry))) (now (map .entry)) room) ⌝ }
 {
     let check = algebra::check(n, arities, cells);
     if let Check::Failed(reason) = check {
@@ -128,7 +126,7 @@ pub fn quotient_check(n: usize, arities: &[u8], cells: &[u8], map: &[u8], room: 
 
 // Decompose's tests but the last, 11.
 pub fn decompose_check(n: usize, arities: &[u8], cells: &[u8], room: usize) -> Check
-    ensures { λ r. ⌜ r ≡ lowest (algebraTests (algebraOf n (now (arities .entry)) (now (cells .entry))) ++ (spaceTest ((n - 1) * n) room ∷ [])) ⌝ }
+    ensures { λ r. ⌜ r ≡ lowest (decomposeTests (algebraOf n (now (arities .entry)) (now (cells .entry))) room) ⌝ }
 {
     let check = algebra::check(n, arities, cells);
     if let Check::Failed(reason) = check {
@@ -160,7 +158,7 @@ fn all_maps(n: usize, count: usize, maps: &[u8]) -> bool
 
 // Certify's tests.
 pub fn certify_check(n: usize, arities: &[u8], cells: &[u8], maps: &[u8]) -> Check
-    ensures { λ r. ⌜ r ≡ lowest (algebraTests (algebraOf n (now (arities .entry)) (now (cells .entry))) ++ (mapsTest n (now (maps .entry)) ∷ [])) ⌝ }
+    ensures { λ r. ⌜ r ≡ lowest (certifyTests (algebraOf n (now (arities .entry)) (now (cells .entry))) (now (maps .entry))) ⌝ }
 {
     let check = algebra::check(n, arities, cells);
     if let Check::Failed(reason) = check {

@@ -13,6 +13,7 @@ pub mod Meeting
 pub mod Meets
 pub mod Pairs
 pub mod Places
+pub mod Ranks
 pub mod Refusals
 pub mod Stretches
 pub mod Tests

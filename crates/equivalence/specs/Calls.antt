@@ -7,15 +7,19 @@ use lib.ListN.{length}
 use denote.Ref.{RefT, now, ptr}
 use Rattle.equivalence.specs.Equivalence.{Map, meet, join}
 use Rattle.equivalence.specs.Order.{notLater}
-use Rattle.equivalence.specs.Refusal.{lowest, sizeTest, mapTest, spaceTest, answered, lentAfter}
+use Rattle.equivalence.specs.Refusal.{Test, lowest, sizeTest, mapTest, spaceTest, answered, lentAfter}
 use Rattle.equivalence.specs.declared.Check.{Check}
 use Rattle.equivalence.specs.declared.Check.the-variants.{Passed}
 use Rattle.equivalence.specs.declared.Written.{Written}
 use Rattle.equivalence.specs.declared.Written.the-variants.{Done, Refused}
 
--- the tests of a call that is handed two maps and writes one
+-- the tests of a call that is handed two maps and writes one: 1, 8, 9
+abbrev pub twoMapsTests : ℕ → Map → Map → ℕ → List Test
+twoMapsTests n a b room = sizeTest n ∷ mapTest n a ∷ mapTest n b ∷ spaceTest n room ∷ []
+
+-- what they find
 unfoldable pub twoMapsCheck : ℕ → Map → Map → List ℕ → Check
-twoMapsCheck n a b lent = lowest (sizeTest n ∷ mapTest n a ∷ mapTest n b ∷ spaceTest n (length lent) ∷ [])
+twoMapsCheck n a b lent = lowest (twoMapsTests n a b (length lent))
 
 -- a call that is handed two maps and writes a third
 unfoldable pub twoMapsCall : Map → ℕ → Map → Map → List ℕ → Written × List ℕ

@@ -2,4 +2,6 @@ pub mod Lists
 pub mod Equivalence
 pub mod Order
 pub mod Refusal
+pub mod Ranks
+pub mod Outcome
 pub mod Calls

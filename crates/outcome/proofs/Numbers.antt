@@ -3,7 +3,8 @@ use Prim.Native.Nat.{ℕ, _+_, _*_}
 use mathlib.Core.Path.{_≡_, refl}
 use native.Mathlib.Omega.{arith}
 use Rattle.equivalence.specs.Refusal.{numberOf}
-use Rattle.congruence.specs.Outcome.{success, refusal, writtenOutcome, generatedOutcome, dividedOutcome, decomposedOutcome, certifiedOutcome, packed}
+use Rattle.equivalence.specs.Outcome.{success, refusal, writtenOutcome, packed}
+use Rattle.congruence.specs.Outcome.{generatedOutcome, dividedOutcome, decomposedOutcome, certifiedOutcome}
 use Rattle.equivalence.specs.declared.Refusal.{Refusal}
 use Rattle.equivalence.specs.declared.Element.{Element}
 use Rattle.equivalence.specs.declared.Written.the-variants.{Done, Refused as WriteRefused}

@@ -1,6 +1,7 @@
 // The number of each case of an answer: reason + 256 × count + 65,536 × first element + 16,777,216 × second element.
 ghost use mathlib.Core.Path.{_≡_};
-ghost use Rattle.congruence.specs.Outcome.{packed, success, refusal, generatedOutcome, writtenOutcome, dividedOutcome, decomposedOutcome, certifiedOutcome};
+ghost use Rattle.equivalence.specs.Outcome.{packed, success, refusal, writtenOutcome};
+ghost use Rattle.congruence.specs.Outcome.{generatedOutcome, dividedOutcome, decomposedOutcome, certifiedOutcome};
 use congruence::Certified;
 use congruence::Decomposed;
 use congruence::Divided;

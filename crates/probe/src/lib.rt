@@ -3,7 +3,8 @@ ghost use mathlib.Core.Path.{_≡_};
 ghost use Rattle.equivalence.specs.Calls.{meetCall, joinCall};
 ghost use Rattle.algebra.specs.Algebra.{algebraOf};
 ghost use Rattle.congruence.specs.Calls.{quotientCall, certifyCall};
-ghost use Rattle.congruence.specs.Outcome.{packed, writtenOutcome, dividedOutcome, certifiedOutcome};
+ghost use Rattle.equivalence.specs.Outcome.{packed, writtenOutcome};
+ghost use Rattle.congruence.specs.Outcome.{dividedOutcome, certifiedOutcome};
 use equivalence::Place;
 
 mod image;

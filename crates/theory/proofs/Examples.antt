@@ -1,33 +1,17 @@
--- Document 01's examples 1 to 11, computed from the definitions.
-use Prim.Native.Nat.{ℕ}
+-- Document 01's examples as the definitions of this crate give them, computed; `congruence` has all of them as the calls answer.
 use mathlib.Core.Bool.{true, false}
 use mathlib.Core.List.{[], _∷_}
 use mathlib.Core.Path.{_≡_, refl}
 use Rattle.equivalence.specs.Equivalence.{isMap, holds, inside, roots, blocks, blockOf, mapOf, identity, whole, same, isIdentity, meet, meetAll, maps, best}
 use Rattle.equivalence.specs.Lists.{upTo, every, any, keep, first, concat}
 use Rattle.equivalence.specs.Order.{pairs, notLaterOn, notLater, firstHeld}
-use Rattle.algebra.specs.Algebra.{Algebra, algebraOf, cellCount, operationsOf, operations, arguments, place, value}
+use Rattle.algebra.specs.Algebra.{cellCount, operationsOf, operations, arguments, place, value}
 use Rattle.algebra.specs.Congruence.{respects, isCongruence, congruences}
+use Rattle.theory.specs.Samples.{u, c, bare, minimum}
 use Rattle.theory.specs.Certify.{isMaximalFor, certified}
 use Rattle.theory.specs.Decompose.{added, gathered, pruned, listed, reducible, commonPair}
 use Rattle.theory.specs.Extremal.{holdsAll, generated, contained, separated}
 use Rattle.division.specs.Quotient.{quotientTable, quotientCells}
-
--- document 01's U
-abbrev pub u : Algebra
-u = algebraOf 4 (1 ∷ []) (1 ∷ 0 ∷ 3 ∷ 2 ∷ [])
-
--- document 01's C
-abbrev pub c : Algebra
-c = algebraOf 4 (1 ∷ []) (1 ∷ 2 ∷ 3 ∷ 0 ∷ [])
-
--- n elements without operations
-abbrev pub bare : ℕ → Algebra
-bare n = algebraOf n [] []
-
--- binary minimum on 0 1 2
-abbrev pub minimum : Algebra
-minimum = algebraOf 3 (2 ∷ []) (0 ∷ 0 ∷ 0 ∷ 0 ∷ 1 ∷ 1 ∷ 0 ∷ 1 ∷ 2 ∷ [])
 
 pub record Examples : Type 0 where
   pub one : generated u (0 ∷ 2 ∷ []) ≡ 0 ∷ 1 ∷ 0 ∷ 1 ∷ []

@@ -2,3 +2,4 @@ pub mod Extremal
 pub mod Decompose
 pub mod Certify
 pub mod Splitting
+pub mod Samples

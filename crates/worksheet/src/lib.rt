@@ -3,7 +3,8 @@
 ghost use mathlib.Core.Path.{_≡_};
 ghost use Rattle.algebra.specs.Algebra.{algebraOf};
 ghost use Rattle.congruence.specs.Calls.{generateCall, containedCall, separateCall, decomposeCall};
-ghost use Rattle.congruence.specs.Outcome.{packed, generatedOutcome, writtenOutcome, decomposedOutcome};
+ghost use Rattle.equivalence.specs.Outcome.{packed, writtenOutcome};
+ghost use Rattle.congruence.specs.Outcome.{generatedOutcome, decomposedOutcome};
 
 // The least congruence that holds the pairs: 256 × merges, and the map in the first n bytes of out.
 #[no_mangle]

@@ -6,9 +6,8 @@ use borrow.Author.Needs.{needs}
 use Rattle.algebra.proofs.Accepted.{accepted-wellFormed}
 use Rattle.algebra.specs.Algebra.{algebraOf}
 use Rattle.closure.proofs.Collections.{others-total}
-use Rattle.sweep.proofs.Queues.{in-queue-kept}
+use Rattle.sweep.proofs.Queues.{in-queue-kept, grown-first}
 use Rattle.closure.proofs.Starting.{accepted-contexts, others-ready, others-lost, identity-begun, bounded-start, grown-closed}
-use Rattle.sweep.proofs.Queues.{grown-first}
 use Rattle.equivalence.specs.Equivalence.{byte, blocks, identity, join}
 use Rattle.equivalence.specs.Lists.{first}
 use Rattle.closure.proofs.extend_in.Statement.{statement}

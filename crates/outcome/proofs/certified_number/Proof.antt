@@ -1,5 +1,6 @@
 use mathlib.Core.Path.{sym, ap, _∙_}
-use Rattle.congruence.specs.Outcome.{packed, certifiedOutcome}
+use Rattle.equivalence.specs.Outcome.{packed}
+use Rattle.congruence.specs.Outcome.{certifiedOutcome}
 use Rattle.outcome.proofs.Numbers.{yes-outcome, no-outcome, certify-refused}
 use Rattle.congruence.specs.declared.Certified.{Certified}
 use borrow.Author.Needs.{needs}

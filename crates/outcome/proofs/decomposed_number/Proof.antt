@@ -1,5 +1,6 @@
 use mathlib.Core.Path.{sym, ap, _∙_}
-use Rattle.congruence.specs.Outcome.{packed, decomposedOutcome}
+use Rattle.equivalence.specs.Outcome.{packed}
+use Rattle.congruence.specs.Outcome.{decomposedOutcome}
 use Rattle.outcome.proofs.Numbers.{factors-outcome, decompose-refused, packed-irreducible}
 use Rattle.congruence.specs.declared.Decomposed.{Decomposed}
 use borrow.Author.Needs.{needs}

@@ -1,5 +1,6 @@
 use mathlib.Core.Path.{sym, ap, _∙_}
-use Rattle.congruence.specs.Outcome.{packed, dividedOutcome}
+use Rattle.equivalence.specs.Outcome.{packed}
+use Rattle.congruence.specs.Outcome.{dividedOutcome}
 use Rattle.outcome.proofs.Numbers.{blocks-outcome, divide-refused}
 use Rattle.congruence.specs.declared.Divided.{Divided}
 use borrow.Author.Needs.{needs}

@@ -1,5 +1,6 @@
 use mathlib.Core.Path.{sym, ap, _∙_}
-use Rattle.congruence.specs.Outcome.{packed, generatedOutcome}
+use Rattle.equivalence.specs.Outcome.{packed}
+use Rattle.congruence.specs.Outcome.{generatedOutcome}
 use Rattle.outcome.proofs.Numbers.{merges-outcome, generate-refused}
 use Rattle.congruence.specs.declared.Generated.{Generated}
 use borrow.Author.Needs.{needs}

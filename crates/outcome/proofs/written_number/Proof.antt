@@ -1,5 +1,5 @@
 use mathlib.Core.Path.{sym, ap, _∙_}
-use Rattle.congruence.specs.Outcome.{packed, writtenOutcome}
+use Rattle.equivalence.specs.Outcome.{packed, writtenOutcome}
 use Rattle.outcome.proofs.Numbers.{done-outcome, write-refused}
 use Rattle.equivalence.specs.declared.Written.{Written}
 use borrow.Author.Needs.{needs}

@@ -1,6 +1,7 @@
 use mathlib.Core.Path.{ap, _∙_}
 use borrow.Author.Needs.{needs}
-use Rattle.congruence.specs.Outcome.{packed, certifiedOutcome}
+use Rattle.equivalence.specs.Outcome.{packed}
+use Rattle.congruence.specs.Outcome.{certifiedOutcome}
 use Rattle.congruence.specs.declared.Certified.{Certified}
 use Rattle.probe.proofs.probe_certify.Statement.{statement}
 use Rattle.probe.proofs.probe_certify.Tie as tie

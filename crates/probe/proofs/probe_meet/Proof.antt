@@ -1,7 +1,7 @@
 use Prim.Native.Nat.{ℕ}
 use mathlib.Core.List.{List}
 use mathlib.Core.Path.{ap, _∙_}
-use Rattle.congruence.specs.Outcome.{packed, writtenOutcome}
+use Rattle.equivalence.specs.Outcome.{packed, writtenOutcome}
 use Rattle.equivalence.specs.declared.Written.{Written}
 use borrow.Author.Needs.{needs}
 use Rattle.probe.proofs.probe_meet.Statement.{statement}

@@ -1,7 +1,8 @@
 use Prim.Native.Nat.{ℕ}
 use mathlib.Core.List.{List}
 use mathlib.Core.Path.{ap, _∙_}
-use Rattle.congruence.specs.Outcome.{packed, dividedOutcome}
+use Rattle.equivalence.specs.Outcome.{packed}
+use Rattle.congruence.specs.Outcome.{dividedOutcome}
 use Rattle.congruence.specs.declared.Divided.{Divided}
 use borrow.Author.Needs.{needs}
 use Rattle.probe.proofs.probe_quotient.Statement.{statement}

@@ -1,7 +1,8 @@
 use Prim.Native.Nat.{ℕ}
 use mathlib.Core.List.{List}
 use mathlib.Core.Path.{ap, _∙_}
-use Rattle.congruence.specs.Outcome.{packed, decomposedOutcome}
+use Rattle.equivalence.specs.Outcome.{packed}
+use Rattle.congruence.specs.Outcome.{decomposedOutcome}
 use Rattle.congruence.specs.declared.Decomposed.{Decomposed}
 use borrow.Author.Needs.{needs}
 use Rattle.worksheet.proofs.congruence_decompose.Statement.{statement}

@@ -1,7 +1,8 @@
 use Prim.Native.Nat.{ℕ}
 use mathlib.Core.List.{List}
 use mathlib.Core.Path.{ap, _∙_}
-use Rattle.congruence.specs.Outcome.{packed, generatedOutcome}
+use Rattle.equivalence.specs.Outcome.{packed}
+use Rattle.congruence.specs.Outcome.{generatedOutcome}
 use Rattle.congruence.specs.declared.Generated.{Generated}
 use borrow.Author.Needs.{needs}
 use Rattle.worksheet.proofs.congruence_generate.Statement.{statement}

@@ -3,8 +3,7 @@ use Prim.Native.Nat.{_≤_}
 use native.Mathlib.Omega.{arith}
 use borrow.Author.Needs.{needs}
 use borrow.Author.Tests.{lt-ltb, le-ltb}
-use Rattle.equivalence.specs.Refusal.{lowest}
-use Rattle.congruence.specs.Calls.{elementsTest}
+use Rattle.equivalence.specs.Refusal.{lowest, elementsTest}
 use Rattle.bench.specs.Calls.{placeTests, sheetTest}
 use Rattle.bench.proofs.checks.place_check.Statement.{statement}
 use Rattle.bench.proofs.checks.place_check.Tie as tie
