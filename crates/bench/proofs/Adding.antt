@@ -20,7 +20,7 @@ use Rattle.algebra.proofs.Accepted.{accepted-wellFormed}
 use Rattle.algebra.proofs.Congruences.{congruence-is, congruence-of}
 use Rattle.theory.specs.Extremal.{extended}
 use Rattle.extremal.proofs.Bridges.{front-byte}
-use Rattle.theory.proofs.Extension.{LeastAbove, extended-law}
+use Rattle.theory.proofs.Above.{LeastJoining, extended-law}
 use Rattle.bench.specs.Calls.{tallyTest, benched, addTests, clearTests, mapByAdd, lostByAdd, addCall, clearCall}
 use Rattle.bench.specs.Growth.{MapGrown, SheetGrown}
 use Rattle.bench.specs.Promises.{LeastExtension}
@@ -44,7 +44,7 @@ module _ (b : Bench) (a : Algebra) (k x y : ℕ) where
       ]
 
   module _ (p : Addable b a k x y) where
-    above : LeastAbove a (mapOn (a .size) (sheetOf b k)) (x, y) (mapByAdd b a k x y)
+    above : LeastJoining a (mapOn (a .size) (sheetOf b k)) (x, y) (mapByAdd b a k x y)
     unfolding mapByAdd
     above = extended-law a (accepted-wellFormed a (p .accepted)) (mapOn (a .size) (sheetOf b k)) x y (p .placed .first) (p .placed .second)
 

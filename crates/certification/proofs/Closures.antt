@@ -27,7 +27,7 @@ use Rattle.theory.specs.Certify.{isMaximalFor}
 use Rattle.certification.specs.Closures.{Shrunk}
 use Rattle.theory.specs.Extremal.{extended}
 use Rattle.theory.proofs.Certificates.{of-isMaximalFor, any-isMaximalFor, maximalFor-of}
-use Rattle.theory.proofs.Extension.{LeastAbove, extended-law}
+use Rattle.theory.proofs.Above.{LeastJoining, extended-law}
 use Rattle.listing.proofs.Listings.{Begins, begins-is, begins-take, begins-written, begins-canonical}
 use Rattle.theory.proofs.Separation.{MaximalFor}
 
@@ -104,13 +104,13 @@ shrunk-closure {a} {m} x y {met} {larger} {met′} o k e f g w =
 
 module _ {a : Algebra} (w : WellFormed a) {m : Map} (q : IsCongruence a m) {was met : List ℕ} (start : Begins (a .size) was (whole (a .size))) (s : Shrunk a m (λ u v. u < a .size) was met) where
   -- the closure with any pair is that with the first members of its blocks
-  closure-firsts : (u v : ℕ) → u < a .size → v < a .size → byte m u < byte m v → LeastAbove a m (u, v) (extended a m (byte m u) (byte m v))
+  closure-firsts : (u v : ℕ) → u < a .size → v < a .size → byte m u < byte m v → LeastJoining a m (u, v) (extended a m (byte m u) (byte m v))
   closure-firsts u v l k o =
       let x : ℕ = byte m u in
       let y : ℕ = byte m v in
       let i : x < a .size = omega (arith, q .map .low u l) in
       let j : y < a .size = omega (arith, q .map .low v k) in
-      let g : LeastAbove a m (x, y) (extended a m x y) = extended-law a w m x y i j in
+      let g : LeastJoining a m (x, y) (extended a m x y) = extended-law a w m x y i j in
       record {
         cong = g .cong;
         larger = g .larger;
@@ -118,11 +118,11 @@ module _ {a : Algebra} (w : WellFormed a) {m : Map} (q : IsCongruence a m) {was 
         least = λ c r h e. g .least c r h (h x u i l (q .map .named u l) ∙ e ∙ h v y k j (sym (q .map .named v k)));
       }
 
-  swapped : (u v : ℕ) (c : Map) → LeastAbove a m (u, v) c → LeastAbove a m (v, u) c
+  swapped : (u v : ℕ) (c : Map) → LeastJoining a m (u, v) c → LeastJoining a m (v, u) c
   swapped u v c g = record { cong = g .cong; larger = g .larger; new = sym (g .new); least = λ d r h e. g .least d r h (sym e) }
 
   -- what the last meet joins, the closure with any pair joins
-  joined-by : (x y : ℕ) → x < a .size → y < a .size → Holds met x y → (u v : ℕ) → u < a .size → v < a .size → byte m u < byte m v → (c : Map) × LeastAbove a m (u, v) c × Holds c x y
+  joined-by : (x y : ℕ) → x < a .size → y < a .size → Holds met x y → (u v : ℕ) → u < a .size → v < a .size → byte m u < byte m v → (c : Map) × LeastJoining a m (u, v) c × Holds c x y
   joined-by x y l k e u v i j o =
       let low : byte m v < a .size = omega (arith, q .map .low v j) in
       (extended a m (byte m u) (byte m v), closure-firsts u v i j o, s .closures (byte m u) (byte m v) (omega arith) o low (q .map .named u i) (q .map .named v j) x y l k e)
@@ -141,7 +141,7 @@ module _ {a : Algebra} (w : WellFormed a) {m : Map} (q : IsCongruence a m) {was 
       s .common x y l k (start .same x l ∙ whole-holds (a .size) x y l k ∙ sym (start .same y k))
       (λ u v o j apart.
       let i : u < a .size = omega arith in
-      let g : LeastAbove a m (u, v) (extended a m u v) = extended-law a w m u v i j in
+      let g : LeastJoining a m (u, v) (extended a m u v) = extended-law a w m u v i j in
       t .joined (extended a m u v) (g .cong) (g .larger) (λ e. apart (subst (λ (c : Map). Holds c u v) e (g .new))))
 
   -- so there is such a pair just where the last meet is not inside the map

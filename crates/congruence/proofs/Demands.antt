@@ -33,7 +33,7 @@ use Rattle.theory.proofs.CommonPair.{Common, FirstCommon, commonPair-law, commo
 use Rattle.theory.proofs.Factors.{listed-law, two-at-least, unsplit}
 use Rattle.congruence.proofs.Decomposing.{decomposed-yes, irreducible-of, of-irreducible, quotient-irreducible}
 use Rattle.theory.proofs.GreatestCongruence.{contained-law}
-use Rattle.theory.proofs.LeastCongruence.{Below, generated-law}
+use Rattle.theory.proofs.Above.{Below, generated-law}
 use Rattle.theory.proofs.Quotients.{onBlocks, operations-quotient, block-value}
 use Rattle.theory.proofs.Separation.{MaximalFor, separated-earliest, separated-law}
 

@@ -10,13 +10,13 @@ use Rattle.algebra.specs.Algebra.{cellCount, operationsOf, operations, argument
 use Rattle.algebra.specs.Congruence.{respects, isCongruence, congruences}
 use Rattle.division.specs.Quotient.{quotientTable, quotientCells}
 use Rattle.theory.specs.Decompose.{added, gathered, pruned, listed, reducible, commonPair}
-use Rattle.theory.specs.Extremal.{holdsAll, generated, contained, separated}
+use Rattle.theory.specs.Extremal.{holdsAll, above, generated, contained, separated}
 use Rattle.congruence.specs.Calls.{congruenceTest, generateCall, containedCall, separateCall, quotientCall, decomposed, factorBytes, decomposeCall}
 use Rattle.congruence.specs.Examples.{Examples, SmallInputs}
 use Rattle.congruence.specs.Outcome.{generatedOutcome, dividedOutcome, decomposedOutcome}
 
 pub examples : Examples
-unfolding upTo every any first holds concat mapOf keep maps roots blocks best meetAll inside same isIdentity isMap notLater notLaterOn pairs identity whole meet firstHeld isCongruence operations operationsOf cellCount arguments place value respects congruences holdsAll generated contained separated added gathered pruned listed commonPair reducible decomposed factorBytes generateCall containedCall separateCall decomposeCall serve lowest algebraTests sizeTest pairsTest elementsTest mapTest spaceTest equalTest answered lentAfter written success writtenOutcome generatedOutcome decomposedOutcome
+unfolding upTo every any first holds concat mapOf keep maps roots blocks best meetAll inside same isIdentity isMap notLater notLaterOn pairs identity whole meet firstHeld isCongruence operations operationsOf cellCount arguments place value respects congruences holdsAll above generated contained separated added gathered pruned listed commonPair reducible decomposed factorBytes generateCall containedCall separateCall decomposeCall serve lowest algebraTests sizeTest pairsTest elementsTest mapTest spaceTest equalTest answered lentAfter written success writtenOutcome generatedOutcome decomposedOutcome
 examples =
     record {
       one = refl;
@@ -33,7 +33,7 @@ examples =
     }
 
 pub small-inputs : SmallInputs
-unfolding upTo every any first holds concat mapOf keep maps roots blocks best meetAll inside same isIdentity isMap notLater notLaterOn pairs identity whole meet firstHeld isCongruence operations operationsOf cellCount arguments place value respects congruences holdsAll generated separated added gathered pruned listed commonPair reducible decomposed factorBytes generateCall containedCall separateCall quotientCall decomposeCall serve lowest algebraTests sizeTest pairsTest elementsTest mapTest congruenceTest spaceTest equalTest answered lentAfter written refusal numberOf writtenOutcome generatedOutcome dividedOutcome decomposedOutcome
+unfolding upTo every any first holds concat mapOf keep maps roots blocks best meetAll inside same isIdentity isMap notLater notLaterOn pairs identity whole meet firstHeld isCongruence operations operationsOf cellCount arguments place value respects congruences holdsAll above generated separated added gathered pruned listed commonPair reducible decomposed factorBytes generateCall containedCall separateCall quotientCall decomposeCall serve lowest algebraTests sizeTest pairsTest elementsTest mapTest congruenceTest spaceTest equalTest answered lentAfter written refusal numberOf writtenOutcome generatedOutcome dividedOutcome decomposedOutcome
 small-inputs =
     record {
       size = refl;

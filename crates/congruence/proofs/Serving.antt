@@ -23,7 +23,7 @@ use Rattle.algebra.proofs.Accepted.{every-at, accepted-wellFormed}
 use Rattle.congruence.specs.Calls.{congruenceTest, mapsIn, mapsTest, generateTests, containedTests, separateTests, quotientSpace, quotientTests, factorSpace, decomposeTests, certifyTests, certifyCall}
 use Rattle.theory.specs.Certify.{certified}
 use Rattle.listing.specs.Listing.{listing, MapsListed}
-use Rattle.theory.proofs.LeastCongruence.{Below}
+use Rattle.theory.proofs.Above.{Below}
 use Rattle.listing.proofs.ListTests.{of-every-listing}
 use Rattle.equivalence.specs.declared.Refusal.{Refusal}
 use Rattle.equivalence.specs.declared.Refusal.the-variants.{Range, NotMap, Space, Equal, NotCongruence}

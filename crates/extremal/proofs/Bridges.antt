@@ -25,9 +25,9 @@ use Rattle.algebra.proofs.Accepted.{WellFormed}
 use Rattle.algebra.proofs.Congruences.{IsCongruence}
 use Rattle.translation.proofs.Translations.{congruence-compatible, compatible-congruence}
 use Rattle.theory.specs.Extremal.{holdsAll, generated, extended, contained, separated}
-use Rattle.theory.proofs.Extension.{extended-is}
+use Rattle.theory.proofs.Above.{extended-is}
 use Rattle.theory.proofs.GreatestCongruence.{contained-is}
-use Rattle.theory.proofs.LeastCongruence.{Below, generated-is}
+use Rattle.theory.proofs.Above.{Below, generated-is}
 use Rattle.theory.proofs.Separation.{separated-is, lex-asym}
 use Rattle.closure.specs.Starts.{JoinsPairs, Extends}
 use Rattle.separation.specs.Search.{Before, Earliest}

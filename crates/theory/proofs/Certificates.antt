@@ -22,7 +22,7 @@ use Rattle.algebra.proofs.Accepted.{WellFormed}
 use Rattle.algebra.proofs.Congruences.{IsCongruence, congruence-is, congruence-of, member-congruences, of-congruences}
 use Rattle.theory.specs.Certify.{isMaximalFor, certified}
 use Rattle.theory.specs.Decompose.{listed}
-use Rattle.theory.proofs.Extension.{LeastAbove}
+use Rattle.theory.proofs.Above.{LeastJoining}
 use Rattle.theory.proofs.Factors.{listed-law, two-at-least}
 use Rattle.theory.proofs.Separation.{MaximalFor}
 
@@ -70,7 +70,7 @@ module _ (a : Algebra) (m : Map) where
 
   -- the strictly larger congruences need not be gone through: those that one more pair generates are enough
   pub maximalFor-of : IsCongruence a m → (x y : ℕ) → ¬ Holds m x y
-      → ((u v : ℕ) → u < v → v < a .size → ¬ Holds m u v → (s : Map) × LeastAbove a m (u, v) s × Holds s x y) → x < a .size → y < a .size → MaximalFor a m x y
+      → ((u v : ℕ) → u < v → v < a .size → ¬ Holds m u v → (s : Map) × LeastJoining a m (u, v) s × Holds s x y) → x < a .size → y < a .size → MaximalFor a m x y
   maximalFor-of q x y n f l k =
       record {
         cong = q;

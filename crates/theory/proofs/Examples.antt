@@ -10,7 +10,7 @@ use Rattle.algebra.specs.Congruence.{respects, isCongruence, congruences}
 use Rattle.theory.specs.Samples.{u, c, bare, minimum}
 use Rattle.theory.specs.Certify.{isMaximalFor, certified}
 use Rattle.theory.specs.Decompose.{added, gathered, pruned, listed, reducible, commonPair}
-use Rattle.theory.specs.Extremal.{holdsAll, generated, contained, separated}
+use Rattle.theory.specs.Extremal.{holdsAll, above, generated, contained, separated}
 use Rattle.division.specs.Quotient.{quotientTable, quotientCells}
 
 pub record Examples : Type 0 where
@@ -38,7 +38,7 @@ pub record Examples : Type 0 where
   pub divided : quotientCells u (0 ∷ 1 ∷ 0 ∷ 1 ∷ []) ≡ 1 ∷ 0 ∷ []
 
 pub examples : Examples
-unfolding upTo every any first holds concat mapOf keep maps roots blocks blockOf best meetAll inside same isIdentity isMap notLater notLaterOn pairs identity whole meet firstHeld isCongruence operations operationsOf cellCount arguments place value respects quotientCells quotientTable congruences holdsAll generated contained separated added gathered pruned listed commonPair reducible certified isMaximalFor
+unfolding upTo every any first holds concat mapOf keep maps roots blocks blockOf best meetAll inside same isIdentity isMap notLater notLaterOn pairs identity whole meet firstHeld isCongruence operations operationsOf cellCount arguments place value respects quotientCells quotientTable congruences holdsAll above generated contained separated added gathered pruned listed commonPair reducible certified isMaximalFor
 examples =
     record {
       one = refl;

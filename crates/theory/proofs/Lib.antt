@@ -1,6 +1,5 @@
-pub mod LeastCongruence
 pub mod GreatestCongruence
-pub mod Extension
+pub mod Above
 pub mod Separation
 pub mod Factors
 pub mod CommonPair
