@@ -1,6 +1,6 @@
 -- What the calls of the claim may rely on and answer, one by one; the loop over the factors (`Calling`); and the claim, that every last call answers 11.
 use Prim.Native.Nat.{ℕ, zero, suc, _+_, _-_, _*_, _≤_, _<_}
-use mathlib.Core.List.{List, [], _∷_, _++_}
+use mathlib.Core.List.{List, []}
 use mathlib.Core.Logic.{_⊎_, inl, inr}
 use mathlib.Core.Path.{_≡_, refl, sym, ap, subst, _∙_}
 use native.Mathlib.Nat.{suc-mul, mul-le-mul-right}
@@ -9,16 +9,16 @@ use native.Mathlib.Omega.{arith}
 use lib.ListN.{length, getD, take, drop}
 use Rattle.equivalence.specs.Equivalence.{Map, blocks}
 use Rattle.equivalence.specs.Lists.{concat, stretch}
-use Rattle.equivalence.specs.Refusal.{Test, lowest, mapTest, spaceTest, written}
+use Rattle.equivalence.specs.Refusal.{lowest, written}
 use Rattle.equivalence.proofs.BlockNumbers.{blocks-le}
 use Rattle.equivalence.proofs.Refusals.{serve-passed, serve-failed}
 use Rattle.equivalence.proofs.Tests.{T?, pick-no}
 use Rattle.equivalence.proofs.Writing.{written-length}
-use Rattle.algebra.specs.Accepted.{algebraTests, Accepted}
+use Rattle.algebra.specs.Accepted.{Accepted}
 use Rattle.algebra.specs.Algebra.{Algebra, algebraOf, cellCount}
 use Rattle.algebra.proofs.Accepted.{WellFormed, accepted-wellFormed}
-use Rattle.congruence.specs.Calls.{congruenceTest, quotientCall, decomposed, factorBytes, decomposeCall}
-use Rattle.theory.specs.Decompose.{listed, reducible}
+use Rattle.congruence.specs.Calls.{quotientSpace, quotientTests, quotientCall, decomposed, factorBytes, decomposeTests, decomposeCall}
+use Rattle.theory.specs.Decompose.{listed, factorSpace, reducible}
 use Rattle.congruence.specs.Demands.{QuotientDraws11, FactorCalls}
 use Rattle.congruence.proofs.Calls.{factor-calls}
 use Rattle.congruence.proofs.Demands.{listed-right}
@@ -71,25 +71,21 @@ eleven-one d x y e = rw e
 -- ---- Quotient
 
 module _ (a : Algebra) (m : Map) (tables : List ℕ) where
-  quotientTests : List Test
-  quotientTests = algebraTests a ++ (mapTest (a .size) m ∷ spaceTest (cellCount (blocks (a .size) m) (a .arities)) (length tables) ∷ congruenceTest a m ∷ [])
-
-  quotient-passed : lowest quotientTests ≡ Passed → quotientCall a m tables ≡ (Blocks (blocks (a .size) m), written (quotientCells a m) tables)
-  unfolding quotientCall quotientTests
+  quotient-passed : lowest (quotientTests a m (length tables)) ≡ Passed → quotientCall a m tables ≡ (Blocks (blocks (a .size) m), written (quotientCells a m) tables)
+  unfolding quotientCall
   quotient-passed e = serve-passed DivideRefused _ (Blocks (blocks (a .size) m)) (quotientCells a m) tables e
 
-  quotient-failed : (r : Refusal) → lowest quotientTests ≡ Failed r → quotientCall a m tables ≡ (DivideRefused r, tables)
-  unfolding quotientCall quotientTests
+  quotient-failed : (r : Refusal) → lowest (quotientTests a m (length tables)) ≡ Failed r → quotientCall a m tables ≡ (DivideRefused r, tables)
+  unfolding quotientCall
   quotient-failed r e = serve-failed DivideRefused _ (Blocks (blocks (a .size) m)) (quotientCells a m) tables r e
 
-  of-tests : lowest quotientTests ≡ Passed → WellFormed a × (cellCount (blocks (a .size) m) (a .arities) ≤ length tables)
-  unfolding quotientTests
+  of-tests : lowest (quotientTests a m (length tables)) ≡ Passed → WellFormed a × (quotientSpace a m ≤ length tables)
   of-tests e = let t = of-quotientTests a (length tables) m (sym e) in (accepted-wellFormed a (t .0), t .2)
 
   -- the lent tables keep their length
   pub quotient-length : length (quotientCall a m tables .1) ≡ length tables
   quotient-length =
-      elim (passes (lowest quotientTests)) [
+      elim (passes (lowest (quotientTests a m (length tables)))) [
         | inl e ↦ rw (quotient-passed e) (written-length (quotientCells a m) tables (omega (arith, of-tests e .1, quotientCells-length a m)))
         | inr e ↦ rw (quotient-failed (e .0) (e .1))
       ]
@@ -100,7 +96,7 @@ module _ (a : Algebra) (m : Map) (tables : List ℕ) where
   quotient-given {d} {after} {b} g h =
       let long : length after ≡ length tables = ap (λ (c : Divided × List ℕ). length (c .1)) g ∙ quotient-length in
       let answer : quotientCall a m tables .0 ≡ Blocks b = sym (ap (λ (c : Divided × List ℕ). c .0) g) ∙ h in
-      elim (passes (lowest quotientTests)) [
+      elim (passes (lowest (quotientTests a m (length tables)))) [
         | inl e ↦
             let t = of-tests e in
             let same : blocks (a .size) m ≡ b = same-blocks (blocks (a .size) m) b (sym (ap (λ (c : Divided × List ℕ). c .0) (quotient-passed e)) ∙ answer) in
@@ -112,26 +108,22 @@ module _ (a : Algebra) (m : Map) (tables : List ℕ) where
 -- ---- Decompose
 
 module _ (a : Algebra) (lent : List ℕ) where
-  decomposeTests : List Test
-  decomposeTests = algebraTests a ++ (spaceTest ((a .size - 1) * a .size) (length lent) ∷ [])
-
-  decompose-passed : lowest decomposeTests ≡ Passed → decomposeCall a lent ≡ (decomposed a, written (factorBytes a) lent)
-  unfolding decomposeCall decomposeTests
+  decompose-passed : lowest (decomposeTests a (length lent)) ≡ Passed → decomposeCall a lent ≡ (decomposed a, written (factorBytes a) lent)
+  unfolding decomposeCall
   decompose-passed e = serve-passed DecomposeRefused _ (decomposed a) (factorBytes a) lent e
 
-  decompose-failed : (r : Refusal) → lowest decomposeTests ≡ Failed r → decomposeCall a lent ≡ (DecomposeRefused r, lent)
-  unfolding decomposeCall decomposeTests
+  decompose-failed : (r : Refusal) → lowest (decomposeTests a (length lent)) ≡ Failed r → decomposeCall a lent ≡ (DecomposeRefused r, lent)
+  unfolding decomposeCall
   decompose-failed r e = serve-failed DecomposeRefused _ (decomposed a) (factorBytes a) lent r e
 
-  of-tests′ : lowest decomposeTests ≡ Passed → Accepted a × ((a .size - 1) * a .size ≤ length lent)
-  unfolding decomposeTests
+  of-tests′ : lowest (decomposeTests a (length lent)) ≡ Passed → Accepted a × (factorSpace (a .size) ≤ length lent)
   of-tests′ e = of-decomposeTests a (length lent) (sym e)
 
   -- the factors that are counted stand in the lent list
   factors-fit : factorCount (decomposeCall a lent .0) * a .size ≤ length lent
   unfolding factorCount
   factors-fit =
-      elim (passes (lowest decomposeTests)) [
+      elim (passes (lowest (decomposeTests a (length lent)))) [
         | inl e ↦
             let t = of-tests′ e in
             let w = accepted-wellFormed a (t .0) in
@@ -147,7 +139,7 @@ module _ (a : Algebra) (lent : List ℕ) where
   eleven-keeps : (x y : Element) → decomposeCall a lent .0 ≡ Irreducible x y → decomposeCall a lent .1 ≡ lent
   unfolding factorBytes written
   eleven-keeps x y g =
-      elim (passes (lowest decomposeTests)) [
+      elim (passes (lowest (decomposeTests a (length lent)))) [
         | inl e ↦
             let w = accepted-wellFormed a (of-tests′ e .0) in
             let p = decompose-passed e in
@@ -173,7 +165,7 @@ module _ (a : Algebra) (m : Map) (lent : List ℕ × List ℕ) where
   calls-declined e f = rw (← e, f)
 
   -- Quotient is given and draws 11: the last answer is 11, the tables keep their length, and nothing else changes
-  factor-drawn : QuotientDraws11 a m → cellCount (blocks (a .size) m) (a .arities) ≤ length (lent .0) → (blocks (a .size) m - 1) * blocks (a .size) m ≤ length (lent .1)
+  factor-drawn : QuotientDraws11 a m → quotientSpace a m ≤ length (lent .0) → factorSpace (blocks (a .size) m) ≤ length (lent .1)
       → ((x : Element) × (y : Element) × (factorCalls a m lent .0 ≡ Irreducible x y)) × (length (factorCalls a m lent .1 .0) ≡ length (lent .0)) × (factorCalls a m lent .1 .1 ≡ lent .1)
   factor-drawn q room wide =
       let b : ℕ = blocks (a .size) m in

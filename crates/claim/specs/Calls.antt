@@ -1,6 +1,6 @@
 -- Demand 3 is a claim over calls together: Decompose; for every factor, Quotient of the same algebra by the factor's map as listed; and Decompose on
 -- the tables and b that this Quotient gave, with the arities as before. Here stand these calls, one after the other, and the claim.
-use Prim.Native.Nat.{ℕ, zero, suc, _+_, _-_, _*_, _≤_, _<_}
+use Prim.Native.Nat.{ℕ, zero, suc, _+_, _≤_, _<_}
 use mathlib.Core.Path.{_≡_}
 use mathlib.Core.List.{List}
 use lib.ListN.{length, take}
@@ -8,7 +8,8 @@ use Rattle.equivalence.specs.Equivalence.{Map, blocks}
 use Rattle.equivalence.specs.Lists.{stretch}
 use Rattle.equivalence.specs.declared.Element.{Element}
 use Rattle.algebra.specs.Algebra.{Algebra, algebraOf, cellCount}
-use Rattle.congruence.specs.Calls.{decomposed, decomposeCall, quotientCall}
+use Rattle.theory.specs.Decompose.{factorSpace}
+use Rattle.congruence.specs.Calls.{decomposed, decomposeCall, quotientSpace, quotientCall}
 use Rattle.congruence.specs.declared.Divided.{Divided}
 use Rattle.congruence.specs.declared.Divided.the-variants.{Blocks, Refused as DivideRefused}
 use Rattle.congruence.specs.declared.Decomposed.{Decomposed}
@@ -60,10 +61,10 @@ pub record CallsMade (a : Algebra) (list : List ℕ) (lent : List ℕ × List �
 
 -- each call is lent at least the space that its service wants
 pub record LentEnough (a : Algebra) (list : List ℕ) (lent : List ℕ × List ℕ) : Type 0 where
-  pub listing : (a .size - 1) * a .size ≤ length list
-  pub tables : (i : ℕ) → i < factorCount (decomposed a) → cellCount (blocks (a .size) (stretch (a .size) (decomposeCall a list .1) i)) (a .arities) ≤ length (lent .0)
+  pub listing : factorSpace (a .size) ≤ length list
+  pub tables : (i : ℕ) → i < factorCount (decomposed a) → quotientSpace a (stretch (a .size) (decomposeCall a list .1) i) ≤ length (lent .0)
   pub again : (i : ℕ) → i < factorCount (decomposed a)
-      → (blocks (a .size) (stretch (a .size) (decomposeCall a list .1) i) - 1) * blocks (a .size) (stretch (a .size) (decomposeCall a list .1) i) ≤ length (lent .1)
+      → factorSpace (blocks (a .size) (stretch (a .size) (decomposeCall a list .1) i)) ≤ length (lent .1)
 
 -- the claim, of an accepted algebra: Decompose finds the factors or 11, and every factor's last call answers 11
 pub record EveryLastCall11 (a : Algebra) (list : List ℕ) (lent : List ℕ × List ℕ) (r : Drawn) : Type 0 where

@@ -17,8 +17,8 @@ use Rattle.algebra.specs.Algebra.{Algebra, algebraOf, cellCount}
 use Rattle.algebra.specs.Congruence.{isCongruence, Congruence}
 use Rattle.algebra.proofs.Accepted.{WellFormed, accepted-wellFormed, not-yes, wellFormed-accepted}
 use Rattle.algebra.proofs.Congruences.{congruence-is}
-use Rattle.congruence.specs.Calls.{element, congruenceTest, quotientSpace, quotientTests, quotientCall, decomposed, factorBytes, factorSpace, decomposeTests, decomposeCall}
-use Rattle.theory.specs.Decompose.{listed, reducible, commonPair}
+use Rattle.congruence.specs.Calls.{element, congruenceTest, quotientSpace, quotientTests, quotientCall, decomposed, factorBytes, decomposeTests, decomposeCall}
+use Rattle.theory.specs.Decompose.{listed, factorSpace, reducible, commonPair}
 use Rattle.congruence.specs.Demands.{Answers11, QuotientDraws11, FactorCalls}
 use Rattle.congruence.proofs.Demands.{listed-right}
 use Rattle.theory.proofs.Factors.{listed-long}
@@ -95,7 +95,7 @@ module _ (a : Algebra) (accepted : Accepted a) (m : Map) (p : Congruence a m) (t
 pub blocks-injective : (b c : ℕ) → Blocks b ≡ Blocks c → b ≡ c
 blocks-injective b c e = cc
 
-size-quotient : (a : Algebra) (m : Map) (again : List ℕ) → (blocks (a .size) m - 1) * blocks (a .size) m ≤ length again → (quotient a m .size - 1) * quotient a m .size ≤ length again
+size-quotient : (a : Algebra) (m : Map) (again : List ℕ) → factorSpace (blocks (a .size) m) ≤ length again → factorSpace (quotient a m .size) ≤ length again
 unfolding quotient
 size-quotient a m again g = g
 
@@ -109,11 +109,11 @@ module _ (a : Algebra) (accepted : Accepted a) where
             let b-is : blocks (a .size) m ≡ b = blocks-injective (blocks (a .size) m) b (sym (quotient-answer a accepted m p tables h) ∙ f) in
             let n = blocks (a .size) m in
             let q : Accepted (quotient a m) = wellFormed-accepted (quotient a m) (quotient-wellFormed a (accepted-wellFormed a accepted) m (congruence-is a m p)) in
-            let d : (again : List ℕ) → (n - 1) * n ≤ length again → decomposeCall (quotient a m) again .0 ≡ Irreducible (element (commonPair (quotient a m) .0)) (element (commonPair (quotient a m) .1)) =
+            let d : (again : List ℕ) → factorSpace n ≤ length again → decomposeCall (quotient a m) again .0 ≡ Irreducible (element (commonPair (quotient a m) .0)) (element (commonPair (quotient a m) .1)) =
             λ again g. decompose-answer (quotient a m) q again (size-quotient a m again g) ∙ e in (
               element (commonPair (quotient a m) .0),
               element (commonPair (quotient a m) .1),
-              subst (λ (c : ℕ). (c - 1) * c ≤ length again → decomposeCall (algebraOf c (a .arities) (take (cellCount c (a .arities)) (quotientCall a m tables .1))) again .0
+              subst (λ (c : ℕ). factorSpace c ≤ length again → decomposeCall (algebraOf c (a .arities) (take (cellCount c (a .arities)) (quotientCall a m tables .1))) again .0
                   ≡ Irreducible (element (commonPair (quotient a m) .0)) (element (commonPair (quotient a m) .1))) b-is
                   (λ g. rw (quotient-algebra a accepted m p tables h) (d again g)) g,
             );

@@ -20,8 +20,9 @@ use Rattle.algebra.specs.Accepted.{algebraTests, Accepted}
 use Rattle.algebra.specs.Algebra.{Algebra, cellCount}
 use Rattle.algebra.specs.Congruence.{isCongruence}
 use Rattle.algebra.proofs.Accepted.{every-at, accepted-wellFormed}
-use Rattle.congruence.specs.Calls.{congruenceTest, mapsIn, mapsTest, generateTests, containedTests, separateTests, quotientSpace, quotientTests, factorSpace, decomposeTests, certifyTests, certifyCall}
+use Rattle.congruence.specs.Calls.{congruenceTest, mapsIn, mapsTest, generateTests, containedTests, separateTests, quotientSpace, quotientTests, decomposeTests, certifyTests, certifyCall}
 use Rattle.theory.specs.Certify.{certified}
+use Rattle.theory.specs.Decompose.{factorSpace}
 use Rattle.listing.specs.Listing.{listing, MapsListed}
 use Rattle.theory.proofs.Above.{Below}
 use Rattle.listing.proofs.ListTests.{of-every-listing}

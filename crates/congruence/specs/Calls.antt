@@ -1,5 +1,5 @@
 -- What each service answers, and every lent byte after its call.
-use Prim.Native.Nat.{ℕ, _-_, _*_, _/_, _%_}
+use Prim.Native.Nat.{ℕ, _-_, _/_, _%_}
 use mathlib.Core.Bool.{true, false, not, _||_}
 use mathlib.Core.List.{List, [], _∷_, _++_, map}
 use lib.Dec.{eqb, ltb}
@@ -16,7 +16,7 @@ use Rattle.algebra.specs.Accepted.{algebraTests}
 use Rattle.algebra.specs.Congruence.{isCongruence}
 use Rattle.theory.specs.Extremal.{generated, contained, separated}
 use Rattle.division.specs.Quotient.{quotientCells}
-use Rattle.theory.specs.Decompose.{listed, reducible, commonPair}
+use Rattle.theory.specs.Decompose.{listed, factorSpace, reducible, commonPair}
 use Rattle.theory.specs.Certify.{certified}
 use Rattle.congruence.specs.declared.Generated.{Generated}
 use Rattle.congruence.specs.declared.Generated.the-variants.{Merges, Refused as GenerateRefused}
@@ -89,10 +89,6 @@ decomposed a =
 -- what Decompose writes: factor i from byte i × n; for 11 nothing
 unfoldable pub factorBytes : Algebra → List ℕ
 factorBytes a = elim (reducible a) [ true ↦ concat (listed a) | false ↦ [] ]
-
--- what Decompose wants of space over n elements: n - 1 maps
-abbrev pub factorSpace : ℕ → ℕ
-factorSpace n = (n - 1) * n
 
 -- Decompose's tests: 1 to 6, 9; 11 comes after these
 abbrev pub decomposeTests : Algebra → ℕ → List Test

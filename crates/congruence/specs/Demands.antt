@@ -14,9 +14,9 @@ use Rattle.algebra.specs.Algebra.{Algebra, algebraOf, Operation, operations, ar
 use Rattle.algebra.specs.Congruence.{Congruence}
 use Rattle.theory.specs.Extremal.{holdsAll}
 use Rattle.division.specs.Quotient.{quotient}
-use Rattle.theory.specs.Decompose.{listed, commonPair}
+use Rattle.theory.specs.Decompose.{listed, factorSpace, commonPair}
 use Rattle.theory.specs.Splitting.{Unsplit}
-use Rattle.congruence.specs.Calls.{element, quotientSpace, quotientCall, decomposed, factorSpace, decomposeCall}
+use Rattle.congruence.specs.Calls.{element, quotientSpace, quotientCall, decomposed, decomposeCall}
 use Rattle.congruence.specs.declared.Decomposed.the-variants.{Factors, Irreducible}
 use Rattle.congruence.specs.declared.Divided.the-variants.{Blocks}
 

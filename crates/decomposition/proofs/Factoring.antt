@@ -15,7 +15,7 @@ use Rattle.equivalence.proofs.Maps.{IsMap, isMap-of, whole-map}
 use Rattle.equivalence.proofs.Writing.{written-length}
 use Rattle.algebra.specs.Algebra.{Algebra}
 use Rattle.algebra.proofs.Accepted.{WellFormed}
-use Rattle.theory.specs.Decompose.{gathered, pruned, listed, reducible}
+use Rattle.theory.specs.Decompose.{gathered, pruned, listed, factorSpace, reducible}
 use Rattle.listing.specs.Listing.{listing, MapsListed}
 use Rattle.theory.proofs.CommonPair.{commonPair-one}
 use Rattle.theory.proofs.Factors.{Gathered, gathered-law, listed-law, split}
@@ -43,7 +43,7 @@ module _ {a : Algebra} (c : WellFormed a) where
 
   -- what was gathered, as a list of maps in a slice
   module _ {k : ℕ} {bytes : List ℕ} (lent : List ℕ) (number : k ≡ length (gathered (a .size) a (whole (a .size)))) (laid : bytes ≡ written (concat (gathered (a .size) a (whole (a .size)))) lent)
-      (room : (a .size - 1) * a .size ≤ length lent) where
+      (room : factorSpace (a .size) ≤ length lent) where
     pub listing-all : listing (a .size) k bytes ≡ gathered (a .size) a (whole (a .size))
     unfolding written all
     listing-all = rw (number, laid) (listing-concat (a .size) all (drop (length (concat all)) lent) (λ i l. all-map i l .long))

@@ -1,12 +1,13 @@
 // Decompose's first loop: congruences that meet in the identity, one after the other in working storage.
 ghost use mathlib.Core.Path.{_≡_};
 ghost use mathlib.Core.Bool.{false};
-ghost use Prim.Native.Nat.{_-_, _*_, _≤_};
+ghost use Prim.Native.Nat.{_≤_};
 ghost use lib.ListN.{length};
 ghost use Rattle.equivalence.specs.Equivalence.{byte, isIdentity};
 ghost use Rattle.kernel.specs.Kernel.{Canonical};
 ghost use Rattle.algebra.specs.Algebra.{algebraOf};
 ghost use Rattle.algebra.specs.Accepted.{Accepted};
+ghost use Rattle.theory.specs.Decompose.{factorSpace};
 ghost use Rattle.equivalence.specs.Order.{firstHeld};
 ghost use Rattle.decomposition.specs.Gathering.{Step, pairFound, GatheredRight};
 use equivalence::Element;
@@ -58,7 +59,7 @@ pub fn gather(n: usize, arities: &[u8], cells: &[u8], met: &mut [u8], maps: &mut
     requires { ⌜ Accepted (algebraOf n (now arities) (now cells)) ⌝ }
     requires { ⌜ 2 ≤ n ⌝ }
     requires { ⌜ n ≤ length (now met) ⌝ }
-    requires { ⌜ (n - 1) * n ≤ length (now maps) ⌝ }
+    requires { ⌜ factorSpace n ≤ length (now maps) ⌝ }
     ensures { λ r. ⌜ GatheredRight (algebraOf n (now (arities .entry)) (now (cells .entry))) r (now (maps .entry)) (now (maps .exit)) ⌝ }
 {
     whole_into(met, n);

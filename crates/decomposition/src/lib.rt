@@ -1,10 +1,11 @@
 // Decompose of an accepted algebra: congruences are gathered, and those not needed are dropped. Working storage: 63 maps, the meets of 64
 // suffixes, and one meet.
 ghost use mathlib.Core.Path.{_≡_};
-ghost use Prim.Native.Nat.{_-_, _*_, _≤_};
+ghost use Prim.Native.Nat.{_≤_};
 ghost use lib.ListN.{length};
 ghost use Rattle.algebra.specs.Algebra.{algebraOf};
 ghost use Rattle.algebra.specs.Accepted.{Accepted};
+ghost use Rattle.theory.specs.Decompose.{factorSpace};
 ghost use Rattle.decomposition.specs.Factored.{Factored};
 use crate::gather::Collected;
 use crate::gather::gather;
@@ -35,7 +36,7 @@ fn factors_in(
     requires { ⌜ length (now maps) ≡ 4032 ⌝ }
     requires { ⌜ length (now suffixes) ≡ 4096 ⌝ }
     requires { ⌜ length (now met) ≡ 64 ⌝ }
-    requires { ⌜ (n - 1) * n ≤ length (now out) ⌝ }
+    requires { ⌜ factorSpace n ≤ length (now out) ⌝ }
     ensures { λ r. ⌜ Factored (algebraOf n (now (arities .entry)) (now (cells .entry))) r (now (out .entry)) (now (out .exit)) ⌝ }
 {
     let found = gather(n, arities, cells, met, maps);
@@ -60,7 +61,7 @@ fn factors_on(
 ) -> Found
     requires { ⌜ Accepted (algebraOf n (now arities) (now cells)) ⌝ }
     requires { ⌜ 2 ≤ n ⌝ }
-    requires { ⌜ (n - 1) * n ≤ length (now out) ⌝ }
+    requires { ⌜ factorSpace n ≤ length (now out) ⌝ }
     ensures { λ r. ⌜ Factored (algebraOf n (now (arities .entry)) (now (cells .entry))) r (now (out .entry)) (now (out .exit)) ⌝ }
 {
     factors_in(n, arities, cells, maps, suffixes, met, out)
@@ -70,7 +71,7 @@ fn factors_on(
 // 0 and 0 for n = 1, and nothing is written.
 pub fn factors(n: usize, arities: &[u8], cells: &[u8], out: &mut [u8]) -> Found
     requires { ⌜ Accepted (algebraOf n (now arities) (now cells)) ⌝ }
-    requires { ⌜ (n - 1) * n ≤ length (now out) ⌝ }
+    requires { ⌜ factorSpace n ≤ length (now out) ⌝ }
     ensures { λ r. ⌜ Factored (algebraOf n (now (arities .entry)) (now (cells .entry))) r (now (out .entry)) (now (out .exit)) ⌝ }
 {
     if n < 2 {

@@ -1,5 +1,5 @@
 -- Decompose, by document 01's steps.
-use Prim.Native.Nat.{ℕ, zero, suc}
+use Prim.Native.Nat.{ℕ, zero, suc, _-_, _*_}
 use mathlib.Core.Bool.{Bool, true, false, not}
 use mathlib.Core.List.{List, [], _∷_, _++_}
 use Rattle.equivalence.specs.Lists.{every, keep}
@@ -28,6 +28,10 @@ pruned n kept (m ∷ rest) =
 -- the list that is left: begin with *all*, gather, then drop
 unfoldable pub listed : Algebra → List Map
 listed a = pruned (a .size) [] (gathered (a .size) a (whole (a .size)))
+
+-- what Decompose wants of space over n elements: n - 1 maps
+abbrev pub factorSpace : ℕ → ℕ
+factorSpace n = (n - 1) * n
 
 -- something other than the identity is left
 unfoldable pub reducible : Algebra → Bool

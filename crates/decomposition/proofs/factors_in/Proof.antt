@@ -5,6 +5,7 @@ use native.Mathlib.Nat.{mul-le-mul-right}
 use native.Mathlib.Omega.{arith}
 use lib.ListN.{length}
 use borrow.Author.Needs.{needs}
+use Rattle.theory.specs.Decompose.{factorSpace}
 use Rattle.algebra.proofs.Accepted.{accepted-wellFormed}
 use Rattle.algebra.specs.Algebra.{algebraOf}
 use Rattle.decomposition.proofs.Factoring.{gathered-few, maps-listed, kept-few, found-factors}
@@ -31,7 +32,7 @@ prune-requires c κs =
     let k = c .before .before .before .before .before .before .before .before .before .before .before .before .before .before .before .before .before .before .before .before in
     let w = accepted-wellFormed _ (k .pre .0) in
     let few : k .args .n - 1 ≤ 63 = omega (arith, w .most) in
-    let room : (k .args .n - 1) * k .args .n ≤ length (k .args .maps .now) = omega (arith, w .most, mul-le-mul-right (k .args .n) few) in
+    let room : factorSpace (k .args .n) ≤ length (k .args .maps .now) = omega (arith, w .most, mul-le-mul-right (k .args .n) few) in
     let g = subst (λ (r : Collected). GatheredRight (algebraOf (k .args .n) (k .args .arities .now) (k .args .cells .now)) r (k .args .maps .now) (c .before .before .before .before .before .before .before .before .before .before .before .gather .last .1 .1 .1 .1 .0)) (c .before .before .before .before .before .found2 .given .1) (c .before .before .before .before .before .before .before .before .before .before .before .gather .ensures) in
     let h : c .before .before .before .before .before .found2 .given .0 .0 ≤ k .args .n - 1 = gathered-few w (k .args .maps .now) (g .1) (g .2) room in (
       maps-listed w (k .args .maps .now) (g .1) (g .2) room,
@@ -43,7 +44,7 @@ cast-t26 c =
     let k = c .before .before .before .before .before .before .before .before .before .before .before .before .before .before .before .before .before .before .before .before .before .before .before .before .before .before .before in
     let w = accepted-wellFormed _ (k .pre .0) in
     let few : k .args .n - 1 ≤ 63 = omega (arith, w .most) in
-    let room : (k .args .n - 1) * k .args .n ≤ length (k .args .maps .now) = omega (arith, w .most, mul-le-mul-right (k .args .n) few) in
+    let room : factorSpace (k .args .n) ≤ length (k .args .maps .now) = omega (arith, w .most, mul-le-mul-right (k .args .n) few) in
     let g = subst (λ (r : Collected). GatheredRight (algebraOf (k .args .n) (k .args .arities .now) (k .args .cells .now)) r (k .args .maps .now) (c .before .before .before .before .before .before .before .before .before .before .before .before .before .before .before .before .before .before .gather .last .1 .1 .1 .1 .0)) (c .before .before .before .before .before .before .before .before .before .before .before .before .found2 .given .1) (c .before .before .before .before .before .before .before .before .before .before .before .before .before .before .before .before .before .before .gather .ensures) in
     omega (arith, kept-few w (k .args .maps .now) (g .1) (g .2) room, c .before .before .before .before .before .before .prune .ensures .0)
 
@@ -76,7 +77,7 @@ returns-2 c =
     let k = c .before .before .before .before .before .before .before .before .before .before .before .before .before .before .before .before .before .before .before .before .before .before .before .before .before .before .before in
     let w = accepted-wellFormed _ (k .pre .0) in
     let few : k .args .n - 1 ≤ 63 = omega (arith, w .most) in
-    let room : (k .args .n - 1) * k .args .n ≤ length (k .args .maps .now) = omega (arith, w .most, mul-le-mul-right (k .args .n) few) in
+    let room : factorSpace (k .args .n) ≤ length (k .args .maps .now) = omega (arith, w .most, mul-le-mul-right (k .args .n) few) in
     let g = subst (λ (r : Collected). GatheredRight (algebraOf (k .args .n) (k .args .arities .now) (k .args .cells .now)) r (k .args .maps .now) (c .before .before .before .before .before .before .before .before .before .before .before .before .before .before .before .before .before .before .gather .last .1 .1 .1 .1 .0)) (c .before .before .before .before .before .before .before .before .before .before .before .before .found2 .given .1) (c .before .before .before .before .before .before .before .before .before .before .before .before .before .before .before .before .before .before .gather .ensures) in
     found-factors w (k .args .maps .now) (g .1) (g .2) room (k .args .out .now) (g .0) (c .before .before .before .before .before .before .prune .ensures .0) (c .before .before .before .before .before .before .prune .ensures .1)
 
