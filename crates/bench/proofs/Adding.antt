@@ -9,7 +9,8 @@ use lib.Dec.{T}
 use lib.ListN.{length, take}
 use Rattle.equivalence.specs.Equivalence.{Map, byte, isMap, identity, blocks}
 use Rattle.kernel.specs.Kernel.{Canonical}
-use Rattle.equivalence.specs.Refusal.{lowest, written}
+use Rattle.equivalence.specs.Refusal.{lowest}
+use Rattle.equivalence.specs.Lent.{written}
 use Rattle.equivalence.proofs.BlockNumbers.{blocks-le}
 use Rattle.equivalence.proofs.Maps.{identity-map, of-isMap, holds-of, of-holds, inside-of, of-inside}
 use Rattle.equivalence.specs.declared.Check.the-variants.{Passed}

@@ -12,7 +12,7 @@ use lib.Seq.{take-at, drop-at, getD-set-same, getD-set-other, set-out}
 use Rattle.equivalence.specs.Equivalence.{Map, byte, identity}
 use Rattle.kernel.specs.Kernel.{Filled}
 use Rattle.equivalence.specs.Lists.{every}
-use Rattle.equivalence.specs.Refusal.{written}
+use Rattle.equivalence.specs.Lent.{written}
 use Rattle.equivalence.proofs.Lists.{every-of, of-every, member-at, member-index}
 use Rattle.equivalence.proofs.Maps.{identity-at}
 use Rattle.bench.specs.State.{mapOn, redrawn, sheetOf, noSheet, withSheet, withMap}

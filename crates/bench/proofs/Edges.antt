@@ -6,7 +6,8 @@ use mathlib.Core.Path.{_≡_, refl}
 use lib.ListN.{length}
 use Rattle.equivalence.specs.Equivalence.{Map, isMap, holds, inside, roots, blocks, mapOf, identity, maps, best}
 use Rattle.equivalence.specs.Lists.{upTo, every, keep, first, concat}
-use Rattle.equivalence.specs.Refusal.{lowest, sizeTest, answered, written, elementsTest}
+use Rattle.equivalence.specs.Refusal.{lowest, sizeTest, answered, elementsTest}
+use Rattle.equivalence.specs.Lent.{written}
 use Rattle.equivalence.specs.declared.Refusal.the-variants.{Size, Range, NotMap, Tally}
 use Rattle.algebra.specs.Accepted.{algebraTests}
 use Rattle.algebra.specs.Algebra.{Algebra, algebraOf, cellCount, operationsOf, operations, arguments, place, value}

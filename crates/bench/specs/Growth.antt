@@ -3,7 +3,7 @@ use Prim.Native.Nat.{ℕ, _≤_}
 use mathlib.Core.List.{List}
 use mathlib.Core.Path.{_≡_}
 use lib.ListN.{take}
-use Rattle.equivalence.specs.Refusal.{written}
+use Rattle.equivalence.specs.Lent.{written}
 use Rattle.algebra.specs.Algebra.{Algebra}
 use Rattle.theory.specs.Extremal.{extended}
 use Rattle.bench.specs.State.{mapOn, redrawn, blocksLost}

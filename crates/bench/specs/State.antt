@@ -3,7 +3,7 @@ use Prim.Native.Nat.{ℕ, _+_, _-_}
 use mathlib.Core.List.{[]}
 use lib.ListN.{take, getD, set, replicate}
 use Rattle.equivalence.specs.Equivalence.{Map, identity, blocks}
-use Rattle.equivalence.specs.Refusal.{written}
+use Rattle.equivalence.specs.Lent.{written}
 use Rattle.bench.specs.declared.Bench.{Bench}
 use Rattle.bench.specs.declared.Sheet.{Sheet}
 

@@ -5,7 +5,7 @@ ghost use lib.ListN.{length, getD, take};
 ghost use Rattle.equivalence.specs.Lists.{every};
 ghost use lib.Dec.{T};
 ghost use Rattle.equivalence.specs.Equivalence.{isMap, identity};
-ghost use Rattle.equivalence.specs.Refusal.{written};
+ghost use Rattle.equivalence.specs.Lent.{written};
 ghost use Rattle.algebra.specs.Algebra.{algebraOf};
 ghost use Rattle.algebra.specs.Accepted.{Accepted};
 ghost use Rattle.bench.specs.State.{mapOn, redrawn, noSheet, zeroSheet, zeroBench, freshBench, withMap};

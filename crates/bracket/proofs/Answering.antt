@@ -5,7 +5,8 @@ use mathlib.Core.Path.{_≡_, refl, ap, sym, _∙_}
 use native.Mathlib.Nat.{sub-zero, le-of-suc-le-suc, mul-le-mul, mul-le-mul-right}
 use native.Mathlib.Omega.{arith}
 use lib.ListN.{length, take, replicate, length-replicate}
-use Rattle.equivalence.specs.Lists.{upTo, stretch}
+use Rattle.equivalence.specs.Lists.{upTo}
+use Rattle.equivalence.specs.Lent.{stretch}
 use Rattle.equivalence.specs.Refusal.{lowest, spaceTest, answered, serve}
 use Rattle.equivalence.specs.declared.Check.{Check}
 use Rattle.equivalence.specs.declared.Check.the-variants.{Passed, Failed}

@@ -2,9 +2,10 @@
 use Prim.Native.String.{String}
 use mathlib.Core.Path.{_≡_, refl}
 use Rattle.equivalence.specs.Equivalence.{isMap, holds, inside, roots, blocks, blockOf, mapOf, identity, whole, same, isIdentity, meet, meetAll, maps, best, join}
-use Rattle.equivalence.specs.Lists.{upTo, every, any, keep, first, concat, stretch}
+use Rattle.equivalence.specs.Lists.{upTo, every, any, keep, first, concat}
+use Rattle.equivalence.specs.Lent.{stretch, written, lentAfter}
 use Rattle.equivalence.specs.Order.{pairs, notLaterOn, notLater, firstHeld}
-use Rattle.equivalence.specs.Refusal.{numberOf, lowest, sizeTest, mapTest, spaceTest, answered, written, lentAfter, serve, pairsTest, elementsTest, equalTest}
+use Rattle.equivalence.specs.Refusal.{numberOf, lowest, sizeTest, mapTest, spaceTest, answered, serve, pairsTest, elementsTest, equalTest}
 use Rattle.algebra.specs.Accepted.{algebraTests}
 use Rattle.algebra.specs.Algebra.{cellCount, operationsOf, operations, arguments, place, value}
 use Rattle.algebra.specs.Congruence.{respects, isCongruence, congruences}

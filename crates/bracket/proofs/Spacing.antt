@@ -9,7 +9,8 @@ use native.Mathlib.Omega.{arith}
 use borrow.Author.Tests.{lt-ltb, le-ltb}
 use lib.ListN.{length, getD, take, drop, length-drop, length-take}
 use lib.Seq.{take-suc, take-all}
-use Rattle.equivalence.specs.Lists.{upTo, stretch}
+use Rattle.equivalence.specs.Lists.{upTo}
+use Rattle.equivalence.specs.Lent.{stretch}
 use Rattle.equivalence.specs.Refusal.{numberOf}
 use Rattle.equivalence.specs.declared.Refusal.{Refusal}
 use Rattle.reader.specs.Reading.{ascii}

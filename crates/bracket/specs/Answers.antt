@@ -2,7 +2,8 @@
 use Prim.Native.Nat.{ℕ, _-_, _*_}
 use mathlib.Core.List.{List, [], _∷_, _++_, map}
 use lib.ListN.{replicate}
-use Rattle.equivalence.specs.Lists.{upTo, stretch}
+use Rattle.equivalence.specs.Lists.{upTo}
+use Rattle.equivalence.specs.Lent.{stretch}
 use Rattle.equivalence.specs.Refusal.{numberOf}
 use Rattle.equivalence.specs.declared.Refusal.{Refusal}
 use Rattle.equivalence.specs.declared.Written.{Written}

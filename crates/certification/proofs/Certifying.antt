@@ -7,7 +7,8 @@ use native.Mathlib.Omega.{arith}
 use lib.ListN.{length, take, drop}
 use Rattle.equivalence.specs.Equivalence.{Map, byte, isMap, isIdentity, meetAll}
 use Rattle.kernel.specs.Kernel.{Canonical}
-use Rattle.equivalence.specs.Lists.{upTo, every, any, without, stretch}
+use Rattle.equivalence.specs.Lists.{upTo, every, any, without}
+use Rattle.equivalence.specs.Lent.{stretch}
 use Rattle.equivalence.specs.Order.{pairs}
 use Rattle.equivalence.proofs.Meets.{meetAll-map}
 use Rattle.equivalence.proofs.Tests.{both, left, right, T-of, not-T-of, true-is, false-is, and-true}

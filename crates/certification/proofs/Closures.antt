@@ -14,7 +14,7 @@ use Rattle.equivalence.specs.Equivalence.{Map, byte, holds, inside, whole, meet
 use Rattle.kernel.specs.Kernel.{Canonical, Filled}
 use Rattle.equivalence.specs.Lists.{any}
 use Rattle.equivalence.specs.Order.{Pair, pairs}
-use Rattle.equivalence.specs.Refusal.{written}
+use Rattle.equivalence.specs.Lent.{written}
 use Rattle.equivalence.proofs.Lists.{any-of, of-any}
 use Rattle.equivalence.proofs.Maps.{IsMap, Holds, holds-of, of-holds, inside-of, of-inside, whole-holds}
 use Rattle.equivalence.proofs.Meets.{meet-map, meet-holds, of-meet}

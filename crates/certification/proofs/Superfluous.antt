@@ -12,8 +12,8 @@ use lib.ListN.{length, take, drop, length-drop}
 use lib.Seq.{take-suc}
 use Rattle.equivalence.specs.Equivalence.{Map, byte, whole, isIdentity, meet, meetAll}
 use Rattle.kernel.specs.Kernel.{Canonical}
-use Rattle.equivalence.specs.Lists.{upTo, every, without, stretch}
-use Rattle.equivalence.specs.Refusal.{written}
+use Rattle.equivalence.specs.Lists.{upTo, every, without}
+use Rattle.equivalence.specs.Lent.{stretch, written}
 use Rattle.equivalence.proofs.Lists.{below-of, of-below}
 use Rattle.equivalence.proofs.Maps.{whole-map}
 use Rattle.equivalence.proofs.Meets.{meet-map, meetAll-map}

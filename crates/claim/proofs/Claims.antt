@@ -8,8 +8,9 @@ use native.Mathlib.Numerals.{add-one}
 use native.Mathlib.Omega.{arith}
 use lib.ListN.{length, getD, take, drop}
 use Rattle.equivalence.specs.Equivalence.{Map, blocks}
-use Rattle.equivalence.specs.Lists.{concat, stretch}
-use Rattle.equivalence.specs.Refusal.{lowest, written}
+use Rattle.equivalence.specs.Lists.{concat}
+use Rattle.equivalence.specs.Lent.{stretch, written}
+use Rattle.equivalence.specs.Refusal.{lowest}
 use Rattle.equivalence.proofs.BlockNumbers.{blocks-le}
 use Rattle.equivalence.proofs.Refusals.{serve-passed, serve-failed}
 use Rattle.equivalence.proofs.Tests.{T?, pick-no}

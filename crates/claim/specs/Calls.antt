@@ -5,7 +5,7 @@ use mathlib.Core.Path.{_≡_}
 use mathlib.Core.List.{List}
 use lib.ListN.{length, take}
 use Rattle.equivalence.specs.Equivalence.{Map, blocks}
-use Rattle.equivalence.specs.Lists.{stretch}
+use Rattle.equivalence.specs.Lent.{stretch}
 use Rattle.equivalence.specs.declared.Element.{Element}
 use Rattle.algebra.specs.Algebra.{Algebra, algebraOf, cellCount}
 use Rattle.theory.specs.Decompose.{factorSpace}

@@ -173,46 +173,8 @@ fn try_in(
     )
 }
 
-// As `extend`, for a map that is a congruence already: only the new pair is queued, and only names are in use.
-pub fn extend_congruence(
-    m: &mut [u8],
-    n: usize,
-    arities: &[u8],
-    cells: &[u8],
-    x: usize,
-    y: usize,
-) -> usize
-    requires { ⌜ Accepted (algebraOf n (now arities) (now cells)) ⌝ }
-    requires { ⌜ n ≤ length (now m) ⌝ }
-    requires { ⌜ Canonical n (byte (now m)) ⌝ }
-    requires { ⌜ Compatible (algebraOf n (now arities) (now cells)) (byte (now m)) ⌝ }
-    requires { ⌜ x < n ⌝ }
-    requires { ⌜ y < n ⌝ }
-    ensures { λ _. ⌜ Closed (algebraOf n (now (arities .entry)) (now (cells .entry))) (Extends n (byte (now (m .entry))) x y) (byte (now (m .exit))) ⌝ }
-    ensures { λ r. ⌜ r + names n (byte (now (m .exit))) ≡ names n (byte (now (m .entry))) ⌝ }
-    ensures { λ _. ⌜ ((z : ℕ) → n ≤ z → byte (now (m .exit)) z ≡ byte (now (m .entry)) z) ⌝ }
-{
-    let mut queue = [0u8; 64];
-    let mut live = [0u8; 64];
-    let count = start::names(m, n, &mut live);
-    try_in(
-        m,
-        n,
-        arities,
-        cells,
-        x,
-        y,
-        arities,
-        0,
-        0,
-        &mut queue,
-        &mut live,
-        count,
-    )
-}
-
-// As `extend_congruence` where that holds v and w apart. Where it does not, the answer is false, and m is some map above the old one. The
-// names of m, listed, are handed in.
+// As `extend`, for a map that is a congruence already and where that holds v and w apart: only the new pair is queued, and only names are in use. Where it
+// does not, the answer is false, and m is some map above the old one. The names of m, listed, are handed in.
 pub fn extend_apart(
     m: &mut [u8],
     n: usize,

@@ -7,8 +7,9 @@ use lib.Dec.{T, ltb→lt}
 use lib.ListN.{length, getD, take, drop}
 use lib.Seq.{take-at}
 use Rattle.equivalence.specs.Equivalence.{Map, isMap, blocks}
-use Rattle.equivalence.specs.Lists.{concat, stretch}
-use Rattle.equivalence.specs.Refusal.{lowest, mapTest, spaceTest, written}
+use Rattle.equivalence.specs.Lists.{concat}
+use Rattle.equivalence.specs.Lent.{stretch, written}
+use Rattle.equivalence.specs.Refusal.{lowest, mapTest, spaceTest}
 use Rattle.equivalence.proofs.Refusals.{lowest-none, lowest-next, lowest-append, serve-passed}
 use Rattle.equivalence.proofs.Stretches.{stretch-concat}
 use Rattle.equivalence.proofs.Tests.{T?}

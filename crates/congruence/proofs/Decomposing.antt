@@ -8,7 +8,7 @@ use lib.Dec.{T}
 use lib.ListN.{length}
 use Rattle.equivalence.specs.Equivalence.{Map}
 use Rattle.equivalence.specs.Lists.{concat}
-use Rattle.equivalence.specs.Refusal.{written}
+use Rattle.equivalence.specs.Lent.{written}
 use Rattle.equivalence.proofs.Tests.{pick-yes, pick-no}
 use Rattle.equivalence.specs.declared.Element.{Element}
 use Rattle.algebra.specs.Algebra.{Algebra}

@@ -4,7 +4,8 @@ use Rattle.equivalence.specs.Equivalence.{isMap, holds, inside, roots, blocks, 
 use Rattle.equivalence.specs.Lists.{upTo, every, any, keep, first, concat}
 use Rattle.equivalence.specs.Order.{pairs, notLaterOn, notLater, firstHeld}
 use Rattle.equivalence.specs.Outcome.{success, refusal, writtenOutcome}
-use Rattle.equivalence.specs.Refusal.{numberOf, lowest, sizeTest, pairsTest, elementsTest, mapTest, spaceTest, equalTest, answered, written, lentAfter, serve}
+use Rattle.equivalence.specs.Refusal.{numberOf, lowest, sizeTest, pairsTest, elementsTest, mapTest, spaceTest, equalTest, answered, serve}
+use Rattle.equivalence.specs.Lent.{written, lentAfter}
 use Rattle.algebra.specs.Accepted.{algebraTests}
 use Rattle.algebra.specs.Algebra.{cellCount, operationsOf, operations, arguments, place, value}
 use Rattle.algebra.specs.Congruence.{respects, isCongruence, congruences}

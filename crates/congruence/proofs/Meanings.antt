@@ -12,7 +12,8 @@ use lib.Seq.{take-at, drop-at}
 use Rattle.equivalence.specs.Calls.{twoMapsTests, twoMapsCheck, twoMapsCall, meetCall, joinCall}
 use Rattle.equivalence.specs.Equivalence.{Map, isMap, blocks, meet, join}
 use Rattle.equivalence.specs.Lists.{every, concat}
-use Rattle.equivalence.specs.Refusal.{Test, lowest, answered, written, lentAfter, serve}
+use Rattle.equivalence.specs.Refusal.{Test, lowest, answered, serve}
+use Rattle.equivalence.specs.Lent.{written, lentAfter}
 use Rattle.equivalence.proofs.BlockNumbers.{blocks-le}
 use Rattle.equivalence.proofs.Lists.{every-of, member-index}
 use Rattle.equivalence.proofs.Maps.{of-isMap, isMap-of}

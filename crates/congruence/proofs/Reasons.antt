@@ -11,7 +11,8 @@ use Rattle.equivalence.specs.Calls.{twoMapsTests, twoMapsCheck, twoMapsCall, me
 use Rattle.equivalence.specs.Equivalence.{Map}
 use Rattle.equivalence.specs.Outcome.{Injective}
 use Rattle.equivalence.specs.Ranks.{rank, rises, ReasonRight}
-use Rattle.equivalence.specs.Refusal.{Test, numberOf, lowest, sizeTest, pairsTest, elementsTest, mapTest, spaceTest, equalTest, answered, lentAfter, written, serve}
+use Rattle.equivalence.specs.Refusal.{Test, numberOf, lowest, sizeTest, pairsTest, elementsTest, mapTest, spaceTest, equalTest, answered, serve}
+use Rattle.equivalence.specs.Lent.{lentAfter, written}
 use Rattle.equivalence.proofs.Ranks.{lowest-reason, answered-reason}
 use Rattle.equivalence.proofs.Tests.{T?, pick}
 use Rattle.equivalence.specs.declared.Check.{Check}

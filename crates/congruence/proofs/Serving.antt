@@ -12,7 +12,8 @@ use lib.Dec.{T, eqb, ltb, T-not, not-T, eqb→eq, ltb→lt, lt→ltb}
 use lib.ListN.{length, getD}
 use Rattle.equivalence.specs.Equivalence.{Map, isMap, blocks}
 use Rattle.equivalence.specs.Lists.{every}
-use Rattle.equivalence.specs.Refusal.{Test, lowest, mapTest, spaceTest, answered, written, serve, pairsTest, elementsTest, equalTest}
+use Rattle.equivalence.specs.Refusal.{Test, lowest, mapTest, spaceTest, answered, serve, pairsTest, elementsTest, equalTest}
+use Rattle.equivalence.specs.Lent.{written}
 use Rattle.equivalence.proofs.Maps.{isMap-of}
 use Rattle.equivalence.proofs.Refusals.{space-passed, lowest-next, lowest-here, of-passed, lowest-append, lowest-failed, passed-append, serve-passed, serve-failed, of-mapTest, space-refused, of-spaceTest}
 use Rattle.equivalence.proofs.Tests.{T?, pick-yes, pick-no, or-left, or-right, or-cases, eq→eqb, T-of, not-T-of}

@@ -4,7 +4,8 @@ use mathlib.Core.Bool.{true, false, not, _||_}
 use mathlib.Core.List.{List, [], _∷_, _++_, map}
 use lib.Dec.{eqb, ltb}
 use lib.ListN.{length}
-use Rattle.equivalence.specs.Lists.{upTo, every, concat, stretch}
+use Rattle.equivalence.specs.Lists.{upTo, every, concat}
+use Rattle.equivalence.specs.Lent.{stretch}
 use Rattle.equivalence.specs.Equivalence.{Map, isMap, blocks}
 use Rattle.equivalence.specs.Refusal.{Test, lowest, pairsTest, elementsTest, mapTest, spaceTest, equalTest, answered, serve}
 use Rattle.equivalence.specs.declared.Refusal.the-variants.{NotMap, NotCongruence}

@@ -6,7 +6,8 @@ use mathlib.Core.List.{List, [], map}
 use mathlib.Core.List.{List·Memᴰ as Member}
 use lib.Dec.{T}
 use lib.ListN.{length, getD, take}
-use Rattle.equivalence.specs.Lists.{without, stretch}
+use Rattle.equivalence.specs.Lists.{without}
+use Rattle.equivalence.specs.Lent.{stretch}
 use Rattle.equivalence.specs.Equivalence.{Map, isMap, holds, inside, identity, meetAll, blocks, blockOf}
 use Rattle.equivalence.specs.Order.{Pair, notLater}
 use Rattle.equivalence.specs.declared.Element.{Element}

@@ -7,8 +7,8 @@ use native.Mathlib.Omega.{arith}
 use lib.Dec.{T}
 use lib.ListN.{length, getD, drop}
 use Rattle.equivalence.specs.Equivalence.{Map, blocks, whole}
-use Rattle.equivalence.specs.Lists.{concat, stretch}
-use Rattle.equivalence.specs.Refusal.{written}
+use Rattle.equivalence.specs.Lists.{concat}
+use Rattle.equivalence.specs.Lent.{stretch, written}
 use Rattle.equivalence.proofs.BlockNumbers.{blocks-some}
 use Rattle.equivalence.proofs.Lists.{member-at, member-index}
 use Rattle.equivalence.proofs.Maps.{IsMap, isMap-of, whole-map}

@@ -14,7 +14,7 @@ use Rattle.equivalence.specs.Equivalence.{Map, byte, blocks, identity, whole, i
 use Rattle.kernel.specs.Kernel.{Canonical}
 use Rattle.equivalence.specs.Lists.{concat}
 use Rattle.equivalence.specs.Order.{Pair, firstHeld}
-use Rattle.equivalence.specs.Refusal.{written}
+use Rattle.equivalence.specs.Lent.{written, laid}
 use Rattle.equivalence.proofs.BlockNumbers.{blocks-le, blocks-some, blocks-more}
 use Rattle.equivalence.proofs.Maps.{Holds, IsMap, Discrete, identity-discrete, whole-map, whole-holds, isIdentity-of, of-isIdentity}
 use Rattle.equivalence.proofs.Meets.{meet-map, meet-holds, of-meet, AllHold}
@@ -32,7 +32,6 @@ use Rattle.theory.proofs.CommonPair.{Common, commonPair-law, refuse-when, unspl
 use Rattle.theory.proofs.Factors.{added-law, split, gathered-end, gathered-step}
 use Rattle.listing.proofs.Listings.{Begins, begins-is, begins-refl, begins-written, begins-canonical, begins-meet, begins-isIdentity, begins-firstHeld, onwards, put-laid, laid-snoc, concat-length}
 use Rattle.theory.proofs.Separation.{separated-law, lex-asym}
-use Rattle.division.specs.Tables.{laid}
 use borrow.Rule.Slice.PartMut.{putMid}
 use Rattle.decomposition.specs.declared.gather.Collected.{Collected}
 use Rattle.decomposition.specs.declared.gather.Collected.the-variants.{All}

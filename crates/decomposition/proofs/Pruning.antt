@@ -12,8 +12,8 @@ use lib.ListN.{length, getD, take, drop, length-append, drop-of-length-le, lengt
 use lib.Seq.{ext-getD, length-take-le, drop-cons}
 use Rattle.equivalence.specs.Equivalence.{Map, byte, whole, isIdentity, meet, meetAll}
 use Rattle.kernel.specs.Kernel.{Canonical}
-use Rattle.equivalence.specs.Lists.{concat, stretch}
-use Rattle.equivalence.specs.Refusal.{written}
+use Rattle.equivalence.specs.Lists.{concat}
+use Rattle.equivalence.specs.Lent.{stretch, written, laid}
 use Rattle.equivalence.proofs.Maps.{whole-map}
 use Rattle.equivalence.proofs.Meets.{meet-map, meetAll-map}
 use Rattle.equivalence.proofs.Tests.{T?, left, pick-yes, pick-no}
@@ -24,7 +24,6 @@ use Rattle.decomposition.specs.Turns.{inTurn}
 use Rattle.theory.proofs.Certificates.{isIdentity-meets, of-isIdentity-meets}
 use Rattle.theory.proofs.Factors.{pruned-drop, pruned-keep}
 use Rattle.listing.proofs.Listings.{Begins, begins-sym, begins-is, begins-take, begins-written, begins-canonical, begins-meet, meetAll-append, meetAll-snoc, listing-length, listing-at, listed-map, listed-room, listed-begins, onwards, part-rest, laid-snoc, concat-length}
-use Rattle.division.specs.Tables.{laid}
 
 module _ (n : ℕ) (m after : Map) (kept : ℕ) (met : Map) (out : List ℕ) where
   abbrev Turn : Type 0

@@ -5,7 +5,7 @@ use Prim.Native.Nat.{ℕ}
 use lib.Dec.{T}
 use lib.ListN.{length}
 use Rattle.equivalence.specs.Lists.{concat}
-use Rattle.equivalence.specs.Refusal.{written}
+use Rattle.equivalence.specs.Lent.{written}
 use Rattle.algebra.specs.Algebra.{Algebra}
 use Rattle.theory.specs.Decompose.{listed, reducible, commonPair}
 use Rattle.decomposition.specs.declared.Found.{Found}

@@ -8,7 +8,7 @@ use lib.ListN.{length}
 use Rattle.equivalence.specs.Equivalence.{whole, isIdentity, meet}
 use Rattle.equivalence.specs.Order.{Pair}
 use Rattle.equivalence.specs.Lists.{concat}
-use Rattle.equivalence.specs.Refusal.{written}
+use Rattle.equivalence.specs.Lent.{written}
 use Rattle.algebra.specs.Algebra.{Algebra}
 use Rattle.theory.specs.Decompose.{added, gathered, reducible, commonPair}
 use Rattle.decomposition.specs.declared.gather.Collected.{Collected}

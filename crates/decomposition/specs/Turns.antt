@@ -4,8 +4,7 @@ use mathlib.Core.Bool.{true, false}
 use mathlib.Core.List.{List}
 use lib.ListN.{take}
 use Rattle.equivalence.specs.Equivalence.{Map, isIdentity, meet}
-use Rattle.equivalence.specs.Refusal.{written}
-use Rattle.division.specs.Tables.{laid}
+use Rattle.equivalence.specs.Lent.{written, laid}
 
 -- a map of the list in its turn: dropped if those kept, which meet in `met`, and those behind it, which meet in `after`, meet in the identity;
 -- else laid behind those kept, and met

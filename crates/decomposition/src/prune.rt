@@ -7,7 +7,7 @@ ghost use lib.ListN.{length};
 ghost use Rattle.equivalence.specs.Equivalence.{byte};
 ghost use Rattle.kernel.specs.Kernel.{Canonical};
 ghost use Rattle.equivalence.specs.Lists.{concat};
-ghost use Rattle.equivalence.specs.Refusal.{written};
+ghost use Rattle.equivalence.specs.Lent.{written};
 ghost use Rattle.theory.specs.Decompose.{pruned};
 ghost use Rattle.listing.specs.Listing.{listing, MapsListed, SuffixMeets};
 ghost use Rattle.decomposition.specs.Turns.{inTurn};

@@ -6,7 +6,8 @@ use native.Mathlib.Numerals.{add-one}
 use native.Mathlib.Omega.{arith}
 use lib.ListN.{length, getD, take, length-append}
 use Rattle.algebra.specs.Algebra.{cellCount}
-use Rattle.division.specs.Tables.{laid, joined, Source, divided, Sound, Fits, dividedAt, AllFit}
+use Rattle.division.specs.Tables.{joined, Source, divided, Sound, Fits, dividedAt, AllFit}
+use Rattle.equivalence.specs.Lent.{laid}
 use Rattle.division.proofs.Walks.{joined-none, joined-more, divided-long, Laid, laid-start, laid-more}
 
 cellCount-none : (n : ℕ) (arities : List ℕ) → cellCount n (take 0 arities) ≡ 0

@@ -7,7 +7,7 @@ use lib.ListN.{length, getD, take, drop, length-map}
 use lib.Seq.{ext-getD, drop-drop}
 use Rattle.equivalence.specs.Equivalence.{Map, byte, blocks, blockOf}
 use Rattle.equivalence.specs.Lists.{upTo, concat}
-use Rattle.equivalence.specs.Refusal.{written}
+use Rattle.equivalence.specs.Lent.{written, laid}
 use Rattle.equivalence.proofs.BlockNumbers.{blocks-le, smallest, smallest-below}
 use Rattle.equivalence.proofs.Lists.{map-at, table-at, upTo-length}
 use Rattle.equivalence.proofs.Maps.{IsMap}
@@ -17,7 +17,7 @@ use Rattle.algebra.proofs.Arguments.{Args, of-arguments, args-map, place-law}
 use Rattle.algebra.proofs.Tables.{operationAt, value-at}
 use Rattle.division.specs.Numbers.{Numbered}
 use Rattle.division.specs.Quotient.{quotientTable, quotientCells}
-use Rattle.division.specs.Tables.{laid, joined, Source, sourceOf, divided, dividedAt, Sound, AllFit}
+use Rattle.division.specs.Tables.{joined, Source, sourceOf, divided, dividedAt, Sound, AllFit}
 use Rattle.division.proofs.Operations.{cellCount-more, cellCount-part}
 
 -- two functions that agree on a list's members make one list of it

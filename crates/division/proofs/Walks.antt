@@ -11,9 +11,9 @@ use lib.Seq.{take-at, drop-at, drop-drop, length-take-le, set-split}
 use Rattle.algebra.proofs.Powers.{power-one}
 use Rattle.equivalence.specs.Equivalence.{byte}
 use Rattle.equivalence.specs.Lists.{upTo, concat}
-use Rattle.equivalence.specs.Refusal.{written}
+use Rattle.equivalence.specs.Lent.{written, laid}
 use Rattle.equivalence.proofs.Stretches.{concat-append, stretches}
-use Rattle.division.specs.Tables.{laid, joined, cellDivided, rowDivided, Source, divided, Sound, Fits, RowFits}
+use Rattle.division.specs.Tables.{joined, cellDivided, rowDivided, Source, divided, Sound, Fits, RowFits}
 
 -- nothing laid
 pub laid-none : (lent : List ℕ) (at : ℕ) → laid lent at [] ≡ lent

@@ -4,12 +4,8 @@ use mathlib.Core.List.{List, [], _∷_, _++_, map}
 use lib.ListN.{length, getD, take, drop}
 use Rattle.equivalence.specs.Lists.{upTo, concat}
 use Rattle.equivalence.specs.Equivalence.{byte}
-use Rattle.equivalence.specs.Refusal.{written}
+use Rattle.equivalence.specs.Lent.{written}
 use Rattle.algebra.specs.Algebra.{cellCount}
-
--- the lent bytes with the new ones from place `at` on
-unfoldable pub laid : List ℕ → ℕ → List ℕ → List ℕ
-laid lent at new = take at lent ++ written new (drop at lent)
 
 -- g 0, g 1 and so on up to g (k - 1), one after the other
 unfoldable pub joined : (ℕ → List ℕ) → ℕ → List ℕ

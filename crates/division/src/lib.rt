@@ -4,7 +4,7 @@ ghost use Prim.Native.Nat.{_≤_};
 ghost use lib.Dec.{T};
 ghost use lib.ListN.{length};
 ghost use Rattle.equivalence.specs.Equivalence.{isMap, blocks};
-ghost use Rattle.equivalence.specs.Refusal.{written};
+ghost use Rattle.equivalence.specs.Lent.{written};
 ghost use Rattle.algebra.specs.Algebra.{algebraOf, cellCount};
 ghost use Rattle.algebra.specs.Accepted.{Accepted};
 ghost use Rattle.division.specs.Quotient.{quotientCells};

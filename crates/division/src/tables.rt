@@ -4,7 +4,8 @@ ghost use mathlib.Core.Path.{_≡_};
 ghost use Prim.Native.Nat.{_+_, _*_, _<_, _≤_};
 ghost use lib.ListN.{length};
 ghost use Rattle.equivalence.specs.Equivalence.{byte};
-ghost use Rattle.division.specs.Tables.{laid, joined, cellDivided, rowDivided, divided, dividedAt, sourceOf, Sound, Fits, RowFits, AllFit};
+ghost use Rattle.division.specs.Tables.{joined, cellDivided, rowDivided, divided, dividedAt, sourceOf, Sound, Fits, RowFits, AllFit};
+ghost use Rattle.equivalence.specs.Lent.{laid};
 use crate::numbers::block_of;
 use equivalence::Element;
 

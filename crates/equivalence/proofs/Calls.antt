@@ -9,7 +9,8 @@ use denote.Ref.{RefT, now, ptr}
 use Rattle.equivalence.specs.Calls.{twoMapsCheck, twoMapsCall, preferCheck, earlierOf, Preferred}
 use Rattle.equivalence.specs.Equivalence.{Map}
 use Rattle.equivalence.specs.Order.{notLater}
-use Rattle.equivalence.specs.Refusal.{answered, written, lentAfter}
+use Rattle.equivalence.specs.Refusal.{answered}
+use Rattle.equivalence.specs.Lent.{written, lentAfter}
 use Rattle.equivalence.proofs.Maps.{IsMap}
 use Rattle.equivalence.proofs.Refusals.{of-passed, of-sizeTest, of-mapTest, of-spaceTest}
 use Rattle.equivalence.specs.declared.Refusal.{Refusal}

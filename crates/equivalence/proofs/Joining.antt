@@ -9,7 +9,7 @@ use lib.ListN.{length, take}
 use lib.Seq.{getD-take, length-take-le}
 use Rattle.equivalence.specs.Equivalence.{Map, byte, join}
 use Rattle.kernel.specs.Kernel.{Canonical, Filled, United, Joined}
-use Rattle.equivalence.specs.Refusal.{written}
+use Rattle.equivalence.specs.Lent.{written}
 use Rattle.equivalence.proofs.Joins.{LeastUpper, join-law, join-is}
 use Rattle.equivalence.proofs.Maps.{IsMap}
 use Rattle.equivalence.proofs.Writing.{filled-written}

@@ -7,7 +7,8 @@ use native.Mathlib.Decide.{decLt, ℕ-discrete}
 use native.Mathlib.Omega.{arith}
 use lib.Dec.{T, eqb, not-T, ltb→lt, lt→ltb}
 use Rattle.equivalence.specs.Equivalence.{Map, isMap}
-use Rattle.equivalence.specs.Refusal.{Test, lowest, sizeTest, mapTest, spaceTest, answered, written, lentAfter, serve}
+use Rattle.equivalence.specs.Refusal.{Test, lowest, sizeTest, mapTest, spaceTest, answered, serve}
+use Rattle.equivalence.specs.Lent.{written, lentAfter}
 use Rattle.equivalence.proofs.Maps.{IsMap, of-isMap}
 use Rattle.equivalence.proofs.Tests.{T?, or-left, or-right, eq→eqb, pick-yes, pick-no, T-of, not-T-of}
 use Rattle.equivalence.specs.declared.Refusal.{Refusal}

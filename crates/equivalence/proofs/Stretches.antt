@@ -7,7 +7,8 @@ use native.Mathlib.Nat.{suc-mul, mul-le-mul-right}
 use native.Mathlib.Omega.{arith}
 use lib.ListN.{length, getD, length-append, List·getD-append}
 use lib.Seq.{drop-drop, getD-append-add, take-at, drop-at}
-use Rattle.equivalence.specs.Lists.{upTo, concat, stretch}
+use Rattle.equivalence.specs.Lists.{upTo, concat}
+use Rattle.equivalence.specs.Lent.{stretch}
 
 pub concat-append {ℓ} : {A : Type ℓ} (k l : List (List A)) → concat (k ++ l) ≡ concat k ++ concat l
 unfolding concat

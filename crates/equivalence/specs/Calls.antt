@@ -7,7 +7,8 @@ use lib.ListN.{length}
 use denote.Ref.{RefT, now, ptr}
 use Rattle.equivalence.specs.Equivalence.{Map, meet, join}
 use Rattle.equivalence.specs.Order.{notLater}
-use Rattle.equivalence.specs.Refusal.{Test, lowest, sizeTest, mapTest, spaceTest, answered, lentAfter}
+use Rattle.equivalence.specs.Refusal.{Test, lowest, sizeTest, mapTest, spaceTest, answered}
+use Rattle.equivalence.specs.Lent.{lentAfter}
 use Rattle.equivalence.specs.declared.Check.{Check}
 use Rattle.equivalence.specs.declared.Check.the-variants.{Passed}
 use Rattle.equivalence.specs.declared.Written.{Written}

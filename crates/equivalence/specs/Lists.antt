@@ -1,5 +1,5 @@
 -- Finite searches over lists, by tests.
-use Prim.Native.Nat.{ℕ, zero, suc, _*_}
+use Prim.Native.Nat.{ℕ, zero, suc}
 use mathlib.Core.Bool.{Bool, true, false, _&&_, _||_}
 use mathlib.Core.List.{List, [], _∷_, _++_}
 use lib.ListN.{take, drop}
@@ -37,7 +37,3 @@ concat (l ∷ rest) = l ++ concat rest
 -- the list without its member number i
 abbrev pub without {ℓ} : {A : Type ℓ} → ℕ → List A → List A
 without i l = take i l ++ drop (suc i) l
-
--- stretch number i of those of length n that follow each other
-unfoldable pub stretch : ℕ → List ℕ → ℕ → List ℕ
-stretch n l i = take n (drop (i * n) l)

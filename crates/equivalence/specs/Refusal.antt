@@ -1,11 +1,12 @@
 -- The reasons to decline, their numbers, and the lowest that applies.
 use Prim.Native.Nat.{ℕ, _%_}
 use mathlib.Core.Bool.{Bool, true, false, not, _||_}
-use mathlib.Core.List.{List, [], _∷_, _++_}
+use mathlib.Core.List.{List, [], _∷_}
 use lib.Dec.{eqb, ltb}
-use lib.ListN.{length, drop}
+use lib.ListN.{length}
 use Rattle.equivalence.specs.Equivalence.{Map, isMap}
 use Rattle.equivalence.specs.Lists.{every}
+use Rattle.equivalence.specs.Lent.{lentAfter}
 use Rattle.equivalence.specs.declared.Refusal.{Refusal}
 use Rattle.equivalence.specs.declared.Refusal.the-variants.{Size, Operations, Arity, Cells, Length, Cell, Range, NotMap, Space, Equal, NotCongruence, Tally, Text}
 use Rattle.equivalence.specs.declared.Check.{Check}
@@ -65,15 +66,6 @@ equalTest v w = record { applies = eqb v w; reason = Equal }
 unfoldable pub answered {ℓ} : {A : Type ℓ} → (Refusal → A) → Check → A → A
 answered refused Passed answer = answer
 answered refused (Failed r) answer = refused r
-
--- the lent bytes with the new ones at their start
-unfoldable pub written : List ℕ → List ℕ → List ℕ
-written new lent = new ++ drop (length new) lent
-
--- the lent bytes after a call: a refusal writes nothing
-unfoldable pub lentAfter : Check → List ℕ → List ℕ → List ℕ
-lentAfter Passed new lent = written new lent
-lentAfter (Failed r) new lent = lent
 
 -- a call that writes: the answer and the lent bytes afterwards, by its tests
 unfoldable pub serve {ℓ} : {A : Type ℓ} → (Refusal → A) → List Test → A → List ℕ → List ℕ → A × List ℕ

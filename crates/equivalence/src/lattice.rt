@@ -5,7 +5,7 @@ ghost use lib.ListN.{length};
 ghost use Rattle.equivalence.specs.Equivalence.{byte, meet, join};
 ghost use Rattle.kernel.specs.Kernel.{Canonical, Filled, Joined, seenOr};
 use crate::blocks;
-ghost use Rattle.equivalence.specs.Refusal.{written};
+ghost use Rattle.equivalence.specs.Lent.{written};
 
 // No element was seen.
 const NONE: u8 = 64;

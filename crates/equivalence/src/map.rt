@@ -3,7 +3,7 @@ ghost use mathlib.Core.Path.{_≡_};
 ghost use mathlib.Core.Bool.{_&&_};
 ghost use Prim.Native.Nat.{_<_, _≤_};
 ghost use lib.Dec.{eqb, leb};
-ghost use Rattle.equivalence.specs.Equivalence.{byte, isMap, holds, inside, isIdentity};
+ghost use Rattle.equivalence.specs.Equivalence.{byte, isMap, inside, isIdentity};
 ghost use Rattle.kernel.specs.Kernel.{Canonical, bit, names};
 
 // Whether the byte of x is at most x and names an element whose byte is itself.
@@ -34,15 +34,6 @@ pub fn is_map(n: usize, m: &[u8]) -> bool
         x += 1;
     }
     true
-}
-
-// Whether x and y are in one block.
-pub fn holds(m: &[u8], x: usize, y: usize) -> bool
-    requires { do ⌜ x < (← ⟦m.len()⟧) ⌝ }
-    requires { do ⌜ y < (← ⟦m.len()⟧) ⌝ }
-    ensures { λ r. ⌜ r ≡ holds (now (m .entry)) x y ⌝ }
-{
-    m[x] == m[y]
 }
 
 // 1 where x is its own name, 0 where it is not.

@@ -11,7 +11,7 @@ use lib.Seq.{getD-take, length-take-le}
 use Rattle.equivalence.specs.Equivalence.{Map, byte, holds, blocks}
 use Rattle.kernel.specs.Kernel.{Canonical, Within, Filled, names}
 use Rattle.equivalence.specs.Order.{Pair, pairs}
-use Rattle.equivalence.specs.Refusal.{written}
+use Rattle.equivalence.specs.Lent.{written}
 use Rattle.equivalence.proofs.Bytes.{names-blocks}
 use Rattle.equivalence.proofs.Earlier.{notLater-by}
 use Rattle.kernel.proofs.Kernels.{names-same}
@@ -25,9 +25,8 @@ use Rattle.algebra.proofs.Accepted.{WellFormed}
 use Rattle.algebra.proofs.Congruences.{IsCongruence}
 use Rattle.translation.proofs.Translations.{congruence-compatible, compatible-congruence}
 use Rattle.theory.specs.Extremal.{holdsAll, generated, extended, contained, separated}
-use Rattle.theory.proofs.Above.{extended-is}
+use Rattle.theory.proofs.Above.{extended-is, Below, generated-is}
 use Rattle.theory.proofs.GreatestCongruence.{contained-is}
-use Rattle.theory.proofs.Above.{Below, generated-is}
 use Rattle.theory.proofs.Separation.{separated-is, lex-asym}
 use Rattle.closure.specs.Starts.{JoinsPairs, Extends}
 use Rattle.separation.specs.Search.{Before, Earliest}

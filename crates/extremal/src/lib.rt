@@ -5,7 +5,7 @@ ghost use lib.Dec.{T};
 ghost use lib.ListN.{length, take};
 ghost use Rattle.equivalence.specs.Equivalence.{byte, isMap, blocks};
 ghost use Rattle.kernel.specs.Kernel.{Canonical};
-ghost use Rattle.equivalence.specs.Refusal.{written};
+ghost use Rattle.equivalence.specs.Lent.{written};
 ghost use Rattle.algebra.specs.Algebra.{algebraOf};
 ghost use Rattle.algebra.specs.Accepted.{Accepted};
 ghost use Rattle.theory.specs.Extremal.{generated, extended, contained, separated};

@@ -10,7 +10,8 @@ use native.Mathlib.Omega.{arith}
 use lib.Dec.{T}
 use lib.ListN.{length, getD, take, drop}
 use Rattle.equivalence.specs.Equivalence.{Map, isMap}
-use Rattle.equivalence.specs.Lists.{every, stretch}
+use Rattle.equivalence.specs.Lists.{every}
+use Rattle.equivalence.specs.Lent.{stretch}
 use Rattle.equivalence.proofs.Lists.{every-of, of-every, member-at, member-index}
 use Rattle.equivalence.proofs.Tests.{left, right, T-of, not-T-of, true-is, false-is, and-true}
 use Rattle.algebra.specs.Algebra.{Algebra}

@@ -11,9 +11,9 @@ use lib.ListN.{length, getD, take, drop, length-map, length-append, List·getD-a
 use lib.Seq.{getD-take, ext-getD, take-all, length-take-le, drop-drop, take-at, drop-at, drop-cons}
 use Rattle.equivalence.specs.Equivalence.{Map, byte, holds, whole, same, isIdentity, meet, meetAll}
 use Rattle.kernel.specs.Kernel.{Canonical, Filled}
-use Rattle.equivalence.specs.Lists.{upTo, first, concat, stretch}
+use Rattle.equivalence.specs.Lists.{upTo, first, concat}
+use Rattle.equivalence.specs.Lent.{stretch, written, laid}
 use Rattle.equivalence.specs.Order.{Pair, pairs, firstHeld}
-use Rattle.equivalence.specs.Refusal.{written}
 use Rattle.equivalence.proofs.Lists.{first-yes, first-no, upTo-length, table-at}
 use Rattle.equivalence.proofs.Maps.{IsMap, of-isMap, map-ext, whole-map, whole-holds, isIdentity-of, of-isIdentity}
 use Rattle.equivalence.proofs.Meets.{meet-map, meet-holds, of-meet, meetAll-map, meetAll-holds, of-meetAll}
@@ -22,7 +22,6 @@ use Rattle.equivalence.proofs.Stretches.{concat-append, stretch-concat}
 use Rattle.equivalence.proofs.Tests.{T?, true-is, false-is}
 use Rattle.equivalence.proofs.Writing.{filled-written}
 use Rattle.listing.specs.Listing.{listing, MapsListed}
-use Rattle.division.specs.Tables.{laid}
 use Rattle.division.proofs.Walks.{laid-laid}
 use borrow.Rule.Slice.PartMut.{putMid, midOf}
 

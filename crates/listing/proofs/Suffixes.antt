@@ -9,13 +9,11 @@ use native.Mathlib.Omega.{arith}
 use lib.ListN.{length, drop, drop-of-length-le}
 use Rattle.equivalence.specs.Equivalence.{Map, byte, whole, meet, meetAll}
 use Rattle.kernel.specs.Kernel.{Canonical}
-use Rattle.equivalence.specs.Lists.{stretch}
-use Rattle.equivalence.specs.Refusal.{written}
+use Rattle.equivalence.specs.Lent.{stretch, written, laid}
 use Rattle.equivalence.proofs.Maps.{IsMap, whole-map}
 use Rattle.equivalence.proofs.Meets.{meet-map, meetAll-map}
 use Rattle.listing.specs.Listing.{listing, MapsListed, SuffixMeets}
 use Rattle.listing.proofs.Listings.{Begins, begins-is, begins-written, begins-canonical, begins-meet, meet-comm, listing-length, listing-from, listed-map, listed-room, listed-begins, laid-stretch, laid-later}
-use Rattle.division.specs.Tables.{laid}
 use Rattle.division.proofs.Walks.{laid-long}
 
 pub record Suffixes (n k : ℕ) (maps : List ℕ) (i at : ℕ) (met bytes : List ℕ) : Type 0 where

@@ -4,7 +4,8 @@ use mathlib.Core.Path.{_≡_}
 use mathlib.Core.List.{List, map}
 use lib.Dec.{T}
 use lib.ListN.{length, drop}
-use Rattle.equivalence.specs.Lists.{upTo, stretch}
+use Rattle.equivalence.specs.Lists.{upTo}
+use Rattle.equivalence.specs.Lent.{stretch}
 use Rattle.equivalence.specs.Equivalence.{Map, isMap, meetAll}
 
 -- the first k maps of a slice

@@ -7,7 +7,7 @@ use lib.ListN.{length-drop}
 use borrow.Author.Needs.{needs}
 use Rattle.equivalence.proofs.Meets.{meet-map}
 use Rattle.equivalence.specs.Equivalence.{meet}
-use Rattle.equivalence.specs.Refusal.{written}
+use Rattle.equivalence.specs.Lent.{written}
 use Rattle.listing.proofs.Listings.{begins-written, part-rest, copied-laid}
 use Rattle.listing.proofs.meet_back.Statement.{statement}
 use Rattle.listing.proofs.meet_back.Tie as tie
