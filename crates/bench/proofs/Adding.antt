@@ -13,6 +13,7 @@ use Rattle.equivalence.specs.Refusal.{lowest}
 use Rattle.equivalence.specs.Lent.{written}
 use Rattle.equivalence.proofs.BlockNumbers.{blocks-le}
 use Rattle.equivalence.proofs.Maps.{identity-map, of-isMap, holds-of, of-holds, inside-of, of-inside}
+use Rattle.equivalence.proofs.Refusals.{passed-append}
 use Rattle.equivalence.specs.declared.Check.the-variants.{Passed}
 use Rattle.equivalence.specs.declared.Refusal.{Refusal}
 use Rattle.algebra.specs.Accepted.{Accepted}
@@ -22,12 +23,12 @@ use Rattle.algebra.proofs.Congruences.{congruence-is, congruence-of}
 use Rattle.theory.specs.Extremal.{extended}
 use Rattle.extremal.proofs.Bridges.{front-byte}
 use Rattle.theory.proofs.Above.{LeastJoining, extended-law}
-use Rattle.bench.specs.Calls.{tallyTest, benched, addTests, clearTests, mapByAdd, lostByAdd, addCall, clearCall}
+use Rattle.bench.specs.Calls.{tallyTest, benched, handedTests, addTests, clearTests, mapByAdd, lostByAdd, addCall, clearCall}
 use Rattle.bench.specs.Growth.{MapGrown, SheetGrown}
 use Rattle.bench.specs.Promises.{LeastExtension}
 use Rattle.bench.specs.State.{mapOn, sheetOf, withSheet, withMap, raisedBy, blocksLost}
 use Rattle.bench.proofs.Drawing.{mapOn-redrawn, withMap-same}
-use Rattle.bench.proofs.Testing.{done, refused, benched-cases, benched-append, passed-append, Clearable, clear-passed, Addable, add-passed}
+use Rattle.bench.proofs.Testing.{done, refused, benched-cases, benched-append, Clearable, clear-passed, Addable, add-passed}
 use Rattle.bench.specs.declared.Bench.{Bench}
 use Rattle.bench.specs.declared.Sheet.{Sheet}
 
@@ -39,8 +40,8 @@ module _ (b : Bench) (a : Algebra) (k x y : ℕ) where
   pub add-cases : (Addable b a k x y × (addCall b a k x y ≡ done afterAdd)) ⊎ ((r : Refusal) × (addCall b a k x y ≡ refused r b))
   unfolding addCall
   add-cases =
-      elim (benched-cases (addTests b a k x y ++ (tallyTest (b .tally + lostByAdd b a k x y) ∷ [])) afterAdd b) [
-        | inl p ↦ inl (add-passed b a k x y (passed-append (addTests b a k x y) _ (p .0) .0), p .1)
+      elim (benched-cases (addTests b a k x y) afterAdd b) [
+        | inl p ↦ inl (add-passed b a k x y (passed-append (handedTests b a k x y) _ (p .0) .0), p .1)
         | inr p ↦ inr p
       ]
 
@@ -91,10 +92,10 @@ unfolding blocksLost
 map-grown a ok x y old new lost e c =
     record { bytes = e; blocks = omega arith; few = omega (arith, blocks-le (a .size) (take (a .size) old), accepted-wellFormed a ok .most) }
 
-pub grown-call : (b : Bench) (a : Algebra) (k x y : ℕ) → lowest (addTests b a k x y) ≡ Passed → (old new : Sheet) (lost : ℕ) → old ≡ sheetOf b k → SheetGrown a x y old new lost
+pub grown-call : (b : Bench) (a : Algebra) (k x y : ℕ) → lowest (handedTests b a k x y) ≡ Passed → (old new : Sheet) (lost : ℕ) → old ≡ sheetOf b k → SheetGrown a x y old new lost
     → benched (tallyTest (b .tally + lost) ∷ []) (raisedBy lost (withSheet b k new)) b ≡ addCall b a k x y
 unfolding addCall lostByAdd withMap mapByAdd
-grown-call b a k x y e old new lost o g = rw (g .sheet, g .blocks, o) (sym (benched-append (addTests b a k x y) _ _ _ e))
+grown-call b a k x y e old new lost o g = rw (g .sheet, g .blocks, o) (sym (benched-append (handedTests b a k x y) _ _ _ e))
 
 -- sheet k of the bench after an accepted Clear
 pub cleared-map : (b : Bench) (k : ℕ) → Clearable b k → length (b .sheets) ≡ 8 → mapOn (b .n) (sheetOf (withMap b k (identity (b .n))) k) ≡ identity (b .n)

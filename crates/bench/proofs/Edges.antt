@@ -13,7 +13,7 @@ use Rattle.algebra.specs.Accepted.{algebraTests}
 use Rattle.algebra.specs.Algebra.{Algebra, algebraOf, cellCount, operationsOf, operations, arguments, place, value}
 use Rattle.algebra.specs.Congruence.{respects, isCongruence, congruences}
 use Rattle.theory.specs.Extremal.{holdsAll, above, extended}
-use Rattle.bench.specs.Calls.{sheetTest, benchTest, tallyTest, benched, startCall, mapByAdd, lostByAdd, placeTests, addTests, addCall, clearTests, clearCall}
+use Rattle.bench.specs.Calls.{sheetTest, benchTest, tallyTest, benched, startCall, mapByAdd, lostByAdd, placeTests, handedTests, addCall, clearTests, clearCall}
 use Rattle.bench.specs.Lessons.{Start, Add, Clear, Made, sizeAfter, additions, drawn, mapAfter, lostAfter}
 use Rattle.bench.specs.State.{mapOn, redrawn, zeroSheet, zeroBench, freshBench, sheetOf, withSheet, withMap, raisedBy, blocksLost}
 use Rattle.bench.specs.declared.Answer.the-variants.{Done, Refused}
@@ -63,7 +63,7 @@ pub record Edges : Type 0 where
   pub told : (length (additions 0 lesson) ≡ 1) × (lostAfter lesson ≡ 1)
 
 pub edges : Edges
-unfolding upTo every first holds concat mapOf keep maps roots blocks best inside isMap identity isCongruence operations operationsOf cellCount arguments place value respects congruences holdsAll above extended lowest algebraTests sizeTest elementsTest answered written sheetTest benchTest tallyTest benched startCall mapByAdd lostByAdd placeTests addTests addCall clearTests clearCall mapOn redrawn zeroSheet zeroBench freshBench sheetOf withSheet withMap raisedBy blocksLost sizeAfter additions drawn mapAfter lostAfter
+unfolding upTo every first holds concat mapOf keep maps roots blocks best inside isMap identity isCongruence operations operationsOf cellCount arguments place value respects congruences holdsAll above extended lowest algebraTests sizeTest elementsTest answered written sheetTest benchTest tallyTest benched startCall mapByAdd lostByAdd placeTests handedTests addCall clearTests clearCall mapOn redrawn zeroSheet zeroBench freshBench sheetOf withSheet withMap raisedBy blocksLost sizeAfter additions drawn mapAfter lostAfter
 edges =
     record {
       seven = refl;

@@ -9,14 +9,14 @@ use native.Mathlib.Omega.{arith}
 use lib.Dec.{T, eqb, eqb→eq, eqb-refl}
 use lib.ListN.{length, getD-replicate}
 use Rattle.equivalence.specs.Equivalence.{Map, identity}
-use Rattle.equivalence.specs.Refusal.{lowest, sizeTest}
+use Rattle.equivalence.specs.Refusal.{lowest}
 use Rattle.equivalence.proofs.Maps.{identity-map}
 use Rattle.equivalence.proofs.Tests.{right, pick-yes, pick-no}
 use Rattle.equivalence.specs.declared.Check.the-variants.{Passed}
 use Rattle.equivalence.specs.declared.Refusal.{Refusal}
 use Rattle.algebra.specs.Algebra.{Algebra}
 use Rattle.theory.specs.Extremal.{extended}
-use Rattle.bench.specs.Calls.{mapByAdd, lostByAdd, startCall}
+use Rattle.bench.specs.Calls.{mapByAdd, lostByAdd, startTests, startCall}
 use Rattle.bench.specs.Lessons.{Call, Start, Add, Clear, called, Made, Lesson, isDone, next, played, StartsAccepted, sizeAfter, additions, drawn, mapAfter, lostAfter, IsLeast, EachLeast, AsTold, LessonTheorem}
 use Rattle.bench.specs.State.{mapOn, redrawn, zeroSheet, noSheet, freshBench, sheetOf, withSheet, withMap, raisedBy, blocksLost}
 use Rattle.bench.proofs.Adding.{afterAdd, add-cases, afterAdd-map, added-least, cleared-map, clear-cases}
@@ -168,11 +168,11 @@ module _ (l : Lesson) (h : Kept l) where
 
 -- ---- every call keeps it
 
-start-gave : (n : ℕ) → lowest (sizeTest n ∷ []) ≡ Passed → startCall n ≡ done (freshBench n)
+start-gave : (n : ℕ) → lowest (startTests n) ≡ Passed → startCall n ≡ done (freshBench n)
 unfolding startCall
-start-gave n e = benched-passed (sizeTest n ∷ []) (freshBench n) _ e
+start-gave n e = benched-passed (startTests n) (freshBench n) _ e
 
-first-kept : (l : Lesson) (n : ℕ) → EachLeast (l .made) → lowest (sizeTest n ∷ []) ≡ Passed → Kept (next l (Start n))
+first-kept : (l : Lesson) (n : ℕ) → EachLeast (l .made) → lowest (startTests n) ≡ Passed → Kept (next l (Start n))
 unfolding called
 first-kept l n least e = rw (next-gave l (Start n) _ (start-gave n e)) (start-kept l n least)
 

@@ -1,18 +1,17 @@
 -- What the calls promise, proved of their definitions: a refusal alters nothing, a call touches its own sheet alone and no byte past n, and what
 -- each gives where it is accepted.
 use Prim.Native.Nat.{ℕ, zero, suc, _≤_, _<_}
-use mathlib.Core.List.{[], _∷_}
+use mathlib.Core.List.{[]}
 use mathlib.Core.Logic.{inl, inr}
 use mathlib.Core.Path.{_≡_, refl, sym, ap, _∙_}
 use native.Mathlib.Omega.{arith}
 use lib.ListN.{length, replicate, getD-replicate}
 use Rattle.equivalence.specs.Equivalence.{Map, byte, identity}
-use Rattle.equivalence.specs.Refusal.{sizeTest}
 use Rattle.equivalence.proofs.Maps.{identity-map}
 use Rattle.equivalence.proofs.Writing.{written-old}
 use Rattle.equivalence.specs.declared.Refusal.{Refusal}
 use Rattle.algebra.specs.Algebra.{Algebra}
-use Rattle.bench.specs.Calls.{mapByAdd, lostByAdd, startCall, addCall, clearCall}
+use Rattle.bench.specs.Calls.{startTests, startCall, mapByAdd, lostByAdd, addCall, clearCall}
 use Rattle.bench.specs.Promises.{OnlySheet, StartPromise, AddPromise, ClearPromise}
 use Rattle.bench.specs.State.{mapOn, redrawn, zeroSheet, noSheet, zeroBench, freshBench, sheetOf, withSheet, withMap, raisedBy}
 use Rattle.bench.proofs.Adding.{afterAdd, add-cases, added-length, afterAdd-map, added-least, cleared-map, clear-cases}
@@ -119,15 +118,19 @@ fresh-zeros n x l h =
 pub start-promise : (n : ℕ) → StartPromise n
 unfolding startCall freshBench zeroBench
 start-promise n =
-    elim (benched-cases (sizeTest n ∷ []) (freshBench n) zeroBench) [
+    elim (benched-cases (startTests n) (freshBench n) zeroBench) [
       | inl p ↦ record {
+        size = λ f. rw (p .1);
         maps = λ f k l. rw (p .1, fresh-sheet n k l) (mapOn-redrawn n (identity n) zeroSheet (identity-map n .long));
         zeros = λ f k l x h. rw (p .1, fresh-sheet n k l) (fresh-zeros n x (size-passed n [] (p .0) .1) h);
         tally = rw (p .1);
+        refused = λ reason f. absurd (never-refused _ _ (p .1) reason f);
       }
       | inr p ↦ record {
+        size = λ f. absurd (never-done _ zeroBench (p .0) (p .1) f);
         maps = λ f. absurd (never-done _ zeroBench (p .0) (p .1) f);
         zeros = λ f. absurd (never-done _ zeroBench (p .0) (p .1) f);
         tally = rw (p .1);
+        refused = λ reason f. ap (λ (r : Benched). r .bench) (p .1);
       }
     ]

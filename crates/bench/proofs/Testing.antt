@@ -4,21 +4,22 @@ use mathlib.Core.Bool.{Bool, true, false, not, _||_}
 use mathlib.Core.List.{List, [], _∷_, _++_}
 use mathlib.Core.Logic.{_⊎_, inl, inr}
 use mathlib.Core.Path.{_≡_, refl, sym, _∙_}
-use native.Mathlib.Decide.{decLt, ℕ-discrete}
+use native.Mathlib.Decide.{decLt}
 use native.Mathlib.Omega.{arith}
 use lib.Dec.{T, eqb, ltb, eqb→eq, ltb→lt, lt→ltb}
 use lib.ListN.{length}
 use Rattle.equivalence.specs.Equivalence.{isMap}
 use Rattle.equivalence.specs.Lists.{every}
 use Rattle.equivalence.specs.Refusal.{Test, lowest, sizeTest, answered, elementsTest}
-use Rattle.equivalence.proofs.Refusals.{of-passed, lowest-append, lowest-failed}
+use Rattle.equivalence.proofs.Refusals.{lowest-none, lowest-next, lowest-here, of-passed, of-sizeTest, lowest-append, passed-append}
 use Rattle.equivalence.proofs.Tests.{not-T-of, or-left, or-right, eq→eqb}
 use Rattle.equivalence.specs.declared.Check.the-variants.{Passed, Failed}
 use Rattle.equivalence.specs.declared.Check.{Check}
 use Rattle.equivalence.specs.declared.Refusal.{Refusal}
+use Rattle.equivalence.specs.declared.Refusal.the-variants.{Tally}
 use Rattle.algebra.specs.Accepted.{algebraTests, Accepted}
 use Rattle.algebra.specs.Algebra.{Algebra}
-use Rattle.bench.specs.Calls.{sheetTest, benchTest, placeTests, addTests, clearTests, benched}
+use Rattle.bench.specs.Calls.{sheetTest, benchTest, tallyTest, placeTests, handedTests, clearTests, benched}
 use Rattle.bench.specs.State.{mapOn, sheetOf}
 use Rattle.bench.proofs.Drawing.{of-every-sheet}
 use Rattle.bench.specs.declared.Answer.the-variants.{Done, Refused}
@@ -54,13 +55,16 @@ pub benched-append : (ts rest : List Test) (new other : Bench) → lowest ts ≡
 unfolding benched
 benched-append ts rest new other e = rw (lowest-append ts rest e)
 
--- where all of two lists pass, each does
-pub passed-append : (ts rest : List Test) → lowest (ts ++ rest) ≡ Passed → (lowest ts ≡ Passed) × (lowest rest ≡ Passed)
-passed-append ts rest e = by (lowest ts) refl
-  where
-    by : (c : Check) → lowest ts ≡ c → (lowest ts ≡ Passed) × (lowest rest ≡ Passed)
-    by Passed p = (p, sym (lowest-append ts rest p) ∙ e)
-    by (Failed r) p = let f : Failed r ≡ Passed = sym (lowest-failed ts rest r p) ∙ e in let z : _≡_ {A = ℕ} 0 1 = cc in absurd (omega arith)
+-- 13 applies, or does not
+module _ (tally : ℕ) (new other : Bench) where
+  pub tally-refused : 4294967295 < tally → benched (tallyTest tally ∷ []) new other ≡ refused Tally other
+  unfolding tallyTest
+  tally-refused h = benched-failed (tallyTest tally ∷ []) new other Tally (lowest-here (tallyTest tally) [] (lt→ltb 4294967295 tally h))
+
+  pub tally-passed : tally ≤ 4294967295 → benched (tallyTest tally ∷ []) new other ≡ done new
+  unfolding tallyTest
+  tally-passed h =
+      benched-passed (tallyTest tally ∷ []) new other (lowest-next (tallyTest tally) [] (λ t. omega (arith, ltb→lt 4294967295 tally t)) ∙ lowest-none)
 
 no-or-left : (a b : Bool) → ¬ T (a || b) → ¬ T a
 no-or-left a b h t = h (or-left a b t)
@@ -73,17 +77,11 @@ no-not true h = tt
 no-not false h = absurd (h tt)
 
 pub size-passed : (n : ℕ) (rest : List Test) → lowest (sizeTest n ∷ rest) ≡ Passed → (1 ≤ n) × (n ≤ 64)
-unfolding sizeTest
-size-passed n rest e =
-    let h = of-passed _ _ e .0 in (
-      elim (ℕ-discrete n 0) [ yes z ↦ absurd (no-or-left (eqb n 0) (ltb 64 n) h (eq→eqb n 0 z)) | no z ↦ omega arith ],
-      elim (decLt 64 n) [ yes z ↦ absurd (no-or-right (eqb n 0) (ltb 64 n) h (lt→ltb 64 n z)) | no z ↦ omega arith ],
-    )
+size-passed n rest e = of-sizeTest n (of-passed _ _ e .0)
 
 -- 1 does not apply: n is small
 pub size-small : (n : ℕ) → sizeTest n .applies ≡ false → n ≤ 64
-unfolding sizeTest
-size-small n e = elim (decLt 64 n) [ yes z ↦ absurd (not-T-of e (or-right (eqb n 0) (ltb 64 n) (lt→ltb 64 n z))) | no z ↦ omega arith ]
+size-small n e = of-sizeTest n (not-T-of e) .1
 
 sheet-passed : (k : ℕ) → ¬ T (sheetTest k .applies) → k < 8
 unfolding sheetTest
@@ -144,8 +142,8 @@ pub record Addable (b : Bench) (a : Algebra) (k x y : ℕ) : Type 0 where
   pub accepted : Accepted a
   pub placed : Placed b (a .size) k x y
 
-pub add-passed : (b : Bench) (a : Algebra) (k x y : ℕ) → lowest (addTests b a k x y) ≡ Passed → Addable b a k x y
-unfolding addTests Accepted
+pub add-passed : (b : Bench) (a : Algebra) (k x y : ℕ) → lowest (handedTests b a k x y) ≡ Passed → Addable b a k x y
+unfolding handedTests Accepted
 add-passed b a k x y e =
     let p = passed-append (algebraTests a) (placeTests b (a .size) k x y) e in
     record { accepted = p .0; placed = place-passed b (a .size) k x y (p .1) }

@@ -27,14 +27,18 @@ benchTest n b = record { applies = not (eqb (b .n) n) || not (every (λ s. isMap
 unfoldable pub tallyTest : ℕ → Test
 tallyTest tally = record { applies = ltb 4294967295 tally; reason = Tally }
 
--- a call by its tests, listed by rising number: done, with the new bench; or refused, with the other
+-- a call by its tests: done, with the new bench; or refused, with the other
 unfoldable pub benched : List Test → Bench → Bench → Benched
 benched tests new other =
     answered (λ r. record { answer = Refused r; bench = other }) (lowest tests) (record { answer = Done; bench = new })
 
+-- Start's test: 1
+abbrev pub startTests : ℕ → List Test
+startTests n = sizeTest n ∷ []
+
 -- Start (1): identities and tally 0; refused, a bench of zeros
 unfoldable pub startCall : ℕ → Benched
-startCall n = benched (sizeTest n ∷ []) (freshBench n) zeroBench
+startCall n = benched (startTests n) (freshBench n) zeroBench
 
 -- the map that Add gives sheet k: the least congruence of the algebra that holds the sheet's old map and the pair
 unfoldable pub mapByAdd : Bench → Algebra → ℕ → ℕ → ℕ → Map
@@ -48,14 +52,17 @@ lostByAdd b a k x y = blocksLost (a .size) (mapOn (a .size) (sheetOf b k)) (mapB
 unfoldable pub placeTests : Bench → ℕ → ℕ → ℕ → ℕ → List Test
 placeTests b n k x y = sheetTest k ∷ elementsTest n x y ∷ benchTest n b ∷ []
 
--- the tests that Add makes before it looks for the congruence: 1 to 6 of the algebra, then 7 and 8
-unfoldable pub addTests : Bench → Algebra → ℕ → ℕ → ℕ → List Test
-addTests b a k x y = algebraTests a ++ placeTests b (a .size) k x y
+-- the tests of what Add is handed, made before it looks for the congruence: 1 to 6 of the algebra, then 7 and 8
+unfoldable pub handedTests : Bench → Algebra → ℕ → ℕ → ℕ → List Test
+handedTests b a k x y = algebraTests a ++ placeTests b (a .size) k x y
+
+-- Add's tests: those, and 13
+abbrev pub addTests : Bench → Algebra → ℕ → ℕ → ℕ → List Test
+addTests b a k x y = handedTests b a k x y ++ (tallyTest (b .tally + lostByAdd b a k x y) ∷ [])
 
 -- Add (1 to 8, 13): the sheet gets the map, and the tally rises by the blocks lost
 unfoldable pub addCall : Bench → Algebra → ℕ → ℕ → ℕ → Benched
-addCall b a k x y =
-    benched (addTests b a k x y ++ (tallyTest (b .tally + lostByAdd b a k x y) ∷ [])) (raisedBy (lostByAdd b a k x y) (withMap b k (mapByAdd b a k x y))) b
+addCall b a k x y = benched (addTests b a k x y) (raisedBy (lostByAdd b a k x y) (withMap b k (mapByAdd b a k x y))) b
 
 -- Clear's tests: 1 of the bench's own n, 7 and 8
 unfoldable pub clearTests : Bench → ℕ → List Test

@@ -6,11 +6,11 @@ use mathlib.Core.List.{List, [], _∷_}
 use mathlib.Core.Path.{_≡_}
 use lib.Dec.{T, eqb}
 use Rattle.equivalence.specs.Equivalence.{Map, identity}
-use Rattle.equivalence.specs.Refusal.{lowest, sizeTest}
+use Rattle.equivalence.specs.Refusal.{lowest}
 use Rattle.equivalence.specs.declared.Check.the-variants.{Passed}
 use Rattle.algebra.specs.Algebra.{Algebra}
 use Rattle.theory.specs.Extremal.{extended}
-use Rattle.bench.specs.Calls.{startCall, addCall, clearCall}
+use Rattle.bench.specs.Calls.{startTests, startCall, addCall, clearCall}
 use Rattle.bench.specs.Promises.{LeastExtension}
 use Rattle.bench.specs.State.{mapOn, sheetOf, blocksLost}
 use Rattle.bench.specs.declared.Answer.the-variants.{Done, Refused}
@@ -61,7 +61,7 @@ played l (c ∷ rest) = played (next l c) rest
 -- every Start in the list is accepted
 unfoldable pub StartsAccepted : List Call → Type 0
 StartsAccepted [] = Unit {0}
-StartsAccepted (Start n ∷ rest) = (lowest (sizeTest n ∷ []) ≡ Passed) × StartsAccepted rest
+StartsAccepted (Start n ∷ rest) = (lowest (startTests n) ≡ Passed) × StartsAccepted rest
 StartsAccepted (Add a k x y ∷ rest) = StartsAccepted rest
 StartsAccepted (Clear k ∷ rest) = StartsAccepted rest
 

@@ -1,5 +1,7 @@
 pub mod State
+pub mod Outcome
 pub mod Calls
+pub mod Reasons
 pub mod Promises
 pub mod Lessons
 pub mod Growth

@@ -8,7 +8,7 @@ use Rattle.equivalence.specs.declared.Refusal.{Refusal}
 use Rattle.algebra.specs.Algebra.{Algebra}
 use Rattle.algebra.specs.Congruence.{Congruence}
 use Rattle.bench.specs.Calls.{startCall, addCall, clearCall}
-use Rattle.bench.specs.State.{mapOn, sheetOf, blocksLost}
+use Rattle.bench.specs.State.{mapOn, zeroBench, sheetOf, blocksLost}
 use Rattle.bench.specs.declared.Answer.the-variants.{Done, Refused}
 use Rattle.bench.specs.declared.Bench.{Bench}
 use Rattle.bench.specs.declared.Benched.{Benched}
@@ -31,11 +31,13 @@ pub record LeastExtension (a : Algebra) (old : Map) (x y : ℕ) (new : Map) : Ty
 abbrev pub Unaltered : Bench → Benched → Type 0
 Unaltered b r = (reason : Refusal) → r .answer ≡ Refused reason → r .bench ≡ b
 
--- Start, accepted: every sheet has the identity and zeros past it, and the tally is 0
+-- Start. Accepted: the bench is over n, every sheet has the identity and zeros past it, and the tally is 0. Refused: a bench of zeros
 pub record StartPromise (n : ℕ) : Type 0 where
+  pub size : startCall n .answer ≡ Done → startCall n .bench .n ≡ n
   pub maps : startCall n .answer ≡ Done → (k : ℕ) → k < 8 → mapOn n (sheetOf (startCall n .bench) k) ≡ identity n
   pub zeros : startCall n .answer ≡ Done → (k : ℕ) → k < 8 → (x : ℕ) → n ≤ x → byte (sheetOf (startCall n .bench) k .map) x ≡ 0
   pub tally : startCall n .bench .tally ≡ 0
+  pub refused : (reason : Refusal) → startCall n .answer ≡ Refused reason → startCall n .bench ≡ zeroBench
 
 -- Add on any bench of eight sheets
 pub record AddPromise (b : Bench) (a : Algebra) (k x y : ℕ) : Type 0 where

@@ -2,9 +2,9 @@
 ghost use mathlib.Core.Path.{_≡_};
 ghost use mathlib.Core.List.{[], _∷_};
 ghost use Prim.Native.Nat.{_≤_};
-ghost use Rattle.equivalence.specs.Refusal.{lowest, sizeTest};
+ghost use Rattle.equivalence.specs.Refusal.{lowest};
 ghost use Rattle.algebra.specs.Algebra.{algebraOf};
-ghost use Rattle.bench.specs.Calls.{benchTest, clearTests, placeTests, addTests};
+ghost use Rattle.bench.specs.Calls.{startTests, benchTest, clearTests, placeTests, handedTests};
 use super::Bench;
 use super::sheets;
 use equivalence::Check;
@@ -12,9 +12,9 @@ use equivalence::Refusal;
 
 const SHEETS: usize = 8;
 
-// 1.
-pub fn size_check(n: usize) -> Check
-    ensures { λ r. ⌜ r ≡ lowest (sizeTest n ∷ []) ⌝ }
+// Start's: 1.
+pub fn start_check(n: usize) -> Check
+    ensures { λ r. ⌜ r ≡ lowest (startTests n) ⌝ }
 {
     if !equivalence::checks::is_size(n) {
         return Check::Failed(Refusal::Size);
@@ -68,8 +68,8 @@ fn place_check(bench: Bench, n: usize, sheet: usize, x: usize, y: usize) -> Chec
     bench_check(bench, n)
 }
 
-// Add's but for 13, which needs the congruence.
-pub fn add_check(
+// Add's of what it is handed: all but 13, which needs the congruence.
+pub fn handed_check(
     bench: Bench,
     n: usize,
     arities: &[u8],
@@ -78,7 +78,7 @@ pub fn add_check(
     x: usize,
     y: usize,
 ) -> Check
-    ensures { λ r. ⌜ r ≡ lowest (addTests bench (algebraOf n (now (arities .entry)) (now (cells .entry))) sheet x y) ⌝ }
+    ensures { λ r. ⌜ r ≡ lowest (handedTests bench (algebraOf n (now (arities .entry)) (now (cells .entry))) sheet x y) ⌝ }
 {
     let check = algebra::check(n, arities, cells);
     match check {

@@ -7,7 +7,7 @@ ghost use Rattle.equivalence.specs.Refusal.{lowest};
 ghost use Rattle.equivalence.specs.declared.Check.the-variants.{Passed};
 ghost use Rattle.algebra.specs.Algebra.{algebraOf};
 ghost use Rattle.bench.specs.State.{withSheet, raisedBy};
-ghost use Rattle.bench.specs.Calls.{tallyTest, benched, startCall, addTests, addCall, clearCall};
+ghost use Rattle.bench.specs.Calls.{tallyTest, benched, startCall, handedTests, addCall, clearCall};
 use equivalence::Check;
 use equivalence::Refusal;
 
@@ -43,7 +43,7 @@ pub struct Benched {
 pub fn start(n: usize) -> Benched
     ensures { λ r. ⌜ r ≡ startCall n ⌝ }
 {
-    let check = checks::size_check(n);
+    let check = checks::start_check(n);
     match check {
         Check::Failed(reason) => Benched {
             answer: Answer::Refused(reason),
@@ -88,7 +88,7 @@ fn extend(
     x: usize,
     y: usize,
 ) -> Benched
-    requires { ⌜ lowest (addTests bench (algebraOf n (now arities) (now cells)) k x y) ≡ Passed ⌝ }
+    requires { ⌜ lowest (handedTests bench (algebraOf n (now arities) (now cells)) k x y) ≡ Passed ⌝ }
     ensures { λ r. ⌜ r ≡ addCall bench (algebraOf n (now (arities .entry)) (now (cells .entry))) k x y ⌝ }
 {
     let on_bench = bench.sheets;
@@ -110,7 +110,7 @@ pub fn add(
 ) -> Benched
     ensures { λ r. ⌜ r ≡ addCall bench (algebraOf n (now (arities .entry)) (now (cells .entry))) sheet x y ⌝ }
 {
-    let check = checks::add_check(bench, n, arities, cells, sheet, x, y);
+    let check = checks::handed_check(bench, n, arities, cells, sheet, x, y);
     match check {
         Check::Failed(reason) => Benched {
             answer: Answer::Refused(reason),

@@ -68,11 +68,14 @@ pub fn cleared(bench: Bench, k: usize) -> Bench
     requires { ⌜ k < 8 ⌝ }
     ensures { λ r. ⌜ r ≡ withMap bench k (identity (bench .n)) ⌝ }
 {
-    let old = bench.sheets[k];
-    let sheet = identity_sheet(old, bench.n);
-    let mut next = bench;
-    next.sheets[k] = sheet;
-    next
+    let mut sheets = bench.sheets;
+    let old = sheets[k];
+    sheets[k] = identity_sheet(old, bench.n);
+    Bench {
+        n: bench.n,
+        tally: bench.tally,
+        sheets,
+    }
 }
 
 // One of eight sheets.

@@ -17,14 +17,14 @@ fn wide(x: u8) -> u32
 }
 
 // The number of a refusal.
-fn refused(reason: Refusal) -> u32
+pub fn refused(reason: Refusal) -> u32
     ensures { λ r. ⌜ r ≡ packed (refusal reason) ⌝ }
 {
     wide(equivalence::checks::number(reason))
 }
 
 // The number of a success with a count.
-fn succeeded(count: u8) -> u32
+pub fn succeeded(count: u8) -> u32
     ensures { λ r. ⌜ r ≡ packed (success count) ⌝ }
 {
     256 * wide(count)

@@ -1,13 +1,16 @@
 // Services that have no C function, made callable for the comparisons in tests/ (tests/PROBE.md). Only the tests link this library.
 ghost use mathlib.Core.Path.{_≡_};
 ghost use Rattle.equivalence.specs.Calls.{meetCall, joinCall};
+ghost use Rattle.equivalence.specs.Order.{placeOf};
 ghost use Rattle.algebra.specs.Algebra.{algebraOf};
 ghost use Rattle.congruence.specs.Calls.{quotientCall, certifyCall};
 ghost use Rattle.equivalence.specs.Outcome.{packed, writtenOutcome};
 ghost use Rattle.congruence.specs.Outcome.{dividedOutcome, certifiedOutcome};
-use equivalence::Place;
+ghost use Rattle.bench.specs.Calls.{startCall, addCall, clearCall};
+ghost use Rattle.probe.specs.Calls.{placeNumber, preferCopy, imageCall};
 
 mod image;
+mod numbers;
 
 // Meet: the reason.
 #[no_mangle]
@@ -29,7 +32,9 @@ pub extern "C" fn probe_join(n: usize, a: &[u8], b: &[u8], out: &mut [u8]) -> u3
 
 // Prefer: the length of the part handed back, which is copied into out as far as it fits.
 #[no_mangle]
-pub extern "C" fn probe_prefer<'a>(n: usize, a: &'a [u8], b: &'a [u8], out: &mut [u8]) -> usize {
+pub extern "C" fn probe_prefer<'a>(n: usize, a: &'a [u8], b: &'a [u8], out: &mut [u8]) -> usize
+    ensures { λ r. ⌜ (r, now (out .exit)) ≡ preferCopy n (now (a .entry)) (now (b .entry)) (now (out .entry)) ⌝ }
+{
     let part = equivalence::prefer(n, a, b);
     image::fill(out, part);
     part.len()
@@ -37,12 +42,10 @@ pub extern "C" fn probe_prefer<'a>(n: usize, a: &'a [u8], b: &'a [u8], out: &mut
 
 // The place of a pair, or 65,535.
 #[no_mangle]
-pub extern "C" fn probe_place(x: u8, y: u8) -> u32 {
-    let place = equivalence::pair_place(x, y);
-    match place {
-        Place::At(at) => image::number(at),
-        Place::Nowhere => 65535,
-    }
+pub extern "C" fn probe_place(x: u8, y: u8) -> u32
+    ensures { λ r. ⌜ r ≡ placeNumber (placeOf x y) ⌝ }
+{
+    numbers::place_number(x, y)
 }
 
 // Quotient: the reason, and 256 × blocks.
@@ -70,7 +73,9 @@ pub extern "C" fn probe_certify(n: usize, arities: &[u8], cells: &[u8], maps: &[
 
 // Start, over a bench's image: the reason, or 255 for an image of another length.
 #[no_mangle]
-pub extern "C" fn probe_bench_start(n: usize, bytes: &mut [u8]) -> u32 {
+pub extern "C" fn probe_bench_start(n: usize, bytes: &mut [u8]) -> u32
+    ensures { λ r. ⌜ (r, now (bytes .exit)) ≡ imageCall (λ _. startCall n) (now (bytes .entry)) ⌝ }
+{
     if bytes.len() != image::LENGTH {
         return 255;
     }
@@ -78,7 +83,7 @@ pub extern "C" fn probe_bench_start(n: usize, bytes: &mut [u8]) -> u32 {
     let after = done.bench;
     image::write(bytes, after);
     let answer = done.answer;
-    image::reason(answer)
+    numbers::answer_number(answer)
 }
 
 // Add, over a bench's image.
@@ -91,7 +96,9 @@ pub extern "C" fn probe_bench_add(
     sheet: usize,
     x: usize,
     y: usize,
-) -> u32 {
+) -> u32
+    ensures { λ r. ⌜ (r, now (bytes .exit)) ≡ imageCall (λ b. addCall b (algebraOf n (now (arities .entry)) (now (cells .entry))) sheet x y) (now (bytes .entry)) ⌝ }
+{
     if bytes.len() != image::LENGTH {
         return 255;
     }
@@ -100,12 +107,14 @@ pub extern "C" fn probe_bench_add(
     let after = done.bench;
     image::write(bytes, after);
     let answer = done.answer;
-    image::reason(answer)
+    numbers::answer_number(answer)
 }
 
 // Clear, over a bench's image.
 #[no_mangle]
-pub extern "C" fn probe_bench_clear(bytes: &mut [u8], sheet: usize) -> u32 {
+pub extern "C" fn probe_bench_clear(bytes: &mut [u8], sheet: usize) -> u32
+    ensures { λ r. ⌜ (r, now (bytes .exit)) ≡ imageCall (λ b. clearCall b sheet) (now (bytes .entry)) ⌝ }
+{
     if bytes.len() != image::LENGTH {
         return 255;
     }
@@ -114,5 +123,5 @@ pub extern "C" fn probe_bench_clear(bytes: &mut [u8], sheet: usize) -> u32 {
     let after = done.bench;
     image::write(bytes, after);
     let answer = done.answer;
-    image::reason(answer)
+    numbers::answer_number(answer)
 }

@@ -7,8 +7,8 @@ use Rattle.bench.proofs.Testing.{benched-failed}
 use Rattle.bench.proofs.add.Statement.{statement}
 use Rattle.bench.proofs.add.Tie as tie
 
-add-check-requires : tie.Need-add-check-requires
-add-check-requires c κs = search needs
+handed-check-requires : tie.Need-handed-check-requires
+handed-check-requires c κs = search needs
 
 enum-known-check : tie.Need-enum-known-check
 enum-known-check c = search needs
@@ -17,11 +17,11 @@ enum-told : tie.Need-enum-told
 enum-told c = search needs
 
 extend-requires : tie.Need-extend-requires
-extend-requires c κs = sym (c .before .before .add-check .ensures) ∙ c .enum-told .given .1
+extend-requires c κs = sym (c .before .before .handed-check .ensures) ∙ c .enum-told .given .1
 
 returns : tie.Need-returns
 unfolding addCall
-returns c = sym (benched-failed _ _ _ _ (lowest-failed _ _ _ (sym (c .before .before .before .add-check .ensures) ∙ c .before .check .given .1)))
+returns c = sym (benched-failed _ _ _ _ (lowest-failed _ _ _ (sym (c .before .before .before .handed-check .ensures) ∙ c .before .check .given .1)))
 
 returns-2 : tie.Need-returns-2
 returns-2 c = search needs
@@ -29,4 +29,4 @@ returns-2 c = search needs
 pub add-spec : {M : Type 1} → statement M
 add-spec =
     tie.close
-    (tie.spec add-check-requires enum-known-check enum-told extend-requires returns returns-2)
+    (tie.spec handed-check-requires enum-known-check enum-told extend-requires returns returns-2)

@@ -1,9 +1,9 @@
 -- `bench::raised` meets its contract.
+use mathlib.Core.Path.{sym}
+use native.Mathlib.Omega.{arith}
 use borrow.Author.Needs.{needs}
-use borrow.Author.Tests.{lt-ltb, le-ltb}
-use Rattle.equivalence.specs.Refusal.{lowest, answered}
-use Rattle.bench.specs.Calls.{benched, tallyTest}
 use Rattle.bench.specs.State.{raisedBy, withSheet}
+use Rattle.bench.proofs.Testing.{tally-refused, tally-passed}
 use Rattle.bench.proofs.raised.Statement.{statement}
 use Rattle.bench.proofs.raised.Tie as tie
 
@@ -14,8 +14,7 @@ add-total : tie.Need-add-total
 add-total c = search needs
 
 returns : tie.Need-returns
-unfolding benched answered lowest tallyTest
-returns c = simp (lt-ltb _ _ (c .if1 .taken))
+returns c = sym (tally-refused _ _ _ (omega arith))
 
 mul-sheet : tie.Need-mul-sheet
 mul-sheet c = search needs
@@ -27,8 +26,8 @@ cast-next : tie.Need-cast-next
 cast-next c = search needs
 
 returns-2 : tie.Need-returns-2
-unfolding benched answered lowest tallyTest raisedBy withSheet
-returns-2 c = simp (le-ltb _ _ (c .if1 .left))
+unfolding raisedBy withSheet
+returns-2 c = sym (tally-passed _ _ _ (omega arith))
 
 pub raised-spec : {M : Type 1} → statement M
 raised-spec =

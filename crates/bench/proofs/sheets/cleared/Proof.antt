@@ -1,23 +1,23 @@
 -- `bench::sheets::cleared` meets its contract.
-use borrow.Author.Needs.{needs}
 use Rattle.bench.specs.State.{withSheet, withMap, sheetOf}
+use borrow.Author.Needs.{needs}
 use Rattle.bench.proofs.sheets.cleared.Statement.{statement}
 use Rattle.bench.proofs.sheets.cleared.Tie as tie
 
 mul-old : tie.Need-mul-old
 mul-old c = search needs
 
-element-copy-out-old : tie.Need-element-copy-out-old
-element-copy-out-old c = search needs
+array-copy-out-old : tie.Need-array-copy-out-old
+array-copy-out-old c = search needs
 
 identity-sheet-requires : tie.Need-identity-sheet-requires
 identity-sheet-requires c κs = search needs
 
-mul-sheet : tie.Need-mul-sheet
-mul-sheet c = search needs
+mul-sheets : tie.Need-mul-sheets
+mul-sheets c = search needs
 
-element-set-from-sheet : tie.Need-element-set-from-sheet
-element-set-from-sheet c = search needs
+array-set-from-sheets : tie.Need-array-set-from-sheets
+array-set-from-sheets c = search needs
 
 returns : tie.Need-returns
 unfolding withMap withSheet sheetOf
@@ -28,8 +28,8 @@ cleared-spec =
     tie.close
     (tie.spec
     mul-old
-    element-copy-out-old
+    array-copy-out-old
     identity-sheet-requires
-    mul-sheet
-    element-set-from-sheet
+    mul-sheets
+    array-set-from-sheets
     returns)

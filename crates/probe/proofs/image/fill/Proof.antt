@@ -1,25 +1,29 @@
-use Prim.Native.Nat.{_≤_, _-_}
-use mathlib.Core.Path.{_≡_}
+-- `probe::image::fill` meets its contract.
+use Prim.Native.Nat.{_-_}
+use mathlib.Core.Path.{_≡_, refl}
 use native.Mathlib.Omega.{arith}
 use lib.ListN.{length, length-set}
 use borrow.Author.Needs.{needs}
+use Rattle.probe.proofs.Copies.{Copying, copying-none, copying-more, copied-whole, copied-full}
 use Rattle.probe.proofs.image.fill.Statement.{statement}
 use Rattle.probe.proofs.image.fill.Tie as tie
 
 abbrev Inv-loop : tie.InvT-loop
-Inv-loop out₀ part i₀ out i = (i ≤ length out) × (length out ≡ length out₀)
+Inv-loop out₀ part i₀ out i = (length out ≡ length out₀) × Copying part out₀ i out
 
 abbrev μ-loop : tie.MeasureT-loop
 μ-loop out₀ part i₀ out i = length out - i
 
 loop-holds : tie.Need-loop-holds Inv-loop μ-loop
-loop-holds c = search needs
+loop-holds c = (refl, copying-none _ _)
 
 same-length : tie.Need-same-length Inv-loop μ-loop
 same-length c = search needs
 
 returns : tie.Need-returns Inv-loop μ-loop
-returns c = search needs
+returns c =
+    let k = c .before .before .loop .inv .1 in
+    copied-whole _ _ _ _ k (omega (arith, k .within))
 
 shared-slice-read-out : tie.Need-shared-slice-read-out Inv-loop μ-loop
 shared-slice-read-out c = search needs
@@ -34,13 +38,17 @@ loop-less : tie.Need-loop-less Inv-loop μ-loop
 loop-less c = simp length-set (omega arith)
 
 loop-again : tie.Need-loop-again Inv-loop μ-loop
-loop-again c = (simp length-set (omega arith), simp length-set (omega arith))
+loop-again c =
+    let k = c .before .before .before .loop .inv in
+    (simp length-set (omega arith), copying-more _ _ _ _ (k .1) (omega arith) (omega (arith, k .0)) 0 _ refl)
 
 same-length-2 : tie.Need-same-length-2 Inv-loop μ-loop
 same-length-2 c = search needs
 
 returns-2 : tie.Need-returns-2 Inv-loop μ-loop
-returns-2 c = search needs
+returns-2 c =
+    let k = c .before .loop .inv in
+    copied-full _ _ _ _ (k .1) (omega (arith, k .0, k .1 .room))
 
 pub fill-spec : {M : Type 1} → statement M
 fill-spec =

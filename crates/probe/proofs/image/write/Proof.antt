@@ -1,34 +1,29 @@
-use native.Mathlib.Omega.{arith}
-use lib.ListN.{length-set}
+-- `probe::image::write` meets its contract.
 use borrow.Author.Needs.{needs}
+use Rattle.probe.proofs.Images.{image-written}
 use Rattle.probe.proofs.image.write.Statement.{statement}
 use Rattle.probe.proofs.image.write.Tie as tie
 
 write-sheets-requires : tie.Need-write-sheets-requires
 write-sheets-requires c κs = search needs
 
-write-tally-requires : tie.Need-write-tally-requires
-write-tally-requires c κs = search needs
+write-number-requires : tie.Need-write-number-requires
+write-number-requires c κs = search needs
 
-cast-bytes : tie.Need-cast-bytes
-cast-bytes c = search needs
+cast-write-number : tie.Need-cast-write-number
+cast-write-number c = search needs
 
-slice-write-bytes : tie.Need-slice-write-bytes
-slice-write-bytes c = search needs
+write-number-requires-2 : tie.Need-write-number-requires-2
+write-number-requires-2 c κs = search needs
 
 same-length : tie.Need-same-length
-same-length c = simp length-set (omega arith)
+same-length c = search needs
 
 returns : tie.Need-returns
-returns c = search needs
+returns c =
+    let t = c .before .before .before .before .before .before .before .before .before .before .before in
+    let k = t .before .before .before .before in
+    image-written (k .args .bench) _ _ _ _ (k .pre) (t .write-sheets .ensures .1) (t .write-sheets .ensures .0) (c .before .before .before .before .before .before .before .write-number .ensures) (c .before .before .write-number2 .ensures)
 
 pub write-spec : {M : Type 1} → statement M
-write-spec =
-    tie.close
-    (tie.spec
-    write-sheets-requires
-    write-tally-requires
-    cast-bytes
-    slice-write-bytes
-    same-length
-    returns)
+write-spec = tie.close (tie.spec write-sheets-requires write-number-requires cast-write-number write-number-requires-2 same-length returns)

@@ -1,56 +1,38 @@
-use Prim.Native.Nat.{_≤_, _-_}
-use mathlib.Core.Path.{_≡_}
+-- `probe::image::write_map` meets its contract.
+use Prim.Native.Nat.{_-_}
+use mathlib.Core.Path.{_≡_, ap, _∙_}
 use native.Mathlib.Omega.{arith}
-use lib.ListN.{length, length-set}
+use lib.ListN.{length}
+use borrow.Rule.Slice.PartMut.{putMid}
+use Rattle.probe.proofs.Copies.{put-laid}
 use borrow.Author.Needs.{needs}
 use Rattle.probe.proofs.image.write_map.Statement.{statement}
 use Rattle.probe.proofs.image.write_map.Tie as tie
 
-abbrev Inv-loop : tie.InvT-loop
-Inv-loop bytes₀ to map i₀ bytes i = (i ≤ 64) × (length bytes ≡ length bytes₀)
+sub-fill : tie.Need-sub-fill
+sub-fill c = search needs
 
-abbrev μ-loop : tie.MeasureT-loop
-μ-loop bytes₀ to map i₀ bytes i = 64 - i
+part-fill-start : tie.Need-part-fill-start
+part-fill-start c = search needs
 
-loop-holds : tie.Need-loop-holds Inv-loop μ-loop
-loop-holds c = search needs
+part-fill-end : tie.Need-part-fill-end
+part-fill-end c = search needs
 
-array-read-bytes : tie.Need-array-read-bytes Inv-loop μ-loop
-array-read-bytes c = search needs
+fill-requires : tie.Need-fill-requires
+fill-requires c κs = search needs
 
-add-bytes : tie.Need-add-bytes Inv-loop μ-loop
-add-bytes c = search needs
-
-slice-write-bytes : tie.Need-slice-write-bytes Inv-loop μ-loop
-slice-write-bytes c = search needs
-
-add-i : tie.Need-add-i Inv-loop μ-loop
-add-i c = search needs
-
-loop-less : tie.Need-loop-less Inv-loop μ-loop
-loop-less c = omega arith
-
-loop-again : tie.Need-loop-again Inv-loop μ-loop
-loop-again c = (omega arith, simp length-set (omega arith))
-
-same-length : tie.Need-same-length Inv-loop μ-loop
+same-length : tie.Need-same-length
 same-length c = search needs
 
-returns : tie.Need-returns Inv-loop μ-loop
-returns c = search needs
+returns : tie.Need-returns
+returns c =
+    let k = c .before .before .before .before .before .before in
+    let full : length (k .args .map .now) ≡ 64 = search needs in
+    let e =
+    ap (putMid (k .args .to) (length (k .args .bytes .now) - k .args .to) (k .args .bytes .now)) (c .before .before .fill .ensures)
+    ∙ put-laid (k .args .to) (k .args .bytes .now) (k .args .map .now) (omega (arith, k .pre)) in
+    (e, full)
 
 pub write-map-spec : {M : Type 1} → statement M
 write-map-spec =
-    tie.close
-    (tie.spec
-    Inv-loop
-    μ-loop
-    loop-holds
-    array-read-bytes
-    add-bytes
-    slice-write-bytes
-    add-i
-    loop-less
-    loop-again
-    same-length
-    returns)
+    tie.close (tie.spec sub-fill part-fill-start part-fill-end fill-requires same-length returns)

@@ -1,19 +1,22 @@
-use Prim.Native.Nat.{_≤_, _-_}
-use mathlib.Core.Path.{_≡_}
-use native.Mathlib.Omega.{arith}
+-- `probe::image::write_sheets` meets its contract.
+use Prim.Native.Nat.{_-_, _≤_}
+use mathlib.Core.Path.{_≡_, refl}
 use lib.ListN.{length}
+use Rattle.probe.specs.Steps.{SheetsLaid}
+use Rattle.probe.proofs.Images.{sheets-none, sheets-more}
+use native.Mathlib.Omega.{arith}
 use borrow.Author.Needs.{needs}
 use Rattle.probe.proofs.image.write_sheets.Statement.{statement}
 use Rattle.probe.proofs.image.write_sheets.Tie as tie
 
 abbrev Inv-loop : tie.InvT-loop
-Inv-loop bytes₀ sheets s₀ bytes s = (s ≤ 8) × (length bytes ≡ length bytes₀)
+Inv-loop bytes₀ sheets s₀ bytes s = (s ≤ 8) × (length bytes ≡ length bytes₀) × SheetsLaid s sheets bytes₀ bytes
 
 abbrev μ-loop : tie.MeasureT-loop
 μ-loop bytes₀ sheets s₀ bytes s = 8 - s
 
 loop-holds : tie.Need-loop-holds Inv-loop μ-loop
-loop-holds c = search needs
+loop-holds c = (omega arith, refl, sheets-none _ _)
 
 mul-sheet : tie.Need-mul-sheet Inv-loop μ-loop
 mul-sheet c = search needs
@@ -34,13 +37,22 @@ loop-less : tie.Need-loop-less Inv-loop μ-loop
 loop-less c = omega arith
 
 loop-again : tie.Need-loop-again Inv-loop μ-loop
-loop-again c = (omega arith, omega arith)
+loop-again c =
+    let k = c .before .before .before .before .before .before .before .before .loop in
+    let l = c .before .before .before .before .before .before .before .before .before .before .args .t2 in
+    let h = c .before .before .before .before .before .before .before .loop-test .taken in
+    let eight : length l ≡ 8 = search needs in
+    let w = c .before .before .write-map .ensures in
+    (omega arith, omega arith, sheets-more _ _ _ _ _ (k .inv .2) (omega (arith, h, eight)) (w .1) (w .0))
 
 same-length : tie.Need-same-length Inv-loop μ-loop
 same-length c = search needs
 
 returns : tie.Need-returns Inv-loop μ-loop
-returns c = search needs
+returns c =
+    let k = c .before .loop in
+    let e : k .s ≡ 8 = omega arith in
+    (rw e at (k .inv .2), search needs)
 
 pub write-sheets-spec : {M : Type 1} → statement M
 write-sheets-spec =

@@ -1,10 +1,10 @@
--- `bench::checks::size_check` meets its contract.
+-- `bench::checks::start_check` meets its contract.
 use mathlib.Core.Path.{sym, _∙_}
 use borrow.Author.Needs.{needs}
 use borrow.Author.Tests.{not-true, not-false}
 use Rattle.equivalence.specs.Refusal.{lowest, sizeTest}
-use Rattle.bench.proofs.checks.size_check.Statement.{statement}
-use Rattle.bench.proofs.checks.size_check.Tie as tie
+use Rattle.bench.proofs.checks.start_check.Statement.{statement}
+use Rattle.bench.proofs.checks.start_check.Tie as tie
 
 is-size-requires : tie.Need-is-size-requires
 is-size-requires c κs = search needs
@@ -17,5 +17,5 @@ returns-2 : tie.Need-returns-2
 unfolding lowest sizeTest
 returns-2 c = simp (not-true (sizeTest (c .before .before .args .n) .applies) (sym (c .before .is-size .ensures) ∙ not-false _ (c .if1 .left)))
 
-pub size-check-spec : {M : Type 1} → statement M
-size-check-spec = tie.close (tie.spec is-size-requires returns returns-2)
+pub start-check-spec : {M : Type 1} → statement M
+start-check-spec = tie.close (tie.spec is-size-requires returns returns-2)

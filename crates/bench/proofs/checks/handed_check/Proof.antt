@@ -1,12 +1,12 @@
--- `bench::checks::add_check` meets its contract.
+-- `bench::checks::handed_check` meets its contract.
 use mathlib.Core.Path.{sym, _∙_}
 use borrow.Author.Needs.{needs}
 use Rattle.equivalence.proofs.Refusals.{lowest-append, lowest-failed}
 use Rattle.algebra.specs.Accepted.{Accepted}
 use Rattle.algebra.proofs.Accepted.{accepted-wellFormed}
-use Rattle.bench.specs.Calls.{addTests}
-use Rattle.bench.proofs.checks.add_check.Statement.{statement}
-use Rattle.bench.proofs.checks.add_check.Tie as tie
+use Rattle.bench.specs.Calls.{handedTests}
+use Rattle.bench.proofs.checks.handed_check.Statement.{statement}
+use Rattle.bench.proofs.checks.handed_check.Tie as tie
 
 check-requires : tie.Need-check-requires
 check-requires c κs = search needs
@@ -22,14 +22,14 @@ unfolding Accepted
 place-check-requires c κs = accepted-wellFormed _ (sym (c .before .before .check .ensures) ∙ c .enum-told .given .1) .most
 
 returns : tie.Need-returns
-unfolding addTests
+unfolding handedTests
 returns c = sym (lowest-failed _ _ _ (sym (c .before .before .before .check .ensures) ∙ c .before .check2 .given .1))
 
 returns-2 : tie.Need-returns-2
-unfolding addTests
+unfolding handedTests
 returns-2 c = c .place-check .ensures ∙ sym (lowest-append _ _ (sym (c .before .before .before .check .ensures) ∙ c .before .enum-told .given .1))
 
-pub add-check-spec : {M : Type 1} → statement M
-add-check-spec =
+pub handed-check-spec : {M : Type 1} → statement M
+handed-check-spec =
     tie.close
     (tie.spec check-requires enum-known-check enum-told place-check-requires returns returns-2)

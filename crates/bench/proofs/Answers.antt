@@ -1,0 +1,73 @@
+-- The bench's answers: the tests of each call rise by rank, so a call is refused with the lowest reason among its tests, and only so; and an
+-- answer is told by its outcome.
+use Prim.Native.Nat.{ℕ}
+use mathlib.Core.List.{List}
+use mathlib.Core.Path.{_≡_, refl, sym, ap}
+use native.Mathlib.Omega.{arith}
+use lib.Dec.{T}
+use Rattle.equivalence.specs.Outcome.{Injective}
+use Rattle.equivalence.specs.Ranks.{rank, rises, ReasonRight}
+use Rattle.equivalence.specs.Refusal.{Test, numberOf, lowest, sizeTest, elementsTest, answered}
+use Rattle.equivalence.proofs.Ranks.{answered-reason}
+use Rattle.equivalence.specs.declared.Check.{Check}
+use Rattle.equivalence.specs.declared.Check.the-variants.{Passed, Failed}
+use Rattle.equivalence.specs.declared.Refusal.{Refusal}
+use Rattle.algebra.specs.Accepted.{algebraTests}
+use Rattle.algebra.specs.Algebra.{Algebra}
+use Rattle.congruence.proofs.Outcomes.{refusal-injective, success-apart}
+use Rattle.bench.specs.Calls.{sheetTest, benchTest, tallyTest, benched, startTests, startCall, placeTests, handedTests, addTests, addCall, clearTests, clearCall}
+use Rattle.bench.specs.Outcome.{answerOutcome}
+use Rattle.bench.specs.Reasons.{BenchReasons}
+use Rattle.bench.proofs.Testing.{done, refused}
+use Rattle.bench.specs.declared.Answer.{Answer}
+use Rattle.bench.specs.declared.Answer.the-variants.{Done, Refused}
+use Rattle.bench.specs.declared.Bench.{Bench}
+
+-- ---- the tests of each call rise
+
+rises-start : (n : ℕ) → T (rises (startTests n))
+unfolding rises
+rises-start n = tt
+
+rises-add : (b : Bench) (a : Algebra) (k x y : ℕ) → T (rises (addTests b a k x y))
+unfolding rises rank numberOf algebraTests sizeTest elementsTest handedTests placeTests sheetTest benchTest tallyTest
+rises-add b a k x y = tt
+
+rises-clear : (b : Bench) (k : ℕ) → T (rises (clearTests b k))
+unfolding rises rank numberOf clearTests sizeTest sheetTest benchTest
+rises-clear b k = tt
+
+-- ---- a call is refused with the lowest reason
+
+refused-apart : Injective Refused
+refused-apart r s e = cc
+
+done-never : (r : Refusal) → ¬ (Done ≡ Refused r)
+done-never r e = let z : _≡_ {A = ℕ} 0 1 = cc in omega arith
+
+answer-by : (new other : Bench) (c : Check) → answered (λ r. refused r other) c (done new) .answer ≡ answered Refused c Done
+unfolding answered
+answer-by new other Passed = refl
+answer-by new other (Failed r) = refl
+
+benched-reason : (tests : List Test) (new other : Bench) → T (rises tests) → ReasonRight Refused (benched tests new other .answer) tests
+unfolding benched
+benched-reason tests new other up = rw (answer-by new other (lowest tests)) (answered-reason Refused Done refused-apart done-never tests up)
+
+pub bench-reasons : BenchReasons
+unfolding startCall addCall clearCall
+bench-reasons =
+    record {
+      start = λ n. benched-reason (startTests n) _ _ (rises-start n);
+      add = λ b a k x y. benched-reason (addTests b a k x y) _ _ (rises-add b a k x y);
+      clear = λ b k. benched-reason (clearTests b k) _ _ (rises-clear b k);
+    }
+
+-- ---- an answer is told by its outcome
+
+pub answerOutcome-injective : Injective answerOutcome
+unfolding answerOutcome
+answerOutcome-injective Done Done e = refl
+answerOutcome-injective Done (Refused r) e = absurd (success-apart 0 r e)
+answerOutcome-injective (Refused r) Done e = absurd (success-apart 0 r (sym e))
+answerOutcome-injective (Refused r) (Refused s) e = ap Refused (refusal-injective r s e)

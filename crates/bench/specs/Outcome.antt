@@ -1,0 +1,9 @@
+-- Document 01's number and values for each case of the bench's answer.
+use Rattle.equivalence.specs.Outcome.{Outcome, success, refusal}
+use Rattle.bench.specs.declared.Answer.{Answer}
+use Rattle.bench.specs.declared.Answer.the-variants.{Done, Refused}
+
+-- Start, Add, Clear
+unfoldable pub answerOutcome : Answer → Outcome
+answerOutcome Done = success 0
+answerOutcome (Refused r) = refusal r

@@ -1,0 +1,42 @@
+-- What each function that the tests call gives: its number, and every lent byte afterwards.
+use Prim.Native.Nat.{ℕ}
+use mathlib.Core.Bool.{true, false}
+use mathlib.Core.List.{List, []}
+use lib.Dec.{eqb}
+use lib.ListN.{length, take}
+use Rattle.bench.specs.Outcome.{answerOutcome}
+use Rattle.bench.specs.declared.Bench.{Bench}
+use Rattle.bench.specs.declared.Benched.{Benched}
+use Rattle.equivalence.specs.Outcome.{packed}
+use Rattle.equivalence.specs.Calls.{preferCheck, earlierOf}
+use Rattle.equivalence.specs.Equivalence.{Map}
+use Rattle.equivalence.specs.Lent.{written}
+use Rattle.equivalence.specs.Refusal.{answered}
+use Rattle.equivalence.specs.declared.Place.{Place}
+use Rattle.equivalence.specs.declared.Place.the-variants.{At, Nowhere}
+use Rattle.probe.specs.Image.{imageOf, benchIn}
+
+-- a place, or 65,535 for none
+unfoldable pub placeNumber : Place → ℕ
+placeNumber (At place) = place
+placeNumber Nowhere = 65535
+
+-- the lent bytes with a copy of the part at their start, as far as it fits
+unfoldable pub copied : List ℕ → List ℕ → List ℕ
+copied part lent = written (take (length lent) part) lent
+
+-- the bytes of the part that Prefer hands back: the earlier map, or none
+unfoldable pub preferred : ℕ → Map → Map → List ℕ
+preferred n a b = answered (λ r. []) (preferCheck n a b) (earlierOf n a b a b)
+
+-- Prefer: the length of the part, and the lent bytes with a copy of it
+unfoldable pub preferCopy : ℕ → Map → Map → List ℕ → ℕ × List ℕ
+preferCopy n a b lent = (length (preferred n a b), copied (preferred n a b) lent)
+
+-- a call of the bench over an image: the number of its answer, and the image of the bench after it; an image of another length gives 255 and stays
+unfoldable pub imageCall : (Bench → Benched) → List ℕ → ℕ × List ℕ
+imageCall call image =
+    elim (eqb (length image) 517) [
+      | true ↦ (packed (answerOutcome (call (benchIn image) .answer)), imageOf (call (benchIn image) .bench))
+      | false ↦ (255, image)
+    ]
