@@ -2,6 +2,7 @@
 use Prim.Native.Nat.{ℕ, zero, suc, _+_, _*_, _^_}
 use mathlib.Core.List.{List, [], _∷_, map}
 use lib.ListN.{length, getD, take, drop}
+use denote.Ref.{RefT, now}
 use Rattle.equivalence.specs.Lists.{upTo, concat}
 
 -- the elements 0 to size - 1, the arity of each operation, and the cells of all tables
@@ -13,6 +14,10 @@ pub record Algebra : Type 0 where
 -- the algebra that a call is handed
 abbrev pub algebraOf : ℕ → List ℕ → List ℕ → Algebra
 algebraOf n arities cells = record { size = n; arities = arities; cells = cells }
+
+-- the same, handed in lent slices
+abbrev pub algebraIn : ℕ → RefT (List ℕ) → RefT (List ℕ) → Algebra
+algebraIn n arities cells = algebraOf n (now arities) (now cells)
 
 -- an operation: its arity and its table
 pub record Operation : Type 0 where

@@ -3,7 +3,7 @@ ghost use mathlib.Core.Path.{_≡_};
 ghost use Prim.Native.Nat.{ℕ, _^_, _≤_, _<_};
 ghost use lib.ListN.{length, getD};
 ghost use Rattle.equivalence.specs.Refusal.{lowest};
-ghost use Rattle.algebra.specs.Algebra.{algebraOf, cellCount};
+ghost use Rattle.algebra.specs.Algebra.{algebraIn, cellCount};
 ghost use Rattle.algebra.specs.Accepted.{algebraTests};
 ghost use Rattle.kernel.specs.Largest.{Larger, Largest};
 
@@ -69,7 +69,7 @@ pub fn cell_count(n: usize, arities: &[u8]) -> usize
 
 // The first of reasons 1 to 6 that applies.
 pub fn check(n: usize, arities: &[u8], cells: &[u8]) -> equivalence::Check
-    ensures { λ r. ⌜ r ≡ lowest (algebraTests (algebraOf n (now (arities .entry)) (now (cells .entry)))) ⌝ }
+    ensures { λ r. ⌜ r ≡ lowest (algebraTests (algebraIn n (arities .entry) (cells .entry))) ⌝ }
 {
     if n < 1 {
         return equivalence::Check::Failed(equivalence::Refusal::Size);

@@ -14,7 +14,7 @@ use Rattle.equivalence.specs.declared.Check.the-variants.{Passed, Failed}
 use Rattle.equivalence.specs.declared.Refusal.{Refusal}
 use Rattle.algebra.specs.Accepted.{algebraTests}
 use Rattle.algebra.specs.Algebra.{Algebra}
-use Rattle.congruence.proofs.Outcomes.{refusal-injective, success-apart}
+use Rattle.equivalence.proofs.Outcomes.{refusal-injective, success-apart}
 use Rattle.bench.specs.Calls.{sheetTest, benchTest, tallyTest, benched, startTests, startCall, placeTests, handedTests, addTests, addCall, clearTests, clearCall}
 use Rattle.bench.specs.Outcome.{answerOutcome}
 use Rattle.bench.specs.Reasons.{BenchReasons}

@@ -8,7 +8,7 @@ ghost use Rattle.equivalence.specs.Lists.{upTo, every, any, without};
 ghost use Rattle.equivalence.specs.Equivalence.{byte, isMap, isIdentity, meetAll};
 ghost use Rattle.kernel.specs.Kernel.{Canonical};
 ghost use Rattle.equivalence.specs.Order.{pairs};
-ghost use Rattle.algebra.specs.Algebra.{algebraOf};
+ghost use Rattle.algebra.specs.Algebra.{algebraIn};
 ghost use Rattle.algebra.specs.Accepted.{Accepted};
 ghost use Rattle.algebra.specs.Congruence.{Congruence, isCongruence};
 ghost use Rattle.theory.specs.Certify.{isMaximalFor, certified};
@@ -25,9 +25,9 @@ use listing::whole_into;
 
 // Whether every map is a congruence.
 fn all_congruences(n: usize, arities: &[u8], cells: &[u8], count: usize, maps: &[u8]) -> bool
-    requires { ⌜ Accepted (algebraOf n (now arities) (now cells)) ⌝ }
+    requires { ⌜ Accepted (algebraIn n arities cells) ⌝ }
     requires { ⌜ MapsListed n count (now maps) ⌝ }
-    ensures { λ r. ⌜ r ≡ every (λ m. isMap n m && isCongruence (algebraOf n (now (arities .entry)) (now (cells .entry))) m) (listing n count (now (maps .entry))) ⌝ }
+    ensures { λ r. ⌜ r ≡ every (λ m. isMap n m && isCongruence (algebraIn n (arities .entry) (cells .entry)) m) (listing n count (now (maps .entry))) ⌝ }
 {
     let mut i = 0;
     let mut at = 0;
@@ -75,13 +75,13 @@ fn meet_closure(
     y: usize,
     met: &mut [u8],
 )
-    requires { ⌜ Accepted (algebraOf n (now arities) (now cells)) ⌝ }
+    requires { ⌜ Accepted (algebraIn n arities cells) ⌝ }
     requires { ⌜ T (isMap n (now map)) ⌝ }
     requires { ⌜ x < y ⌝ }
     requires { ⌜ y < n ⌝ }
     requires { ⌜ n ≤ length (now met) ⌝ }
     requires { ⌜ Canonical n (byte (now met)) ⌝ }
-    ensures { λ _. ⌜ Shrunk (algebraOf n (now (arities .entry)) (now (cells .entry))) (now (map .entry)) (λ u v. (u ≡ x) × (v ≡ y)) (now (met .entry)) (now (met .exit)) ⌝ }
+    ensures { λ _. ⌜ Shrunk (algebraIn n (arities .entry) (cells .entry)) (now (map .entry)) (λ u v. (u ≡ x) × (v ≡ y)) (now (met .entry)) (now (met .exit)) ⌝ }
 {
     if map[x] as usize != x {
         return;
@@ -97,12 +97,12 @@ fn meet_closure(
 
 // `met` becomes its meet with the closures of the map with x and each element behind it.
 fn meet_closures(n: usize, arities: &[u8], cells: &[u8], map: &[u8], x: usize, met: &mut [u8])
-    requires { ⌜ Accepted (algebraOf n (now arities) (now cells)) ⌝ }
+    requires { ⌜ Accepted (algebraIn n arities cells) ⌝ }
     requires { ⌜ T (isMap n (now map)) ⌝ }
     requires { ⌜ x < n ⌝ }
     requires { ⌜ n ≤ length (now met) ⌝ }
     requires { ⌜ Canonical n (byte (now met)) ⌝ }
-    ensures { λ _. ⌜ Shrunk (algebraOf n (now (arities .entry)) (now (cells .entry))) (now (map .entry)) (λ u v. u ≡ x) (now (met .entry)) (now (met .exit)) ⌝ }
+    ensures { λ _. ⌜ Shrunk (algebraIn n (arities .entry) (cells .entry)) (now (map .entry)) (λ u v. u ≡ x) (now (met .entry)) (now (met .exit)) ⌝ }
 {
     let mut y = x + 1;
     while y < n {
@@ -114,10 +114,10 @@ fn meet_closures(n: usize, arities: &[u8], cells: &[u8], map: &[u8], x: usize, m
 // Whether the congruence holds some pair apart that every strictly larger one joins: whether its closures meet in more than itself. `met` is
 // working storage.
 fn is_maximal(n: usize, arities: &[u8], cells: &[u8], map: &[u8], met: &mut [u8]) -> bool
-    requires { ⌜ Accepted (algebraOf n (now arities) (now cells)) ⌝ }
-    requires { ⌜ Congruence (algebraOf n (now arities) (now cells)) (now map) ⌝ }
+    requires { ⌜ Accepted (algebraIn n arities cells) ⌝ }
+    requires { ⌜ Congruence (algebraIn n arities cells) (now map) ⌝ }
     requires { ⌜ n ≤ length (now met) ⌝ }
-    ensures { λ r. ⌜ r ≡ any (isMaximalFor (algebraOf n (now (arities .entry)) (now (cells .entry))) (now (map .entry))) (pairs n) ⌝ }
+    ensures { λ r. ⌜ r ≡ any (isMaximalFor (algebraIn n (arities .entry) (cells .entry)) (now (map .entry))) (pairs n) ⌝ }
 {
     whole_into(met, n);
     let mut x = 0;
@@ -137,11 +137,11 @@ fn all_maximal(
     maps: &[u8],
     met: &mut [u8],
 ) -> bool
-    requires { ⌜ Accepted (algebraOf n (now arities) (now cells)) ⌝ }
+    requires { ⌜ Accepted (algebraIn n arities cells) ⌝ }
     requires { ⌜ MapsListed n count (now maps) ⌝ }
-    requires { ⌜ T (every (λ m. isMap n m && isCongruence (algebraOf n (now arities) (now cells)) m) (listing n count (now maps))) ⌝ }
+    requires { ⌜ T (every (λ m. isMap n m && isCongruence (algebraIn n arities cells) m) (listing n count (now maps))) ⌝ }
     requires { ⌜ n ≤ length (now met) ⌝ }
-    ensures { λ r. ⌜ r ≡ every (λ m. any (isMaximalFor (algebraOf n (now (arities .entry)) (now (cells .entry))) m) (pairs n)) (listing n count (now (maps .entry))) ⌝ }
+    ensures { λ r. ⌜ r ≡ every (λ m. any (isMaximalFor (algebraIn n (arities .entry) (cells .entry)) m) (pairs n)) (listing n count (now (maps .entry))) ⌝ }
 {
     let mut i = 0;
     let mut at = 0;
@@ -166,11 +166,11 @@ fn certified_in(
     suffixes: &mut [u8],
     met: &mut [u8],
 ) -> bool
-    requires { ⌜ Accepted (algebraOf n (now arities) (now cells)) ⌝ }
+    requires { ⌜ Accepted (algebraIn n arities cells) ⌝ }
     requires { ⌜ MapsListed n count (now maps) ⌝ }
     requires { ⌜ length (now suffixes) ≡ 4096 ⌝ }
     requires { ⌜ length (now met) ≡ 64 ⌝ }
-    ensures { λ r. ⌜ r ≡ certified (algebraOf n (now (arities .entry)) (now (cells .entry))) (listing n count (now (maps .entry))) ⌝ }
+    ensures { λ r. ⌜ r ≡ certified (algebraIn n (arities .entry) (cells .entry)) (listing n count (now (maps .entry))) ⌝ }
 {
     if !all_congruences(n, arities, cells, count, maps) {
         return false;
@@ -195,18 +195,18 @@ fn certified_on(
     suffixes: &mut [u8; 4096],
     met: &mut [u8; 64],
 ) -> bool
-    requires { ⌜ Accepted (algebraOf n (now arities) (now cells)) ⌝ }
+    requires { ⌜ Accepted (algebraIn n arities cells) ⌝ }
     requires { ⌜ MapsListed n count (now maps) ⌝ }
-    ensures { λ r. ⌜ r ≡ certified (algebraOf n (now (arities .entry)) (now (cells .entry))) (listing n count (now (maps .entry))) ⌝ }
+    ensures { λ r. ⌜ r ≡ certified (algebraIn n (arities .entry) (cells .entry)) (listing n count (now (maps .entry))) ⌝ }
 {
     certified_in(n, arities, cells, count, maps, suffixes, met)
 }
 
 // Whether the first `count` maps are congruences that meet in the identity, none of which can be left out, each maximal for some pair.
 pub fn is_certified(n: usize, arities: &[u8], cells: &[u8], count: usize, maps: &[u8]) -> bool
-    requires { ⌜ Accepted (algebraOf n (now arities) (now cells)) ⌝ }
+    requires { ⌜ Accepted (algebraIn n arities cells) ⌝ }
     requires { ⌜ MapsListed n count (now maps) ⌝ }
-    ensures { λ r. ⌜ r ≡ certified (algebraOf n (now (arities .entry)) (now (cells .entry))) (listing n count (now (maps .entry))) ⌝ }
+    ensures { λ r. ⌜ r ≡ certified (algebraIn n (arities .entry) (cells .entry)) (listing n count (now (maps .entry))) ⌝ }
 {
     let mut suffixes = [0u8; 4096];
     let mut met = [0u8; 64];

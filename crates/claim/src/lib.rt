@@ -3,7 +3,7 @@
 ghost use mathlib.Core.Path.{_≡_};
 ghost use Prim.Native.Nat.{ℕ, _*_, _≤_, _<_};
 ghost use lib.ListN.{length, getD, take};
-ghost use Rattle.algebra.specs.Algebra.{algebraOf, cellCount};
+ghost use Rattle.algebra.specs.Algebra.{algebraOf, algebraIn, cellCount};
 ghost use Rattle.algebra.specs.Accepted.{Accepted};
 ghost use Rattle.congruence.specs.Calls.{decomposeCall};
 ghost use Rattle.claim.specs.Calls.{factorCount, eleven, factorCalls, lentAt, elevens, CallsMade, LentEnough, EveryLastCall11};
@@ -59,7 +59,7 @@ fn factor_calls(
     tables: &mut [u8],
     again: &mut [u8],
 ) -> Decomposed
-    ensures { λ r. ⌜ (r, (now (tables .exit), now (again .exit))) ≡ factorCalls (algebraOf n (now (arities .entry)) (now (cells .entry))) (now (map .entry)) (now (tables .entry), now (again .entry)) ⌝ }
+    ensures { λ r. ⌜ (r, (now (tables .exit), now (again .exit))) ≡ factorCalls (algebraIn n (arities .entry) (cells .entry)) (now (map .entry)) (now (tables .entry), now (again .entry)) ⌝ }
 {
     let divided = congruence::quotient(n, arities, cells, map, tables);
     match divided {
@@ -79,8 +79,8 @@ fn elevens_among(
     again: &mut [u8],
 ) -> usize
     requires { ⌜ count * n ≤ length (now list) ⌝ }
-    ensures { λ r. ⌜ r ≡ elevens (algebraOf n (now (arities .entry)) (now (cells .entry))) (now (list .entry)) (now (tables .entry), now (again .entry)) count ⌝ }
-    ensures { λ _. ⌜ (now (tables .exit), now (again .exit)) ≡ lentAt (algebraOf n (now (arities .entry)) (now (cells .entry))) (now (list .entry)) (now (tables .entry), now (again .entry)) count ⌝ }
+    ensures { λ r. ⌜ r ≡ elevens (algebraIn n (arities .entry) (cells .entry)) (now (list .entry)) (now (tables .entry), now (again .entry)) count ⌝ }
+    ensures { λ _. ⌜ (now (tables .exit), now (again .exit)) ≡ lentAt (algebraIn n (arities .entry) (cells .entry)) (now (list .entry)) (now (tables .entry), now (again .entry)) count ⌝ }
 {
     let mut drawn = 0;
     let mut i = 0;
@@ -104,8 +104,8 @@ pub fn factors_draw_eleven(
     tables: &mut [u8],
     again: &mut [u8],
 ) -> Drawn
-    ensures { λ r. ⌜ CallsMade (algebraOf n (now (arities .entry)) (now (cells .entry))) (now (list .entry)) (now (tables .entry), now (again .entry)) r (now (list .exit)) (now (tables .exit), now (again .exit)) ⌝ }
-    ensures { λ r. ⌜ (Accepted (algebraOf n (now (arities .entry)) (now (cells .entry))) → LentEnough (algebraOf n (now (arities .entry)) (now (cells .entry))) (now (list .entry)) (now (tables .entry), now (again .entry)) → EveryLastCall11 (algebraOf n (now (arities .entry)) (now (cells .entry))) (now (list .entry)) (now (tables .entry), now (again .entry)) r) ⌝ }
+    ensures { λ r. ⌜ CallsMade (algebraIn n (arities .entry) (cells .entry)) (now (list .entry)) (now (tables .entry), now (again .entry)) r (now (list .exit)) (now (tables .exit), now (again .exit)) ⌝ }
+    ensures { λ r. ⌜ (Accepted (algebraIn n (arities .entry) (cells .entry)) → LentEnough (algebraIn n (arities .entry) (cells .entry)) (now (list .entry)) (now (tables .entry), now (again .entry)) → EveryLastCall11 (algebraIn n (arities .entry) (cells .entry)) (now (list .entry)) (now (tables .entry), now (again .entry)) r) ⌝ }
 {
     let first = congruence::decompose(n, arities, cells, list);
     let count = factor_count(first);

@@ -7,7 +7,7 @@ ghost use Prim.Native.Nat.{ℕ, _+_, _<_, _≤_};
 ghost use lib.ListN.{length};
 ghost use Rattle.equivalence.specs.Equivalence.{byte};
 ghost use Rattle.kernel.specs.Kernel.{Canonical, names};
-ghost use Rattle.algebra.specs.Algebra.{algebraOf};
+ghost use Rattle.algebra.specs.Algebra.{algebraIn};
 ghost use Rattle.algebra.specs.Accepted.{Accepted};
 ghost use Rattle.translation.specs.Translations.{Compatible, Closed};
 ghost use Rattle.closure.specs.Starts.{JoinsPairs, Extends, Heeded, NamesListed, Apart, Tried};
@@ -25,12 +25,12 @@ fn generate_in(
     queue: &mut [u8],
     live: &mut [u8],
 ) -> usize
-    requires { ⌜ Accepted (algebraOf n (now arities) (now cells)) ⌝ }
+    requires { ⌜ Accepted (algebraIn n arities cells) ⌝ }
     requires { ⌜ n ≤ length (now m) ⌝ }
     requires { ⌜ n ≤ length (now queue) ⌝ }
     requires { ⌜ n ≤ length (now live) ⌝ }
     requires { ⌜ ((i : ℕ) → i < length (now pairs) → byte (now pairs) i < n) ⌝ }
-    ensures { λ _. ⌜ Closed (algebraOf n (now (arities .entry)) (now (cells .entry))) (JoinsPairs (now (pairs .entry))) (byte (now (m .exit))) ⌝ }
+    ensures { λ _. ⌜ Closed (algebraIn n (arities .entry) (cells .entry)) (JoinsPairs (now (pairs .entry))) (byte (now (m .exit))) ⌝ }
     ensures { λ r. ⌜ r + names n (byte (now (m .exit))) ≡ n ⌝ }
     ensures { λ _. ⌜ ((z : ℕ) → n ≤ z → byte (now (m .exit)) z ≡ byte (now (m .entry)) z) ⌝ }
 {
@@ -55,10 +55,10 @@ fn generate_in(
 
 // The first n bytes of m become the least congruence that joins the pairs of a flat list. How many merges made it.
 pub fn generate(m: &mut [u8], n: usize, arities: &[u8], cells: &[u8], pairs: &[u8]) -> usize
-    requires { ⌜ Accepted (algebraOf n (now arities) (now cells)) ⌝ }
+    requires { ⌜ Accepted (algebraIn n arities cells) ⌝ }
     requires { ⌜ n ≤ length (now m) ⌝ }
     requires { ⌜ ((i : ℕ) → i < length (now pairs) → byte (now pairs) i < n) ⌝ }
-    ensures { λ _. ⌜ Closed (algebraOf n (now (arities .entry)) (now (cells .entry))) (JoinsPairs (now (pairs .entry))) (byte (now (m .exit))) ⌝ }
+    ensures { λ _. ⌜ Closed (algebraIn n (arities .entry) (cells .entry)) (JoinsPairs (now (pairs .entry))) (byte (now (m .exit))) ⌝ }
     ensures { λ r. ⌜ r + names n (byte (now (m .exit))) ≡ n ⌝ }
     ensures { λ _. ⌜ ((z : ℕ) → n ≤ z → byte (now (m .exit)) z ≡ byte (now (m .entry)) z) ⌝ }
 {
@@ -78,14 +78,14 @@ fn extend_in(
     queue: &mut [u8],
     live: &mut [u8],
 ) -> usize
-    requires { ⌜ Accepted (algebraOf n (now arities) (now cells)) ⌝ }
+    requires { ⌜ Accepted (algebraIn n arities cells) ⌝ }
     requires { ⌜ n ≤ length (now m) ⌝ }
     requires { ⌜ n ≤ length (now queue) ⌝ }
     requires { ⌜ n ≤ length (now live) ⌝ }
     requires { ⌜ Canonical n (byte (now m)) ⌝ }
     requires { ⌜ x < n ⌝ }
     requires { ⌜ y < n ⌝ }
-    ensures { λ _. ⌜ Closed (algebraOf n (now (arities .entry)) (now (cells .entry))) (Extends n (byte (now (m .entry))) x y) (byte (now (m .exit))) ⌝ }
+    ensures { λ _. ⌜ Closed (algebraIn n (arities .entry) (cells .entry)) (Extends n (byte (now (m .entry))) x y) (byte (now (m .exit))) ⌝ }
     ensures { λ r. ⌜ r + names n (byte (now (m .exit))) ≡ names n (byte (now (m .entry))) ⌝ }
     ensures { λ _. ⌜ ((z : ℕ) → n ≤ z → byte (now (m .exit)) z ≡ byte (now (m .entry)) z) ⌝ }
 {
@@ -111,12 +111,12 @@ fn extend_in(
 
 // The map m becomes the least congruence that joins what m joins, and x and y. How many blocks that cost.
 pub fn extend(m: &mut [u8], n: usize, arities: &[u8], cells: &[u8], x: usize, y: usize) -> usize
-    requires { ⌜ Accepted (algebraOf n (now arities) (now cells)) ⌝ }
+    requires { ⌜ Accepted (algebraIn n arities cells) ⌝ }
     requires { ⌜ n ≤ length (now m) ⌝ }
     requires { ⌜ Canonical n (byte (now m)) ⌝ }
     requires { ⌜ x < n ⌝ }
     requires { ⌜ y < n ⌝ }
-    ensures { λ _. ⌜ Closed (algebraOf n (now (arities .entry)) (now (cells .entry))) (Extends n (byte (now (m .entry))) x y) (byte (now (m .exit))) ⌝ }
+    ensures { λ _. ⌜ Closed (algebraIn n (arities .entry) (cells .entry)) (Extends n (byte (now (m .entry))) x y) (byte (now (m .exit))) ⌝ }
     ensures { λ r. ⌜ r + names n (byte (now (m .exit))) ≡ names n (byte (now (m .entry))) ⌝ }
     ensures { λ _. ⌜ ((z : ℕ) → n ≤ z → byte (now (m .exit)) z ≡ byte (now (m .entry)) z) ⌝ }
 {
@@ -142,19 +142,19 @@ fn try_in(
     live: &mut [u8],
     count: usize,
 ) -> usize
-    requires { ⌜ Accepted (algebraOf n (now arities) (now cells)) ⌝ }
+    requires { ⌜ Accepted (algebraIn n arities cells) ⌝ }
     requires { ⌜ n ≤ length (now m) ⌝ }
     requires { ⌜ n ≤ length (now queue) ⌝ }
     requires { ⌜ n ≤ length (now live) ⌝ }
     requires { ⌜ Canonical n (byte (now m)) ⌝ }
-    requires { ⌜ Compatible (algebraOf n (now arities) (now cells)) (byte (now m)) ⌝ }
+    requires { ⌜ Compatible (algebraIn n arities cells) (byte (now m)) ⌝ }
     requires { ⌜ x < n ⌝ }
     requires { ⌜ y < n ⌝ }
     requires { ⌜ v < n ⌝ }
     requires { ⌜ w < n ⌝ }
-    requires { ⌜ Heeded (algebraOf n (now arities) (now cells)) (now refused) v w (byte (now m)) ⌝ }
+    requires { ⌜ Heeded (algebraIn n arities cells) (now refused) v w (byte (now m)) ⌝ }
     requires { ⌜ NamesListed n (byte (now m)) (now live) count ⌝ }
-    ensures { λ r. ⌜ Tried (algebraOf n (now (arities .entry)) (now (cells .entry))) x y v w (byte (now (m .entry))) (byte (now (m .exit))) r ⌝ }
+    ensures { λ r. ⌜ Tried (algebraIn n (arities .entry) (cells .entry)) x y v w (byte (now (m .entry))) (byte (now (m .exit))) r ⌝ }
 {
     let len = sweep::queue::join(m, n, queue, 0, x as u8, y as u8);
     rounds::close(
@@ -188,18 +188,18 @@ pub fn extend_apart(
     v: usize,
     w: usize,
 ) -> bool
-    requires { ⌜ Accepted (algebraOf n (now arities) (now cells)) ⌝ }
+    requires { ⌜ Accepted (algebraIn n arities cells) ⌝ }
     requires { ⌜ n ≤ length (now m) ⌝ }
     requires { ⌜ Canonical n (byte (now m)) ⌝ }
-    requires { ⌜ Compatible (algebraOf n (now arities) (now cells)) (byte (now m)) ⌝ }
+    requires { ⌜ Compatible (algebraIn n arities cells) (byte (now m)) ⌝ }
     requires { ⌜ 64 ≤ length (now names) ⌝ }
     requires { ⌜ NamesListed n (byte (now m)) (now names) count ⌝ }
     requires { ⌜ x < n ⌝ }
     requires { ⌜ y < n ⌝ }
     requires { ⌜ v < n ⌝ }
     requires { ⌜ w < n ⌝ }
-    requires { ⌜ Heeded (algebraOf n (now arities) (now cells)) (now refused) v w (byte (now m)) ⌝ }
-    ensures { λ r. ⌜ Apart (algebraOf n (now (arities .entry)) (now (cells .entry))) x y v w (byte (now (m .entry))) (byte (now (m .exit))) r ⌝ }
+    requires { ⌜ Heeded (algebraIn n arities cells) (now refused) v w (byte (now m)) ⌝ }
+    ensures { λ r. ⌜ Apart (algebraIn n (arities .entry) (cells .entry)) x y v w (byte (now (m .entry))) (byte (now (m .exit))) r ⌝ }
     ensures { λ _. ⌜ ((z : ℕ) → n ≤ z → byte (now (m .exit)) z ≡ byte (now (m .entry)) z) ⌝ }
 {
     let mut queue = [0u8; 64];

@@ -2,7 +2,7 @@
 ghost use Prim.Native.Nat.{_<_, _≤_};
 ghost use lib.ListN.{length};
 ghost use Rattle.equivalence.specs.Equivalence.{byte};
-ghost use Rattle.algebra.specs.Algebra.{algebraOf};
+ghost use Rattle.algebra.specs.Algebra.{algebraIn};
 ghost use Rattle.algebra.specs.Accepted.{Accepted};
 ghost use Rattle.translation.specs.Translations.{Compatible};
 ghost use Rattle.sweep.specs.Queue.{state, Ready, Grown};
@@ -56,10 +56,10 @@ pub fn close(
     requires { ⌜ Ready n start (now m) (now queue) ⌝ }
     requires { ⌜ Bounded n limit start v w (byte (now m)) ⌝ }
     requires { ⌜ Contexts n (now cells) (now live) used ⌝ }
-    requires { ⌜ Accepted (algebraOf n (now arities) (now cells)) ⌝ }
-    requires { ⌜ Begun (algebraOf n (now arities) (now cells)) (state (now m) (now queue) start) (now live) used ⌝ }
-    ensures { λ r. ⌜ Grown n (λ g. Compatible (algebraOf n (now (arities .entry)) (now (cells .entry))) g × Heeds n (now (refused .entry)) v w g) (state (now (m .entry)) (now (queue .entry)) start) (state (now (m .exit)) (now (queue .exit)) r) ⌝ }
-    ensures { λ _. ⌜ Unless v w (Compatible (algebraOf n (now (arities .entry)) (now (cells .entry)))) (byte (now (m .exit))) ⌝ }
+    requires { ⌜ Accepted (algebraIn n arities cells) ⌝ }
+    requires { ⌜ Begun (algebraIn n arities cells) (state (now m) (now queue) start) (now live) used ⌝ }
+    ensures { λ r. ⌜ Grown n (λ g. Compatible (algebraIn n (arities .entry) (cells .entry)) g × Heeds n (now (refused .entry)) v w g) (state (now (m .entry)) (now (queue .entry)) start) (state (now (m .exit)) (now (queue .exit)) r) ⌝ }
+    ensures { λ _. ⌜ Unless v w (Compatible (algebraIn n (arities .entry) (cells .entry))) (byte (now (m .exit))) ⌝ }
 {
     let mut len = start;
     let mut count = used;

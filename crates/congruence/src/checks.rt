@@ -6,7 +6,7 @@ ghost use lib.ListN.{length, getD};
 ghost use Rattle.equivalence.specs.Lists.{every};
 ghost use Rattle.equivalence.specs.Equivalence.{isMap, blocks};
 ghost use Rattle.equivalence.specs.Refusal.{lowest};
-ghost use Rattle.algebra.specs.Algebra.{algebraOf, cellCount};
+ghost use Rattle.algebra.specs.Algebra.{algebraIn, cellCount};
 ghost use Rattle.congruence.specs.Calls.{generateTests, containedTests, separateTests, quotientTests, decomposeTests, certifyTests};
 ghost use Rattle.listing.specs.Listing.{listing};
 use equivalence::Check;
@@ -28,7 +28,7 @@ fn all_below(s: &[u8], n: usize) -> bool
 
 // Generate's tests.
 pub fn generate_check(n: usize, arities: &[u8], cells: &[u8], pairs: &[u8], room: usize) -> Check
-    ensures { λ r. ⌜ r ≡ lowest (generateTests (algebraOf n (now (arities .entry)) (now (cells .entry))) (now (pairs .entry)) room) ⌝ }
+    ensures { λ r. ⌜ r ≡ lowest (generateTests (algebraIn n (arities .entry) (cells .entry)) (now (pairs .entry)) room) ⌝ }
 {
     let check = algebra::check(n, arities, cells);
     if let Check::Failed(reason) = check {
@@ -48,7 +48,7 @@ pub fn generate_check(n: usize, arities: &[u8], cells: &[u8], pairs: &[u8], room
 
 // Contained's tests.
 pub fn contained_check(n: usize, arities: &[u8], cells: &[u8], map: &[u8], room: usize) -> Check
-    ensures { λ r. ⌜ r ≡ lowest (containedTests (algebraOf n (now (arities .entry)) (now (cells .entry))) (now (map .entry)) room) ⌝ }
+    ensures { λ r. ⌜ r ≡ lowest (containedTests (algebraIn n (arities .entry) (cells .entry)) (now (map .entry)) room) ⌝ }
 {
     let check = algebra::check(n, arities, cells);
     if let Check::Failed(reason) = check {
@@ -72,7 +72,7 @@ pub fn separate_check(
     w: usize,
     room: usize,
 ) -> Check
-    ensures { λ r. ⌜ r ≡ lowest (separateTests (algebraOf n (now (arities .entry)) (now (cells .entry))) v w room) ⌝ }
+    ensures { λ r. ⌜ r ≡ lowest (separateTests (algebraIn n (arities .entry) (cells .entry)) v w room) ⌝ }
 {
     let check = algebra::check(n, arities, cells);
     if let Check::Failed(reason) = check {
@@ -106,7 +106,7 @@ fn quotient_cells(n: usize, arities: &[u8], map: &[u8]) -> usize
 
 // Quotient's tests. Space is measured by the number of blocks of the given map, whether it is a congruence or not.
 pub fn quotient_check(n: usize, arities: &[u8], cells: &[u8], map: &[u8], room: usize) -> Check
-    ensures { λ r. ⌜ r ≡ lowest (quotientTests (algebraOf n (now (arities .entry)) (now (cells .entry))) (now (map .entry)) room) ⌝ }
+    ensures { λ r. ⌜ r ≡ lowest (quotientTests (algebraIn n (arities .entry) (cells .entry)) (now (map .entry)) room) ⌝ }
 {
     let check = algebra::check(n, arities, cells);
     if let Check::Failed(reason) = check {
@@ -126,7 +126,7 @@ pub fn quotient_check(n: usize, arities: &[u8], cells: &[u8], map: &[u8], room: 
 
 // Decompose's tests but the last, 11.
 pub fn decompose_check(n: usize, arities: &[u8], cells: &[u8], room: usize) -> Check
-    ensures { λ r. ⌜ r ≡ lowest (decomposeTests (algebraOf n (now (arities .entry)) (now (cells .entry))) room) ⌝ }
+    ensures { λ r. ⌜ r ≡ lowest (decomposeTests (algebraIn n (arities .entry) (cells .entry)) room) ⌝ }
 {
     let check = algebra::check(n, arities, cells);
     if let Check::Failed(reason) = check {
@@ -158,7 +158,7 @@ fn all_maps(n: usize, count: usize, maps: &[u8]) -> bool
 
 // Certify's tests.
 pub fn certify_check(n: usize, arities: &[u8], cells: &[u8], maps: &[u8]) -> Check
-    ensures { λ r. ⌜ r ≡ lowest (certifyTests (algebraOf n (now (arities .entry)) (now (cells .entry))) (now (maps .entry))) ⌝ }
+    ensures { λ r. ⌜ r ≡ lowest (certifyTests (algebraIn n (arities .entry) (cells .entry)) (now (maps .entry))) ⌝ }
 {
     let check = algebra::check(n, arities, cells);
     if let Check::Failed(reason) = check {

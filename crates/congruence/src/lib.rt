@@ -1,6 +1,6 @@
 // The services over an algebra: the congruences they give, the answers and the lent bytes.
 ghost use mathlib.Core.Path.{_≡_};
-ghost use Rattle.algebra.specs.Algebra.{algebraOf};
+ghost use Rattle.algebra.specs.Algebra.{algebraIn};
 ghost use Rattle.congruence.specs.Calls.{decomposeCall, generateCall, containedCall, separateCall, quotientCall, certifyCall};
 use decomposition::Found;
 use equivalence::Check;
@@ -38,7 +38,7 @@ pub enum Certified {
 // flat list; equal and repeated pairs are allowed, each pair in either order, and no pairs give the identity. Reasons to decline: 1 to 7 and 9; then
 // nothing is written.
 pub fn generate(n: usize, arities: &[u8], cells: &[u8], pairs: &[u8], out: &mut [u8]) -> Generated
-    ensures { λ r. ⌜ (r, now (out .exit)) ≡ generateCall (algebraOf n (now (arities .entry)) (now (cells .entry))) (now (pairs .entry)) (now (out .entry)) ⌝ }
+    ensures { λ r. ⌜ (r, now (out .exit)) ≡ generateCall (algebraIn n (arities .entry) (cells .entry)) (now (pairs .entry)) (now (out .entry)) ⌝ }
 {
     let check = checks::generate_check(n, arities, cells, pairs, out.len());
     if let Check::Failed(reason) = check {
@@ -50,7 +50,7 @@ pub fn generate(n: usize, arities: &[u8], cells: &[u8], pairs: &[u8], out: &mut 
 // The greatest congruence inside the map goes to the first n bytes of out. The map that joins everything is allowed, and a congruence gives itself.
 // Reasons to decline: 1 to 6, 8 and 9; then nothing is written.
 pub fn contained(n: usize, arities: &[u8], cells: &[u8], map: &[u8], out: &mut [u8]) -> Written
-    ensures { λ r. ⌜ (r, now (out .exit)) ≡ containedCall (algebraOf n (now (arities .entry)) (now (cells .entry))) (now (map .entry)) (now (out .entry)) ⌝ }
+    ensures { λ r. ⌜ (r, now (out .exit)) ≡ containedCall (algebraIn n (arities .entry) (cells .entry)) (now (map .entry)) (now (out .entry)) ⌝ }
 {
     let check = checks::contained_check(n, arities, cells, map, out.len());
     if let Check::Failed(reason) = check {
@@ -71,7 +71,7 @@ pub fn separate(
     w: usize,
     out: &mut [u8],
 ) -> Written
-    ensures { λ r. ⌜ (r, now (out .exit)) ≡ separateCall (algebraOf n (now (arities .entry)) (now (cells .entry))) v w (now (out .entry)) ⌝ }
+    ensures { λ r. ⌜ (r, now (out .exit)) ≡ separateCall (algebraIn n (arities .entry) (cells .entry)) v w (now (out .entry)) ⌝ }
 {
     let check = checks::separate_check(n, arities, cells, v, w, out.len());
     if let Check::Failed(reason) = check {
@@ -85,7 +85,7 @@ pub fn separate(
 // are numbered from 0 by smallest member. Reasons to decline: 1 to 6, 8, 9 and 12, where 9 goes by the number of blocks of the given map, whether it is
 // a congruence or not; then nothing is written.
 pub fn quotient(n: usize, arities: &[u8], cells: &[u8], map: &[u8], out: &mut [u8]) -> Divided
-    ensures { λ r. ⌜ (r, now (out .exit)) ≡ quotientCall (algebraOf n (now (arities .entry)) (now (cells .entry))) (now (map .entry)) (now (out .entry)) ⌝ }
+    ensures { λ r. ⌜ (r, now (out .exit)) ≡ quotientCall (algebraIn n (arities .entry) (cells .entry)) (now (map .entry)) (now (out .entry)) ⌝ }
 {
     let check = checks::quotient_check(n, arities, cells, map, out.len());
     if let Check::Failed(reason) = check {
@@ -99,7 +99,7 @@ pub fn quotient(n: usize, arities: &[u8], cells: &[u8], map: &[u8], out: &mut [u
 // first pair common to all congruences but the identity, 0 and 0 for n = 1, and nothing is written. Reasons to decline besides: 1 to 6, and 9 where
 // fewer than (n − 1) × n bytes are lent; then nothing is written either.
 pub fn decompose(n: usize, arities: &[u8], cells: &[u8], out: &mut [u8]) -> Decomposed
-    ensures { λ r. ⌜ (r, now (out .exit)) ≡ decomposeCall (algebraOf n (now (arities .entry)) (now (cells .entry))) (now (out .entry)) ⌝ }
+    ensures { λ r. ⌜ (r, now (out .exit)) ≡ decomposeCall (algebraIn n (arities .entry) (cells .entry)) (now (out .entry)) ⌝ }
 {
     let check = checks::decompose_check(n, arities, cells, out.len());
     if let Check::Failed(reason) = check {
@@ -116,7 +116,7 @@ pub fn decompose(n: usize, arities: &[u8], cells: &[u8], out: &mut [u8]) -> Deco
 // The empty list meets in the map with one block. Reasons to decline: 1 to 6, and 8 for a length that is no multiple of n, for more than 63 maps and
 // for a member that is no map.
 pub fn certify(n: usize, arities: &[u8], cells: &[u8], maps: &[u8]) -> Certified
-    ensures { λ r. ⌜ r ≡ certifyCall (algebraOf n (now (arities .entry)) (now (cells .entry))) (now (maps .entry)) ⌝ }
+    ensures { λ r. ⌜ r ≡ certifyCall (algebraIn n (arities .entry) (cells .entry)) (now (maps .entry)) ⌝ }
 {
     let check = checks::certify_check(n, arities, cells, maps);
     if let Check::Failed(reason) = check {

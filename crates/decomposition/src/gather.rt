@@ -5,7 +5,7 @@ ghost use Prim.Native.Nat.{_≤_};
 ghost use lib.ListN.{length};
 ghost use Rattle.equivalence.specs.Equivalence.{byte, isIdentity};
 ghost use Rattle.kernel.specs.Kernel.{Canonical};
-ghost use Rattle.algebra.specs.Algebra.{algebraOf};
+ghost use Rattle.algebra.specs.Algebra.{algebraIn};
 ghost use Rattle.algebra.specs.Accepted.{Accepted};
 ghost use Rattle.theory.specs.Decompose.{factorSpace};
 ghost use Rattle.equivalence.specs.Order.{firstHeld};
@@ -25,12 +25,12 @@ pub enum Collected {
 
 // One congruence more: the one that Separate gives for the first pair of `met` goes to `map`, and is met unless it is the identity. Whether it is.
 fn add(n: usize, arities: &[u8], cells: &[u8], met: &mut [u8], map: &mut [u8]) -> bool
-    requires { ⌜ Accepted (algebraOf n (now arities) (now cells)) ⌝ }
+    requires { ⌜ Accepted (algebraIn n arities cells) ⌝ }
     requires { ⌜ n ≤ length (now met) ⌝ }
     requires { ⌜ Canonical n (byte (now met)) ⌝ }
     requires { ⌜ isIdentity n (now met) ≡ false ⌝ }
     requires { ⌜ n ≤ length (now map) ⌝ }
-    ensures { λ r. ⌜ Step (algebraOf n (now (arities .entry)) (now (cells .entry))) (now (met .entry)) (now (map .entry)) r (now (met .exit)) (now (map .exit)) ⌝ }
+    ensures { λ r. ⌜ Step (algebraIn n (arities .entry) (cells .entry)) (now (met .entry)) (now (map .entry)) r (now (met .exit)) (now (map .exit)) ⌝ }
 {
     let pair = first_held(n, met);
     separated_into(n, arities, cells, pair.x, pair.y, map);
@@ -56,11 +56,11 @@ fn common(n: usize, met: &[u8]) -> Collected
 
 // Gathers until the meet is the identity, in stretches of `maps`, or until Separate gives the identity. `met` is working storage.
 pub fn gather(n: usize, arities: &[u8], cells: &[u8], met: &mut [u8], maps: &mut [u8]) -> Collected
-    requires { ⌜ Accepted (algebraOf n (now arities) (now cells)) ⌝ }
+    requires { ⌜ Accepted (algebraIn n arities cells) ⌝ }
     requires { ⌜ 2 ≤ n ⌝ }
     requires { ⌜ n ≤ length (now met) ⌝ }
     requires { ⌜ factorSpace n ≤ length (now maps) ⌝ }
-    ensures { λ r. ⌜ GatheredRight (algebraOf n (now (arities .entry)) (now (cells .entry))) r (now (maps .entry)) (now (maps .exit)) ⌝ }
+    ensures { λ r. ⌜ GatheredRight (algebraIn n (arities .entry) (cells .entry)) r (now (maps .entry)) (now (maps .exit)) ⌝ }
 {
     whole_into(met, n);
     let mut count = 0;

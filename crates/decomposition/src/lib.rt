@@ -3,7 +3,7 @@
 ghost use mathlib.Core.Path.{_≡_};
 ghost use Prim.Native.Nat.{_≤_};
 ghost use lib.ListN.{length};
-ghost use Rattle.algebra.specs.Algebra.{algebraOf};
+ghost use Rattle.algebra.specs.Algebra.{algebraIn};
 ghost use Rattle.algebra.specs.Accepted.{Accepted};
 ghost use Rattle.theory.specs.Decompose.{factorSpace};
 ghost use Rattle.decomposition.specs.Factored.{Factored};
@@ -31,13 +31,13 @@ fn factors_in(
     met: &mut [u8],
     out: &mut [u8],
 ) -> Found
-    requires { ⌜ Accepted (algebraOf n (now arities) (now cells)) ⌝ }
+    requires { ⌜ Accepted (algebraIn n arities cells) ⌝ }
     requires { ⌜ 2 ≤ n ⌝ }
     requires { ⌜ length (now maps) ≡ 4032 ⌝ }
     requires { ⌜ length (now suffixes) ≡ 4096 ⌝ }
     requires { ⌜ length (now met) ≡ 64 ⌝ }
     requires { ⌜ factorSpace n ≤ length (now out) ⌝ }
-    ensures { λ r. ⌜ Factored (algebraOf n (now (arities .entry)) (now (cells .entry))) r (now (out .entry)) (now (out .exit)) ⌝ }
+    ensures { λ r. ⌜ Factored (algebraIn n (arities .entry) (cells .entry)) r (now (out .entry)) (now (out .exit)) ⌝ }
 {
     let found = gather(n, arities, cells, met, maps);
     match found {
@@ -59,10 +59,10 @@ fn factors_on(
     met: &mut [u8; 64],
     out: &mut [u8],
 ) -> Found
-    requires { ⌜ Accepted (algebraOf n (now arities) (now cells)) ⌝ }
+    requires { ⌜ Accepted (algebraIn n arities cells) ⌝ }
     requires { ⌜ 2 ≤ n ⌝ }
     requires { ⌜ factorSpace n ≤ length (now out) ⌝ }
-    ensures { λ r. ⌜ Factored (algebraOf n (now (arities .entry)) (now (cells .entry))) r (now (out .entry)) (now (out .exit)) ⌝ }
+    ensures { λ r. ⌜ Factored (algebraIn n (arities .entry) (cells .entry)) r (now (out .entry)) (now (out .exit)) ⌝ }
 {
     factors_in(n, arities, cells, maps, suffixes, met, out)
 }
@@ -70,9 +70,9 @@ fn factors_on(
 // The factors go to the start of out, one map after the other, and their count is the answer; an irreducible algebra is answered with its pair,
 // 0 and 0 for n = 1, and nothing is written.
 pub fn factors(n: usize, arities: &[u8], cells: &[u8], out: &mut [u8]) -> Found
-    requires { ⌜ Accepted (algebraOf n (now arities) (now cells)) ⌝ }
+    requires { ⌜ Accepted (algebraIn n arities cells) ⌝ }
     requires { ⌜ factorSpace n ≤ length (now out) ⌝ }
-    ensures { λ r. ⌜ Factored (algebraOf n (now (arities .entry)) (now (cells .entry))) r (now (out .entry)) (now (out .exit)) ⌝ }
+    ensures { λ r. ⌜ Factored (algebraIn n (arities .entry) (cells .entry)) r (now (out .entry)) (now (out .exit)) ⌝ }
 {
     if n < 2 {
         return Found::Irreducible(Element(0), Element(0));

@@ -1,4 +1,4 @@
--- Bytes laid one stretch after the other, and the walk over the blocks of a first argument: what holds before the first block, what one
+-- Stretches laid one after the other, and the walk over the blocks of a first argument: what holds before the first block, what one
 -- block more adds, and that all of them make the table.
 use Prim.Native.Nat.{ℕ, zero, suc, _+_, _*_, _^_, _≤_, _<_}
 use mathlib.Core.Path.{_≡_, refl, sym, ap, _∙_}
@@ -11,35 +11,10 @@ use lib.Seq.{take-at, drop-at, drop-drop, length-take-le, set-split}
 use Rattle.algebra.proofs.Powers.{power-one}
 use Rattle.equivalence.specs.Equivalence.{byte}
 use Rattle.equivalence.specs.Lists.{upTo, concat}
-use Rattle.equivalence.specs.Lent.{written, laid}
+use Rattle.equivalence.specs.Lent.{laid}
+use Rattle.equivalence.proofs.Laying.{laid-nothing, laid-length, laid-laid}
 use Rattle.equivalence.proofs.Stretches.{concat-append, stretches}
 use Rattle.division.specs.Tables.{joined, cellDivided, rowDivided, Source, divided, Sound, Fits, RowFits}
-
--- nothing laid
-pub laid-none : (lent : List ℕ) (at : ℕ) → laid lent at [] ≡ lent
-unfolding laid written
-laid-none lent at = take-append-drop at lent
-
--- one byte laid is a store
-pub laid-one : (lent : List ℕ) (at v : ℕ) → at < length lent → set lent at v ≡ laid lent at (v ∷ [])
-unfolding laid written
-laid-one lent at v l = set-split lent at v l ∙ ap (λ (r : List ℕ). take at lent ++ (v ∷ r)) (sym (drop-drop 1 at lent ∙ ap (λ (k : ℕ). drop k lent) (add-one at)))
-
-pub laid-long : (lent : List ℕ) (at : ℕ) (new : List ℕ) → at + length new ≤ length lent → length (laid lent at new) ≡ length lent
-unfolding laid written
-laid-long lent at new h = simp (length-append, length-take, length-drop) (omega arith)
-
--- a stretch laid behind another
-pub laid-laid : (lent : List ℕ) (at : ℕ) (one two : List ℕ) → at + length one ≤ length lent
-    → laid (laid lent at one) (at + length one) two ≡ laid lent at (one ++ two)
-unfolding laid written
-laid-laid lent at one two h =
-    let front : List ℕ = take at lent ++ one in
-    let back : List ℕ = drop (length one) (drop at lent) in
-    let e : take at lent ++ (one ++ back) ≡ front ++ back = sym (append-assoc (take at lent) one back) in
-    let w : length front ≡ at + length one = length-append (take at lent) one ∙ ap (λ (k : ℕ). k + length one) (length-take-le at lent (omega arith)) in
-    rw (e, take-at front back (at + length one) w, drop-at front back (at + length one) w, drop-drop (length two) (length one) (drop at lent), length-append one two)
-    (append-assoc (take at lent) one (two ++ drop (length one + length two) (drop at lent)) ∙ ap (λ (r : List ℕ). take at lent ++ r) (sym (append-assoc one two (drop (length one + length two) (drop at lent)))))
 
 -- ---- stretches g 0, g 1 and so on, laid from `to` on
 
@@ -61,7 +36,7 @@ pub laid-start : (g : ℕ → List ℕ) (lent : List ℕ) (to : ℕ) → Laid g 
 laid-start g lent to = record {
   place = rw (joined-none g) (omega arith);
   long = refl;
-  laid = rw (joined-none g) (sym (laid-none lent to));
+  laid = rw (joined-none g) (sym (laid-nothing lent to));
 }
 
 pub laid-more : {g : ℕ → List ℕ} {lent : List ℕ} {to : ℕ} {out : List ℕ} {k at : ℕ} (out′ : List ℕ) → Laid g lent to out k at → at + length (g k) ≤ length lent
@@ -70,7 +45,7 @@ laid-more {g} {lent} {to} {out} {k} {at} out′ s h e =
     let more : joined g (k + 1) ≡ joined g k ++ g k = ap (joined g) (add-one k) ∙ joined-more g k in
     record {
       place = rw more (omega (arith, s .place, length-append (joined g k) (g k)));
-      long = ap length e ∙ laid-long out at (g k) (omega (arith, s .long)) ∙ s .long;
+      long = ap length e ∙ laid-length out at (g k) (omega (arith, s .long)) ∙ s .long;
       laid = rw more (e ∙ rw (s .laid, s .place) (laid-laid lent to (joined g k) (g k) (omega (arith, s .place))));
     }
 

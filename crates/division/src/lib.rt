@@ -5,7 +5,7 @@ ghost use lib.Dec.{T};
 ghost use lib.ListN.{length};
 ghost use Rattle.equivalence.specs.Equivalence.{isMap, blocks};
 ghost use Rattle.equivalence.specs.Lent.{written};
-ghost use Rattle.algebra.specs.Algebra.{algebraOf, cellCount};
+ghost use Rattle.algebra.specs.Algebra.{algebraIn, cellCount};
 ghost use Rattle.algebra.specs.Accepted.{Accepted};
 ghost use Rattle.division.specs.Quotient.{quotientCells};
 
@@ -18,10 +18,10 @@ pub struct Block(pub u8);
 // Writes the quotient's tables at the start of `out` and gives the number of blocks. For a map that is no congruence the tables are those
 // at the smallest members.
 pub fn divide(n: usize, arities: &[u8], cells: &[u8], map: &[u8], out: &mut [u8]) -> u8
-    requires { ⌜ Accepted (algebraOf n (now arities) (now cells)) ⌝ }
+    requires { ⌜ Accepted (algebraIn n arities cells) ⌝ }
     requires { ⌜ T (isMap n (now map)) ⌝ }
     requires { ⌜ cellCount (blocks n (now map)) (now arities) ≤ length (now out) ⌝ }
-    ensures { λ r. ⌜ now (out .exit) ≡ written (quotientCells (algebraOf n (now (arities .entry)) (now (cells .entry))) (now (map .entry))) (now (out .entry)) ⌝ }
+    ensures { λ r. ⌜ now (out .exit) ≡ written (quotientCells (algebraIn n (arities .entry) (cells .entry)) (now (map .entry))) (now (out .entry)) ⌝ }
     ensures { λ r. ⌜ r ≡ blocks n (now (map .entry)) ⌝ }
 {
     let mut block_numbers = [0; 64];

@@ -7,10 +7,12 @@ pub mod Earlier
 pub mod Foremost
 pub mod Joining
 pub mod Joins
+pub mod Laying
 pub mod Lists
 pub mod Maps
 pub mod Meeting
 pub mod Meets
+pub mod Outcomes
 pub mod Pairs
 pub mod Places
 pub mod Ranks

@@ -6,17 +6,17 @@ ghost use lib.ListN.{length, take};
 ghost use Rattle.equivalence.specs.Equivalence.{byte, isMap, blocks};
 ghost use Rattle.kernel.specs.Kernel.{Canonical};
 ghost use Rattle.equivalence.specs.Lent.{written};
-ghost use Rattle.algebra.specs.Algebra.{algebraOf};
+ghost use Rattle.algebra.specs.Algebra.{algebraIn};
 ghost use Rattle.algebra.specs.Accepted.{Accepted};
 ghost use Rattle.theory.specs.Extremal.{generated, extended, contained, separated};
 
 // The least congruence that holds the pairs of a flat list goes to out. How many merges made it.
 pub fn generated_into(n: usize, arities: &[u8], cells: &[u8], pairs: &[u8], out: &mut [u8]) -> u8
-    requires { ⌜ Accepted (algebraOf n (now arities) (now cells)) ⌝ }
+    requires { ⌜ Accepted (algebraIn n arities cells) ⌝ }
     requires { ⌜ ((i : ℕ) → i < length (now pairs) → byte (now pairs) i < n) ⌝ }
     requires { ⌜ n ≤ length (now out) ⌝ }
-    ensures { λ _. ⌜ now (out .exit) ≡ written (generated (algebraOf n (now (arities .entry)) (now (cells .entry))) (now (pairs .entry))) (now (out .entry)) ⌝ }
-    ensures { λ r. ⌜ r ≡ n - blocks n (generated (algebraOf n (now (arities .entry)) (now (cells .entry))) (now (pairs .entry))) ⌝ }
+    ensures { λ _. ⌜ now (out .exit) ≡ written (generated (algebraIn n (arities .entry) (cells .entry)) (now (pairs .entry))) (now (out .entry)) ⌝ }
+    ensures { λ r. ⌜ r ≡ n - blocks n (generated (algebraIn n (arities .entry) (cells .entry)) (now (pairs .entry))) ⌝ }
 {
     closure::generate(out, n, arities, cells, pairs) as u8
 }
@@ -30,23 +30,23 @@ pub fn extended_into(
     x: usize,
     y: usize,
 ) -> usize
-    requires { ⌜ Accepted (algebraOf n (now arities) (now cells)) ⌝ }
+    requires { ⌜ Accepted (algebraIn n arities cells) ⌝ }
     requires { ⌜ n ≤ length (now m) ⌝ }
     requires { ⌜ Canonical n (byte (now m)) ⌝ }
     requires { ⌜ x < n ⌝ }
     requires { ⌜ y < n ⌝ }
-    ensures { λ _. ⌜ now (m .exit) ≡ written (extended (algebraOf n (now (arities .entry)) (now (cells .entry))) (take n (now (m .entry))) x y) (now (m .entry)) ⌝ }
-    ensures { λ r. ⌜ r + blocks n (extended (algebraOf n (now (arities .entry)) (now (cells .entry))) (take n (now (m .entry))) x y) ≡ blocks n (take n (now (m .entry))) ⌝ }
+    ensures { λ _. ⌜ now (m .exit) ≡ written (extended (algebraIn n (arities .entry) (cells .entry)) (take n (now (m .entry))) x y) (now (m .entry)) ⌝ }
+    ensures { λ r. ⌜ r + blocks n (extended (algebraIn n (arities .entry) (cells .entry)) (take n (now (m .entry))) x y) ≡ blocks n (take n (now (m .entry))) ⌝ }
 {
     closure::extend(m, n, arities, cells, x, y)
 }
 
 // The greatest congruence inside a map goes to out.
 pub fn contained_into(n: usize, arities: &[u8], cells: &[u8], map: &[u8], out: &mut [u8])
-    requires { ⌜ Accepted (algebraOf n (now arities) (now cells)) ⌝ }
+    requires { ⌜ Accepted (algebraIn n arities cells) ⌝ }
     requires { ⌜ T (isMap n (now map)) ⌝ }
     requires { ⌜ n ≤ length (now out) ⌝ }
-    ensures { λ _. ⌜ now (out .exit) ≡ written (contained (algebraOf n (now (arities .entry)) (now (cells .entry))) (now (map .entry))) (now (out .entry)) ⌝ }
+    ensures { λ _. ⌜ now (out .exit) ≡ written (contained (algebraIn n (arities .entry) (cells .entry)) (now (map .entry))) (now (out .entry)) ⌝ }
 {
     equivalence::blocks::copy(map, out, n);
     refinement::refine(out, n, arities, cells);
@@ -54,12 +54,12 @@ pub fn contained_into(n: usize, arities: &[u8], cells: &[u8], map: &[u8], out: &
 
 // The earliest congruence that holds v and w apart goes to out.
 pub fn separated_into(n: usize, arities: &[u8], cells: &[u8], v: usize, w: usize, out: &mut [u8])
-    requires { ⌜ Accepted (algebraOf n (now arities) (now cells)) ⌝ }
+    requires { ⌜ Accepted (algebraIn n arities cells) ⌝ }
     requires { ⌜ v < n ⌝ }
     requires { ⌜ w < n ⌝ }
     requires { ⌜ (v ≡ w → ⊥) ⌝ }
     requires { ⌜ n ≤ length (now out) ⌝ }
-    ensures { λ _. ⌜ now (out .exit) ≡ written (separated (algebraOf n (now (arities .entry)) (now (cells .entry))) v w) (now (out .entry)) ⌝ }
+    ensures { λ _. ⌜ now (out .exit) ≡ written (separated (algebraIn n (arities .entry) (cells .entry)) v w) (now (out .entry)) ⌝ }
 {
     separation::separate(n, arities, cells, v, w, out);
 }

@@ -22,7 +22,7 @@ use Rattle.equivalence.proofs.Stretches.{concat-append, stretch-concat}
 use Rattle.equivalence.proofs.Tests.{T?, true-is, false-is}
 use Rattle.equivalence.proofs.Writing.{filled-written}
 use Rattle.listing.specs.Listing.{listing, MapsListed}
-use Rattle.division.proofs.Walks.{laid-laid}
+use Rattle.equivalence.proofs.Laying.{laid-laid}
 use borrow.Rule.Slice.PartMut.{putMid, midOf}
 
 -- ---- slices that begin with the same n bytes: a map, and a slice that begins with it

@@ -14,7 +14,7 @@ use Rattle.equivalence.proofs.Maps.{IsMap, whole-map}
 use Rattle.equivalence.proofs.Meets.{meet-map, meetAll-map}
 use Rattle.listing.specs.Listing.{listing, MapsListed, SuffixMeets}
 use Rattle.listing.proofs.Listings.{Begins, begins-is, begins-written, begins-canonical, begins-meet, meet-comm, listing-length, listing-from, listed-map, listed-room, listed-begins, laid-stretch, laid-later}
-use Rattle.division.proofs.Walks.{laid-long}
+use Rattle.equivalence.proofs.Laying.{laid-length}
 
 pub record Suffixes (n k : ℕ) (maps : List ℕ) (i at : ℕ) (met bytes : List ℕ) : Type 0 where
   pub listed : MapsListed n k maps
@@ -33,7 +33,7 @@ suffixes-start {n} {k} {maps} lent met p room e f =
     let none : drop k (listing n k maps) ≡ [] = drop-of-length-le (listing n k maps) {i = k} (omega (arith, listing-length n k maps)) in
     record {
       listed = p;
-      room = rw (f, laid-long lent (k * n) (whole n) (omega (arith, w .long))) room;
+      room = rw (f, laid-length lent (k * n) (whole n) (omega (arith, w .long))) room;
       upto = omega arith;
       place = refl;
       meets = rw none (begins-written (whole n) met e w);
@@ -82,7 +82,7 @@ module _ {n k : ℕ} {maps : List ℕ} {i at : ℕ} {met bytes : List ℕ} (s : 
         ∙ ap (meetAll n) (sym (listing-from n k maps (i - 1) one-less)) in
         record {
           listed = s .listed;
-          room = rw (f, laid-long bytes (at - n) m (omega (arith, t .long, suffixes-fits .1))) (s .room);
+          room = rw (f, laid-length bytes (at - n) m (omega (arith, t .long, suffixes-fits .1))) (s .room);
           upto = omega (arith, s .upto);
           place = suffixes-place;
           meets = begins-is (begins-written m met e t) new;

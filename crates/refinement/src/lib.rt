@@ -6,7 +6,7 @@ ghost use lib.ListN.{length};
 ghost use Rattle.equivalence.specs.Equivalence.{byte, isMap};
 ghost use Rattle.kernel.specs.Kernel.{Canonical};
 ghost use Rattle.algebra.specs.Accepted.{Accepted};
-ghost use Rattle.algebra.specs.Algebra.{algebraOf};
+ghost use Rattle.algebra.specs.Algebra.{algebraIn};
 ghost use Rattle.algebra.specs.Congruence.{isCongruence};
 ghost use Rattle.translation.specs.Translations.{Refined};
 ghost use Rattle.refinement.specs.Splitting.{Lists, Represented};
@@ -25,12 +25,12 @@ fn refine_by(
     others: &mut [u8],
     start: usize,
 )
-    requires { ⌜ Accepted (algebraOf n (now arities) (now cells)) ⌝ }
+    requires { ⌜ Accepted (algebraIn n arities cells) ⌝ }
     requires { ⌜ n ≤ length (now m) ⌝ }
     requires { ⌜ Canonical n (byte (now m)) ⌝ }
-    requires { ⌜ Represented (algebraOf n (now arities) (now cells)) (now live) used (byte (now m)) ⌝ }
+    requires { ⌜ Represented (algebraIn n arities cells) (now live) used (byte (now m)) ⌝ }
     requires { ⌜ Lists n (now live) used (now others) start (byte (now m)) ⌝ }
-    ensures { λ _. ⌜ Refined (algebraOf n (now (arities .entry)) (now (cells .entry))) (byte (now (m .entry))) (byte (now (m .exit))) ⌝ }
+    ensures { λ _. ⌜ Refined (algebraIn n (arities .entry) (cells .entry)) (byte (now (m .entry))) (byte (now (m .exit))) ⌝ }
     ensures { λ _. ⌜ ((x : ℕ) → n ≤ x → byte (now (m .exit)) x ≡ byte (now (m .entry)) x) ⌝ }
 {
     let mut left = start;
@@ -58,12 +58,12 @@ fn refine_in(
     used: usize,
     others: &mut [u8],
 )
-    requires { ⌜ Accepted (algebraOf n (now arities) (now cells)) ⌝ }
+    requires { ⌜ Accepted (algebraIn n arities cells) ⌝ }
     requires { ⌜ n ≤ length (now m) ⌝ }
     requires { ⌜ Canonical n (byte (now m)) ⌝ }
-    requires { ⌜ Represented (algebraOf n (now arities) (now cells)) (now live) used (byte (now m)) ⌝ }
+    requires { ⌜ Represented (algebraIn n arities cells) (now live) used (byte (now m)) ⌝ }
     requires { ⌜ used ≤ length (now others) ⌝ }
-    ensures { λ _. ⌜ Refined (algebraOf n (now (arities .entry)) (now (cells .entry))) (byte (now (m .entry))) (byte (now (m .exit))) ⌝ }
+    ensures { λ _. ⌜ Refined (algebraIn n (arities .entry) (cells .entry)) (byte (now (m .entry))) (byte (now (m .exit))) ⌝ }
     ensures { λ _. ⌜ ((x : ℕ) → n ≤ x → byte (now (m .exit)) x ≡ byte (now (m .entry)) x) ⌝ }
 {
     equivalence::blocks::copy(live, others, used);
@@ -74,12 +74,12 @@ fn refine_in(
 // The first n bytes of m become the greatest congruence inside the map that they write; those past n keep their value. Only listed
 // elements are looked at: where a congruence inside the map is known, its first members stand for all.
 pub fn refine_above(m: &mut [u8], n: usize, arities: &[u8], cells: &[u8], live: &[u8], used: usize)
-    requires { ⌜ Accepted (algebraOf n (now arities) (now cells)) ⌝ }
+    requires { ⌜ Accepted (algebraIn n arities cells) ⌝ }
     requires { ⌜ n ≤ length (now m) ⌝ }
     requires { ⌜ Canonical n (byte (now m)) ⌝ }
-    requires { ⌜ Represented (algebraOf n (now arities) (now cells)) (now live) used (byte (now m)) ⌝ }
+    requires { ⌜ Represented (algebraIn n arities cells) (now live) used (byte (now m)) ⌝ }
     requires { ⌜ used ≤ 64 ⌝ }
-    ensures { λ _. ⌜ Refined (algebraOf n (now (arities .entry)) (now (cells .entry))) (byte (now (m .entry))) (byte (now (m .exit))) ⌝ }
+    ensures { λ _. ⌜ Refined (algebraIn n (arities .entry) (cells .entry)) (byte (now (m .entry))) (byte (now (m .exit))) ⌝ }
     ensures { λ _. ⌜ ((x : ℕ) → n ≤ x → byte (now (m .exit)) x ≡ byte (now (m .entry)) x) ⌝ }
 {
     let mut others = [0u8; 64];
@@ -88,10 +88,10 @@ pub fn refine_above(m: &mut [u8], n: usize, arities: &[u8], cells: &[u8], live: 
 
 // The first n bytes of m become the greatest congruence inside the map that they write; those past n keep their value.
 pub fn refine(m: &mut [u8], n: usize, arities: &[u8], cells: &[u8])
-    requires { ⌜ Accepted (algebraOf n (now arities) (now cells)) ⌝ }
+    requires { ⌜ Accepted (algebraIn n arities cells) ⌝ }
     requires { ⌜ n ≤ length (now m) ⌝ }
     requires { ⌜ Canonical n (byte (now m)) ⌝ }
-    ensures { λ _. ⌜ Refined (algebraOf n (now (arities .entry)) (now (cells .entry))) (byte (now (m .entry))) (byte (now (m .exit))) ⌝ }
+    ensures { λ _. ⌜ Refined (algebraIn n (arities .entry) (cells .entry)) (byte (now (m .entry))) (byte (now (m .exit))) ⌝ }
     ensures { λ _. ⌜ ((x : ℕ) → n ≤ x → byte (now (m .exit)) x ≡ byte (now (m .entry)) x) ⌝ }
 {
     let mut live = [0u8; 64];
@@ -101,9 +101,9 @@ pub fn refine(m: &mut [u8], n: usize, arities: &[u8], cells: &[u8])
 
 // Whether the map m is a congruence: whether the greatest congruence inside it still holds all its pairs.
 pub fn is_congruence(n: usize, arities: &[u8], cells: &[u8], m: &[u8]) -> bool
-    requires { ⌜ Accepted (algebraOf n (now arities) (now cells)) ⌝ }
+    requires { ⌜ Accepted (algebraIn n arities cells) ⌝ }
     requires { ⌜ T (isMap n (now m)) ⌝ }
-    ensures { λ r. ⌜ r ≡ isCongruence (algebraOf n (now (arities .entry)) (now (cells .entry))) (now (m .entry)) ⌝ }
+    ensures { λ r. ⌜ r ≡ isCongruence (algebraIn n (arities .entry) (cells .entry)) (now (m .entry)) ⌝ }
 {
     let mut split = [0u8; 64];
     equivalence::blocks::copy(m, &mut split, n);

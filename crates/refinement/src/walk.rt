@@ -8,7 +8,7 @@ ghost use lib.ListN.{length};
 ghost use Rattle.equivalence.specs.Equivalence.{byte};
 ghost use Rattle.kernel.specs.Kernel.{Canonical, Listed};
 ghost use Rattle.algebra.specs.Accepted.{Accepted};
-ghost use Rattle.algebra.specs.Algebra.{algebraOf};
+ghost use Rattle.algebra.specs.Algebra.{algebraIn};
 ghost use Rattle.translation.specs.Translations.{Compatible};
 ghost use Rattle.refinement.specs.Splitting.{Elements, line, Keeps, KeepsOn, Any, Chosen, Lines, Planes, Table, Lent, OnLines, OnPlanes, Sifted, Lists, Split, Represented};
 use super::line::split_line;
@@ -313,12 +313,12 @@ pub fn split_all(
     others: &mut [u8],
     left: usize,
 ) -> usize
-    requires { ⌜ Accepted (algebraOf n (now arities) (now cells)) ⌝ }
+    requires { ⌜ Accepted (algebraIn n arities cells) ⌝ }
     requires { ⌜ n ≤ length (now m) ⌝ }
     requires { ⌜ Canonical n (byte (now m)) ⌝ }
-    requires { ⌜ Represented (algebraOf n (now arities) (now cells)) (now live) used (byte (now m)) ⌝ }
+    requires { ⌜ Represented (algebraIn n arities cells) (now live) used (byte (now m)) ⌝ }
     requires { ⌜ Lists n (now live) used (now others) left (byte (now m)) ⌝ }
-    ensures { λ _. ⌜ Split n (Compatible (algebraOf n (now (arities .entry)) (now (cells .entry)))) (Compatible (algebraOf n (now (arities .entry)) (now (cells .entry)))) (now (m .entry)) (now (m .exit)) ⌝ }
+    ensures { λ _. ⌜ Split n (Compatible (algebraIn n (arities .entry) (cells .entry))) (Compatible (algebraIn n (arities .entry) (cells .entry))) (now (m .entry)) (now (m .exit)) ⌝ }
     ensures { λ r. ⌜ Lists n (now (live .entry)) used (now (others .exit)) r (byte (now (m .exit))) ⌝ }
 {
     let mut found = left;

@@ -3,7 +3,7 @@ ghost use mathlib.Core.Path.{_≡_};
 ghost use Prim.Native.Nat.{ℕ, _<_, _≤_};
 ghost use lib.ListN.{length};
 ghost use Rattle.equivalence.specs.Equivalence.{byte};
-ghost use Rattle.algebra.specs.Algebra.{algebraOf};
+ghost use Rattle.algebra.specs.Algebra.{algebraIn};
 ghost use Rattle.algebra.specs.Accepted.{Accepted};
 ghost use Rattle.separation.specs.Search.{Rooms, Earliest};
 
@@ -27,7 +27,7 @@ fn separate_in(
     requires { ⌜ ((i : ℕ) → i < 4096 → byte (now refused) i ≡ 0) ⌝ }
     requires { ⌜ n ≤ length (now out) ⌝ }
     requires { ⌜ (v ≡ w → ⊥) ⌝ }
-    ensures { λ _. ⌜ Earliest (algebraOf n (now (arities .entry)) (now (cells .entry))) v w (byte (now (out .exit))) ⌝ }
+    ensures { λ _. ⌜ Earliest (algebraIn n (arities .entry) (cells .entry)) v w (byte (now (out .exit))) ⌝ }
     ensures { λ _. ⌜ ((x : ℕ) → n ≤ x → byte (now (out .exit)) x ≡ byte (now (out .entry)) x) ⌝ }
 {
     equivalence::blocks::identity(m, n);
@@ -39,12 +39,12 @@ fn separate_in(
 
 // The earliest congruence that holds v and w apart goes to the first n bytes of out; those past n keep their value.
 pub fn separate(n: usize, arities: &[u8], cells: &[u8], v: usize, w: usize, out: &mut [u8])
-    requires { ⌜ Accepted (algebraOf n (now arities) (now cells)) ⌝ }
+    requires { ⌜ Accepted (algebraIn n arities cells) ⌝ }
     requires { ⌜ v < n ⌝ }
     requires { ⌜ w < n ⌝ }
     requires { ⌜ (v ≡ w → ⊥) ⌝ }
     requires { ⌜ n ≤ length (now out) ⌝ }
-    ensures { λ _. ⌜ Earliest (algebraOf n (now (arities .entry)) (now (cells .entry))) v w (byte (now (out .exit))) ⌝ }
+    ensures { λ _. ⌜ Earliest (algebraIn n (arities .entry) (cells .entry)) v w (byte (now (out .exit))) ⌝ }
     ensures { λ _. ⌜ ((x : ℕ) → n ≤ x → byte (now (out .exit)) x ≡ byte (now (out .entry)) x) ⌝ }
 {
     let mut m = [0u8; 64];

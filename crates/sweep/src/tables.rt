@@ -4,7 +4,7 @@ ghost use lib.ListN.{length};
 ghost use Rattle.kernel.specs.Kernel.{Listed};
 ghost use Rattle.equivalence.specs.Equivalence.{byte};
 ghost use Rattle.sweep.specs.Queue.{state, Ready, Grown};
-ghost use Rattle.algebra.specs.Algebra.{algebraOf};
+ghost use Rattle.algebra.specs.Algebra.{algebraIn};
 ghost use Rattle.algebra.specs.Accepted.{Accepted};
 ghost use Rattle.sweep.specs.Contexts.{OperationsIn, OnTable, Contexts, TableFits, Unless, Bounded, Heeds};
 use crate::lines::line;
@@ -251,11 +251,11 @@ pub fn operations(
     requires { ⌜ Ready n start (now m) (now queue) ⌝ }
     requires { ⌜ Bounded n limit start v w (byte (now m)) ⌝ }
     requires { ⌜ Contexts n (now cells) (now live) count ⌝ }
-    requires { ⌜ Accepted (algebraOf n (now arities) (now cells)) ⌝ }
+    requires { ⌜ Accepted (algebraIn n arities cells) ⌝ }
     requires { ⌜ x < n ⌝ }
     requires { ⌜ y < n ⌝ }
-    ensures { λ r. ⌜ Grown n (λ g. OperationsIn (algebraOf n (now (arities .entry)) (now (cells .entry))) (length (now (arities .entry))) (Listed (now (live .entry)) count) x y g × Heeds n (now (refused .entry)) v w g) (state (now (m .entry)) (now (queue .entry)) start) (state (now (m .exit)) (now (queue .exit)) r) ⌝ }
-    ensures { λ _. ⌜ Unless v w (OperationsIn (algebraOf n (now (arities .entry)) (now (cells .entry))) (length (now (arities .entry))) (Listed (now (live .entry)) count) x y) (byte (now (m .exit))) ⌝ }
+    ensures { λ r. ⌜ Grown n (λ g. OperationsIn (algebraIn n (arities .entry) (cells .entry)) (length (now (arities .entry))) (Listed (now (live .entry)) count) x y g × Heeds n (now (refused .entry)) v w g) (state (now (m .entry)) (now (queue .entry)) start) (state (now (m .exit)) (now (queue .exit)) r) ⌝ }
+    ensures { λ _. ⌜ Unless v w (OperationsIn (algebraIn n (arities .entry) (cells .entry)) (length (now (arities .entry))) (Listed (now (live .entry)) count) x y) (byte (now (m .exit))) ⌝ }
 {
     let mut len = start;
     let mut o = 0;

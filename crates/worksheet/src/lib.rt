@@ -1,7 +1,7 @@
 // Four services for a caller in C, over numbers and byte slices. Each call answers one 32-bit number:
 // reason + 256 × count + 65,536 × first element + 16,777,216 × second element, with 0 for what an answer lacks.
 ghost use mathlib.Core.Path.{_≡_};
-ghost use Rattle.algebra.specs.Algebra.{algebraOf};
+ghost use Rattle.algebra.specs.Algebra.{algebraIn};
 ghost use Rattle.congruence.specs.Calls.{generateCall, containedCall, separateCall, decomposeCall};
 ghost use Rattle.equivalence.specs.Outcome.{packed, writtenOutcome};
 ghost use Rattle.congruence.specs.Outcome.{generatedOutcome, decomposedOutcome};
@@ -15,8 +15,8 @@ pub extern "C" fn congruence_generate(
     pairs: &[u8],
     out: &mut [u8],
 ) -> u32
-    ensures { λ r. ⌜ r ≡ packed (generatedOutcome (generateCall (algebraOf n (now (arities .entry)) (now (cells .entry))) (now (pairs .entry)) (now (out .entry)) .0)) ⌝ }
-    ensures { λ _. ⌜ now (out .exit) ≡ generateCall (algebraOf n (now (arities .entry)) (now (cells .entry))) (now (pairs .entry)) (now (out .entry)) .1 ⌝ }
+    ensures { λ r. ⌜ r ≡ packed (generatedOutcome (generateCall (algebraIn n (arities .entry) (cells .entry)) (now (pairs .entry)) (now (out .entry)) .0)) ⌝ }
+    ensures { λ _. ⌜ now (out .exit) ≡ generateCall (algebraIn n (arities .entry) (cells .entry)) (now (pairs .entry)) (now (out .entry)) .1 ⌝ }
 {
     outcome::generated_number(congruence::generate(n, arities, cells, pairs, out))
 }
@@ -30,8 +30,8 @@ pub extern "C" fn congruence_contained(
     map: &[u8],
     out: &mut [u8],
 ) -> u32
-    ensures { λ r. ⌜ r ≡ packed (writtenOutcome (containedCall (algebraOf n (now (arities .entry)) (now (cells .entry))) (now (map .entry)) (now (out .entry)) .0)) ⌝ }
-    ensures { λ _. ⌜ now (out .exit) ≡ containedCall (algebraOf n (now (arities .entry)) (now (cells .entry))) (now (map .entry)) (now (out .entry)) .1 ⌝ }
+    ensures { λ r. ⌜ r ≡ packed (writtenOutcome (containedCall (algebraIn n (arities .entry) (cells .entry)) (now (map .entry)) (now (out .entry)) .0)) ⌝ }
+    ensures { λ _. ⌜ now (out .exit) ≡ containedCall (algebraIn n (arities .entry) (cells .entry)) (now (map .entry)) (now (out .entry)) .1 ⌝ }
 {
     outcome::written_number(congruence::contained(n, arities, cells, map, out))
 }
@@ -46,8 +46,8 @@ pub extern "C" fn congruence_separate(
     w: usize,
     out: &mut [u8],
 ) -> u32
-    ensures { λ r. ⌜ r ≡ packed (writtenOutcome (separateCall (algebraOf n (now (arities .entry)) (now (cells .entry))) v w (now (out .entry)) .0)) ⌝ }
-    ensures { λ _. ⌜ now (out .exit) ≡ separateCall (algebraOf n (now (arities .entry)) (now (cells .entry))) v w (now (out .entry)) .1 ⌝ }
+    ensures { λ r. ⌜ r ≡ packed (writtenOutcome (separateCall (algebraIn n (arities .entry) (cells .entry)) v w (now (out .entry)) .0)) ⌝ }
+    ensures { λ _. ⌜ now (out .exit) ≡ separateCall (algebraIn n (arities .entry) (cells .entry)) v w (now (out .entry)) .1 ⌝ }
 {
     outcome::written_number(congruence::separate(n, arities, cells, v, w, out))
 }
@@ -60,8 +60,8 @@ pub extern "C" fn congruence_decompose(
     cells: &[u8],
     out: &mut [u8],
 ) -> u32
-    ensures { λ r. ⌜ r ≡ packed (decomposedOutcome (decomposeCall (algebraOf n (now (arities .entry)) (now (cells .entry))) (now (out .entry)) .0)) ⌝ }
-    ensures { λ _. ⌜ now (out .exit) ≡ decomposeCall (algebraOf n (now (arities .entry)) (now (cells .entry))) (now (out .entry)) .1 ⌝ }
+    ensures { λ r. ⌜ r ≡ packed (decomposedOutcome (decomposeCall (algebraIn n (arities .entry) (cells .entry)) (now (out .entry)) .0)) ⌝ }
+    ensures { λ _. ⌜ now (out .exit) ≡ decomposeCall (algebraIn n (arities .entry) (cells .entry)) (now (out .entry)) .1 ⌝ }
 {
     outcome::decomposed_number(congruence::decompose(n, arities, cells, out))
 }

@@ -2,7 +2,7 @@
 use mathlib.Core.Path.{ap, _∙_}
 use lib.ListN.{set}
 use borrow.Author.Needs.{needs}
-use Rattle.division.proofs.Walks.{laid-one}
+use Rattle.equivalence.proofs.Laying.{laid-byte}
 use Rattle.division.proofs.tables.divide_cell.Statement.{statement}
 use Rattle.division.proofs.tables.divide_cell.Tie as tie
 
@@ -21,7 +21,7 @@ same-length c = search needs
 returns : tie.Need-returns
 returns c =
     let s = c .before .before .before .before .before in
-    ap (set (s .args .out .now) (s .args .to)) (c .block-of .ensures) ∙ laid-one (s .args .out .now) (s .args .to) _ (s .pre .1 .1)
+    ap (set (s .args .out .now) (s .args .to)) (c .block-of .ensures) ∙ laid-byte (s .args .out .now) (s .args .to) _ (s .pre .1 .1)
 
 pub divide-cell-spec : {M : Type 1} → statement M
 divide-cell-spec =
