@@ -1,7 +1,7 @@
 -- Add and Clear as a whole: a call is accepted, with what its tests leave, or it is refused; an accepted Add gives the least congruence, and
 -- the steps by which Add is made give its definition.
 use Prim.Native.Nat.{ℕ, _+_, _<_}
-use mathlib.Core.List.{List, [], _∷_, _++_}
+use mathlib.Core.List.{List, [], _∷_}
 use mathlib.Core.Logic.{_⊎_, inl, inr}
 use mathlib.Core.Path.{_≡_, ap, sym, _∙_}
 use native.Mathlib.Omega.{arith}

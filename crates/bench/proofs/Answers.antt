@@ -19,7 +19,6 @@ use Rattle.bench.specs.Calls.{sheetTest, benchTest, tallyTest, benched, 
 use Rattle.bench.specs.Outcome.{answerOutcome}
 use Rattle.bench.specs.Reasons.{BenchReasons}
 use Rattle.bench.proofs.Testing.{done, refused}
-use Rattle.bench.specs.declared.Answer.{Answer}
 use Rattle.bench.specs.declared.Answer.the-variants.{Done, Refused}
 use Rattle.bench.specs.declared.Bench.{Bench}
 

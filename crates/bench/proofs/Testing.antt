@@ -3,7 +3,7 @@ use Prim.Native.Nat.{ℕ, _≤_, _<_}
 use mathlib.Core.Bool.{Bool, true, false, not, _||_}
 use mathlib.Core.List.{List, [], _∷_, _++_}
 use mathlib.Core.Logic.{_⊎_, inl, inr}
-use mathlib.Core.Path.{_≡_, refl, sym, _∙_}
+use mathlib.Core.Path.{_≡_, refl, _∙_}
 use native.Mathlib.Decide.{decLt}
 use native.Mathlib.Omega.{arith}
 use lib.Dec.{T, eqb, ltb, eqb→eq, ltb→lt, lt→ltb}
@@ -12,7 +12,7 @@ use Rattle.equivalence.specs.Equivalence.{isMap}
 use Rattle.equivalence.specs.Lists.{every}
 use Rattle.equivalence.specs.Refusal.{Test, lowest, sizeTest, answered, elementsTest}
 use Rattle.equivalence.proofs.Refusals.{lowest-none, lowest-next, lowest-here, of-passed, of-sizeTest, lowest-append, passed-append}
-use Rattle.equivalence.proofs.Tests.{not-T-of, or-left, or-right, eq→eqb}
+use Rattle.equivalence.proofs.Tests.{not-T-of, or-left, or-right}
 use Rattle.equivalence.specs.declared.Check.the-variants.{Passed, Failed}
 use Rattle.equivalence.specs.declared.Check.{Check}
 use Rattle.equivalence.specs.declared.Refusal.{Refusal}

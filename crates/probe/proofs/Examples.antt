@@ -1,8 +1,7 @@
 -- The image and the numbers, computed of the definitions.
-use Prim.Native.Nat.{ℕ}
-use mathlib.Core.List.{List, [], _∷_}
+use mathlib.Core.List.{[], _∷_}
 use mathlib.Core.Path.{_≡_, refl}
-use lib.ListN.{length, getD, take, drop}
+use lib.ListN.{getD, take, drop}
 use Rattle.bench.specs.Calls.{clearCall}
 use Rattle.bench.specs.State.{redrawn, zeroSheet, freshBench}
 use Rattle.bench.specs.declared.Bench.{Bench}

@@ -1,6 +1,6 @@
 -- Numbers in bytes, the lowest byte first: how many bytes they have, that they are read back, what a loop that writes them leaves, and what a loop that reads them finds.
 use Prim.Native.Nat.{ℕ, zero, suc, _+_, _*_, _-_, _/_, _%_, _^_, _≤_, _<_}
-use mathlib.Core.List.{List, _∷_, _++_, append-assoc}
+use mathlib.Core.List.{List, _∷_, append-assoc}
 use mathlib.Core.Path.{_≡_, refl, sym, ap, _∙_}
 use native.Mathlib.Nat.{pow-zero, pow-suc, pow-le-pow-right, div-lt-iff-lt-mul, mod-add-div}
 use native.Mathlib.Numerals.{add-one}

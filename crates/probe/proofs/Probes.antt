@@ -1,7 +1,7 @@
 -- The definitions of what the tests call, by their cases: a place's number, the part that Prefer hands back, a call over an image.
 use Prim.Native.Nat.{ℕ, _<_}
 use mathlib.Core.Bool.{Bool, true, false}
-use mathlib.Core.List.{List, []}
+use mathlib.Core.List.{List}
 use mathlib.Core.Path.{_≡_, refl, sym, ap, _∙_}
 use native.Mathlib.Omega.{arith}
 use lib.Dec.{eqb, eqb→eq}
@@ -58,6 +58,11 @@ module _ (call : Bench → Benched) (image : List ℕ) where
   unfolding imageCall
   image-other h = sym (pick-no (eqb (length image) 517) _ (255, image) (λ t. h (eqb→eq (length image) 517 t)))
 
-  pub image-called : length image ≡ 517 → (packed (answerOutcome (call (benchIn image) .answer)), imageOf (call (benchIn image) .bench)) ≡ imageCall call image
+  called : length image ≡ 517 → (packed (answerOutcome (call (benchIn image) .answer)), imageOf (call (benchIn image) .bench)) ≡ imageCall call image
   unfolding imageCall
-  image-called e = sym (pick-yes (eqb (length image) 517) _ (255, image) (eq→eqb (length image) 517 e))
+  called e = sym (pick-yes (eqb (length image) 517) _ (255, image) (eq→eqb (length image) 517 e))
+
+  -- by its steps: the bench read, the call made, the bench after it written, the answer's number
+  pub image-called : (before : Bench) (r : Benched) (number : ℕ) (after : List ℕ) → length image ≡ 517 → before ≡ benchIn image → r ≡ call before
+      → after ≡ imageOf (r .bench) → number ≡ packed (answerOutcome (r .answer)) → (number, after) ≡ imageCall call image
+  image-called before r number after e f g h i = rw (h, i, g, f) (called e)

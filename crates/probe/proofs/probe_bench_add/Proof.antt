@@ -25,7 +25,9 @@ same-length c = search needs
 
 returns-2 : tie.Need-returns-2
 returns-2 c =
-    rw (c .before .before .before .write .ensures, c .answer-number .ensures, c .before .before .before .before .before .before .add .ensures, c .before .before .before .before .before .before .before .read .ensures) (image-called _ _ (omega (arith, c .before .before .before .before .before .before .before .before .before .if1 .left)))
+    let k = c .before .before .before .before .before .before in
+    let long = k .before .before .before .if1 .left in
+    image-called _ _ _ _ _ _ (omega (arith, long)) (k .before .read .ensures) (k .add .ensures) (c .before .before .before .write .ensures) (c .answer-number .ensures)
 
 pub probe-bench-add-spec : {M : Type 1} → statement M
 probe-bench-add-spec = tie.close (tie.spec returns read-requires add-requires write-requires answer-number-requires same-length returns-2)

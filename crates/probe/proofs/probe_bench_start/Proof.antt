@@ -1,7 +1,7 @@
 -- `probe::probe_bench_start` meets its contract.
+use mathlib.Core.Path.{refl}
 use native.Mathlib.Omega.{arith}
 use borrow.Author.Needs.{needs}
-use Rattle.bench.specs.Calls.{startCall}
 use Rattle.probe.proofs.Probes.{image-other, image-called}
 use Rattle.probe.proofs.probe_bench_start.Statement.{statement}
 use Rattle.probe.proofs.probe_bench_start.Tie as tie
@@ -23,8 +23,9 @@ same-length c = search needs
 
 returns-2 : tie.Need-returns-2
 returns-2 c =
-    let s = c .before .before .before .before .before .before .start in
-    rw (c .before .before .before .write .ensures, c .answer-number .ensures, s .ensures) (image-called (λ _. startCall (c .before .before .before .before .before .before .before .before .before .args .n)) _ (omega (arith, c .before .before .before .before .before .before .before .if1 .left)))
+    let k = c .before .before .before .before .before .before in
+    let long = k .before .if1 .left in
+    image-called _ _ _ _ _ _ (omega (arith, long)) refl (k .start .ensures) (c .before .before .before .write .ensures) (c .answer-number .ensures)
 
 pub probe-bench-start-spec : {M : Type 1} → statement M
 probe-bench-start-spec = tie.close (tie.spec returns start-requires write-requires answer-number-requires same-length returns-2)

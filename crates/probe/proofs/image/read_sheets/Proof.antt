@@ -1,9 +1,8 @@
 -- `probe::image::read_sheets` meets its contract.
 use Prim.Native.Nat.{_-_}
-use mathlib.Core.Path.{_≡_, ap, sym, _∙_}
+use mathlib.Core.Path.{_≡_, sym}
 use lib.ListN.{length, length-set}
 use Rattle.bench.specs.State.{noSheet}
-use Rattle.bench.specs.declared.Sheet.{Sheet}
 use Rattle.probe.specs.Image.{sheetsIn}
 use Rattle.probe.proofs.Copies.{Copying, copying-none, copying-more, copying-all}
 use Rattle.probe.proofs.Images.{sheetsIn-length, sheetsIn-at}
