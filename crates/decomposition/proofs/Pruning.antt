@@ -1,6 +1,7 @@
 -- Decompose's second loop, over a list of maps in a slice and the meets of its suffixes: what holds when the maps below number i had their
 -- turn (`Pruning`), and the laws that start it, keep it and end it.
-use Prim.Native.Nat.{ℕ, suc, _+_, _*_, _≤_, _<_}
+use Prim.Native.Nat.{ℕ, suc, _+_, _-_, _*_, _≤_, _<_}
+use mathlib.Core.Bool.{Bool, false}
 use mathlib.Core.List.{List, [], _∷_, _++_, List·Memᴰ as Member, List·Memᴰ·not-nil as not-nil, List·Memᴰ·eq-of-singleton as eq-of-singleton, List·Memᴰ·append-cases as append-cases}
 use mathlib.Core.Logic.{inl, inr}
 use mathlib.Core.Path.{_≡_, refl, sym, ap, subst, _∙_}
@@ -11,19 +12,21 @@ use lib.Dec.{T}
 use lib.ListN.{length, getD, take, drop, length-append, drop-of-length-le, length-drop}
 use lib.Seq.{ext-getD, length-take-le, drop-cons}
 use Rattle.equivalence.specs.Equivalence.{Map, byte, whole, isIdentity, meet, meetAll}
-use Rattle.kernel.specs.Kernel.{Canonical}
+use Rattle.kernel.specs.Kernel.{Canonical, Filled}
 use Rattle.equivalence.specs.Lists.{concat}
 use Rattle.equivalence.specs.Lent.{stretch, written, laid}
 use Rattle.equivalence.proofs.Maps.{whole-map}
 use Rattle.equivalence.proofs.Meets.{meet-map, meetAll-map}
-use Rattle.equivalence.proofs.Tests.{T?, left, pick-yes, pick-no}
+use Rattle.equivalence.proofs.Tests.{T?, left, not-T-of, pick-yes, pick-no}
 use Rattle.equivalence.proofs.Writing.{written-length}
 use Rattle.theory.specs.Decompose.{pruned}
 use Rattle.listing.specs.Listing.{listing, MapsListed, SuffixMeets}
 use Rattle.decomposition.specs.Turns.{inTurn}
 use Rattle.theory.proofs.Certificates.{isIdentity-meets, of-isIdentity-meets}
 use Rattle.theory.proofs.Factors.{pruned-drop, pruned-keep}
-use Rattle.listing.proofs.Listings.{Begins, begins-sym, begins-is, begins-take, begins-written, begins-canonical, begins-meet, meetAll-append, meetAll-snoc, listing-length, listing-at, listed-map, listed-room, listed-begins, onwards, part-rest, laid-snoc, concat-length}
+use Rattle.listing.proofs.Listings.{Begins, begins-sym, begins-is, begins-take, begins-written, begins-canonical, begins-meet, meetAll-append, meetAll-snoc, listing-length, listing-at, listed-map, listed-room, listed-begins, onwards, part-rest, laid-snoc, copied-laid, concat-length}
+use Rattle.extremal.proofs.Bridges.{front-map}
+use borrow.Rule.Slice.PartMut.{midOf, putMid}
 
 module _ (n : ℕ) (m after : Map) (kept : ℕ) (met : Map) (out : List ℕ) where
   abbrev Turn : Type 0
@@ -43,6 +46,13 @@ module _ (n : ℕ) (m after : Map) (kept : ℕ) (met : Map) (out : List ℕ) whe
       → _≡_ {A = Turn} (kept + 1, (met′, out′)) (inTurn n m after kept met out)
   unfolding inTurn
   turn-keep t e f = rw (e, f) (sym (pick-no (isIdentity n (meet n met after)) dropped added-on t))
+
+  -- the same, from what the calls of a turn promise: the test, the meet, and the copy into the part of the list behind those kept
+  pub turn-copied : {r : Bool} {met′ : List ℕ} (part : List ℕ) → r ≡ isIdentity n (meet n met after) → r ≡ false → n ≤ length m → Canonical n (byte m) → kept * n + n ≤ length out
+      → met′ ≡ written (meet n met m) met → length part ≡ length (midOf (kept * n) (length out - kept * n) out) → Filled n (byte m) (byte (midOf (kept * n) (length out - kept * n) out)) (byte part)
+      → _≡_ {A = Turn} (kept + 1, (met′, putMid (kept * n) (length out - kept * n) out part)) (inTurn n m after kept met out)
+  turn-copied part e t long c room f same copied =
+      turn-keep (not-T-of (sym e ∙ t)) f (copied-laid (kept * n) out part (begins-sym (begins-take m)) (front-map n m long c) room same copied)
 
 pub record Pruning (n : ℕ) (ms : List Map) (lent : List ℕ) (i count : ℕ) (met out : List ℕ) : Type 0 where
   pub kept : List Map

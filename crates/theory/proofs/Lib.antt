@@ -1,3 +1,4 @@
+pub mod Examples
 pub mod GreatestCongruence
 pub mod Above
 pub mod Separation
@@ -6,4 +7,3 @@ pub mod CommonPair
 pub mod Quotients
 pub mod Correspondence
 pub mod Certificates
-pub mod Examples

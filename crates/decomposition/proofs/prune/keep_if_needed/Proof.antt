@@ -1,11 +1,8 @@
 -- `keep_if_needed`: the map is dropped, or met and laid behind those kept.
-use Prim.Native.Nat.{_*_}
 use mathlib.Core.Path.{sym, _∙_}
 use borrow.Author.Needs.{needs}
-use Rattle.equivalence.proofs.Tests.{T-of, not-T-of}
-use Rattle.extremal.proofs.Bridges.{front-map}
-use Rattle.listing.proofs.Listings.{begins-sym, begins-take, copied-laid}
-use Rattle.decomposition.proofs.Pruning.{turn-drop, turn-keep}
+use Rattle.equivalence.proofs.Tests.{T-of}
+use Rattle.decomposition.proofs.Pruning.{turn-drop, turn-copied}
 use Rattle.decomposition.proofs.prune.keep_if_needed.Statement.{statement}
 use Rattle.decomposition.proofs.prune.keep_if_needed.Tie as tie
 
@@ -46,13 +43,7 @@ same-length-3 : tie.Need-same-length-3
 same-length-3 c = search needs
 
 returns-2 : tie.Need-returns-2
-returns-2 c =
-    let k = c .before .before .before .before .before .before .before .before .before .before .before .before .before .before .before in
-    let m = k .args .map .now in
-    let long = k .pre .1 .1 .0 in
-    turn-keep _ m _ (k .args .kept) _ _ (not-T-of (sym (c .before .before .before .before .before .before .before .before .before .meets-in-identity .ensures) ∙ c .before .before .before .before .before .before .before .before .if1 .left)) (c .before .before .before .before .before .before .meet-with .ensures)
-    (copied-laid (k .args .kept * k .args .n) (k .args .out .now) (c .before .before .copy .last .1 .0) (begins-sym (begins-take m)) (front-map (k .args .n) m long (k .pre .1 .1 .1 .1 .1 .1 .0))
-    (k .pre .1 .1 .1 .1 .1 .0) (c .before .before .copy .kept .1 .0) (c .before .before .copy .ensures))
+returns-2 c = search turn-copied
 
 pub keep-if-needed-spec : {M : Type 1} → statement M
 keep-if-needed-spec =
