@@ -12,6 +12,7 @@ use lib.Seq.{getD-append-add}
 use Rattle.equivalence.specs.Lists.{every}
 use Rattle.equivalence.specs.Refusal.{lowest, sizeTest}
 use Rattle.equivalence.specs.declared.Check.{Check}
+use Rattle.equivalence.specs.declared.Refusal.the-variants.{Text}
 use Rattle.equivalence.specs.declared.Check.the-variants.{Passed, Failed}
 use Rattle.equivalence.proofs.Refusals.{of-passed}
 use Rattle.equivalence.proofs.Tests.{T?, or-left, or-right, eq→eqb, pick}
@@ -22,7 +23,8 @@ use Rattle.reader.specs.Reading.{ascii, Read, found, fault, Reader, onward, _>>
 use Rattle.reader.specs.Numbers.{number}
 use Rattle.reader.specs.Tables.{cell, parted, bracket, table}
 use Rattle.reader.specs.Lines.{Progress, defined, refused, close, sizeLine, tested, afterSize, sized, arity, lastTable, operationTests, cellTest, withOperation, afterTable, afterArity, operation, Request, request}
-use Rattle.bracket.specs.Transcript.{State, Step, goes, ends, afterLine, afterRequest, firstStep, operationStep, requestStep, step}
+use Rattle.bracket.specs.Answers.{refusedLine}
+use Rattle.bracket.specs.Transcript.{State, Step, goes, ends, textLimit, afterLine, afterRequest, firstStep, operationStep, requestStep, step}
 
 -- what is found has a property
 abbrev Found : {A : Type 0} → (A → Type 0) → Read A → Type 0
@@ -216,7 +218,9 @@ choice-accepted false p q h k = k
 
 pub first-accepted : (text : List ℕ) → AcceptedAfter (firstStep text)
 unfolding firstStep sized
-first-accepted text = line-accepted (afterSize (sizeLine text 0)) (size-sane (sizeLine text 0))
+first-accepted text =
+    choice-accepted (ltb textLimit (length text)) (ends (refusedLine Text)) (afterLine (afterSize (sizeLine text 0))) tt
+    (line-accepted (afterSize (sizeLine text 0)) (size-sane (sizeLine text 0)))
 
 pub step-accepted : (text : List ℕ) (s : State) → Accepted (s .algebra) → AcceptedAfter (step text s)
 unfolding step operationStep requestStep operation

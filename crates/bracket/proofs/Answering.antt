@@ -7,6 +7,7 @@ use native.Mathlib.Omega.{arith}
 use lib.ListN.{length, take, replicate, length-replicate}
 use Rattle.equivalence.specs.Lists.{upTo}
 use Rattle.equivalence.specs.Lent.{stretch}
+use Rattle.equivalence.specs.Outcome.{success, writtenOutcome}
 use Rattle.equivalence.specs.Refusal.{lowest, spaceTest, answered, serve}
 use Rattle.equivalence.specs.declared.Check.{Check}
 use Rattle.equivalence.specs.declared.Check.the-variants.{Passed, Failed}
@@ -19,6 +20,7 @@ use Rattle.algebra.specs.Accepted.{algebraTests}
 use Rattle.algebra.specs.Algebra.{Algebra, algebraOf}
 use Rattle.algebra.proofs.Accepted.{accepted-wellFormed}
 use Rattle.congruence.specs.Calls.{generateCall, containedCall, separateCall, decomposed, decomposeCall}
+use Rattle.congruence.specs.Outcome.{generatedOutcome, decomposedOutcome}
 use Rattle.congruence.proofs.Calls.{factors-reducible}
 use Rattle.theory.proofs.Factors.{listed-law}
 use Rattle.congruence.proofs.Serving.{of-checked}
@@ -28,9 +30,10 @@ use Rattle.congruence.specs.declared.Generated.{Generated}
 use Rattle.congruence.specs.declared.Generated.the-variants.{Merges, Refused as GenerateRefused}
 use Rattle.reader.specs.Reading.{ascii}
 use Rattle.reader.specs.Lines.{generate, contained, separate, decompose}
-use Rattle.bracket.specs.Answers.{spaced, spacedBrackets, line, refusedLine, mapLine, generatedLine, factorsLine, answer}
+use Rattle.bracket.specs.Answers.{spaced, spacedBrackets, line, refusedNumbers, outcomeLine, refusedLine, mapLine, generatedLine, factorsLine, answer}
 use Rattle.reader.specs.Promises.{Laid}
 use Rattle.bracket.specs.Promises.{lineFor, FactorsRoom, LineFits, MapFits, FactorsFit, ZeroFactors, Zeros}
+use Rattle.bracket.proofs.Spacing.{outcome-refused}
 use Rattle.reader.specs.declared.requests.Asked.{Asked}
 use Rattle.reader.specs.declared.requests.Asked.the-variants.{Generate, Contained, Separate, Decompose, Nothing}
 
@@ -52,21 +55,21 @@ map-fits n lent map out z e =
 module _ (lent map out : List ℕ) (end : ℕ) where
   pub line-of-merges : (g : Generated) (k : ℕ) → g ≡ Merges k
       → Laid lent 0 (line (ascii "[generated") (spaced (k ∷ []) ++ spacedBrackets (map ∷ []))) out end → Laid lent 0 (generatedLine g map) out end
-  unfolding generatedLine
+  unfolding generatedLine generatedOutcome success outcomeLine
   line-of-merges g k e l = rw e l
 
   pub line-of-generate-refused : (g : Generated) (r : Refusal) → g ≡ GenerateRefused r → Laid lent 0 (refusedLine r) out end
       → Laid lent 0 (generatedLine g map) out end
-  unfolding generatedLine
-  line-of-generate-refused g r e l = rw e l
+  unfolding generatedLine generatedOutcome
+  line-of-generate-refused g r e l = rw (e, outcome-refused) l
 
   pub line-of-done : (g : Written) → g ≡ Done → Laid lent 0 (line (ascii "[map") (spaced map)) out end → Laid lent 0 (mapLine g map) out end
-  unfolding mapLine
+  unfolding mapLine writtenOutcome success outcomeLine
   line-of-done g e l = rw e l
 
   pub line-of-write-refused : (g : Written) (r : Refusal) → g ≡ WriteRefused r → Laid lent 0 (refusedLine r) out end → Laid lent 0 (mapLine g map) out end
-  unfolding mapLine
-  line-of-write-refused g r e l = rw e l
+  unfolding mapLine writtenOutcome
+  line-of-write-refused g r e l = rw (e, outcome-refused) l
 
 module _ (answer : Decomposed) (n : ℕ) (factors lent : List ℕ) (f : FactorsFit answer n factors lent) where
   pub factors-room : (k : ℕ) → answer ≡ Factors k → FactorsRoom n k factors lent
@@ -79,18 +82,18 @@ module _ (answer : Decomposed) (n : ℕ) (factors lent : List ℕ) (f : FactorsF
   module _ (out : List ℕ) (end : ℕ) where
     pub line-of-factors : (k : ℕ) → answer ≡ Factors k → Laid lent 0 (line (ascii "[factors") (spacedBrackets (map (stretch n factors) (upTo k)))) out end
         → Laid lent 0 (factorsLine n answer factors) out end
-    unfolding factorsLine
+    unfolding factorsLine decomposedOutcome success outcomeLine
     line-of-factors k e l = rw e l
 
     pub line-of-irreducible : (x y : Element) → answer ≡ Irreducible x y → Laid lent 0 (line (ascii "[refused") (spaced (11 ∷ x .0 ∷ y .0 ∷ []))) out end
         → Laid lent 0 (factorsLine n answer factors) out end
-    unfolding factorsLine
+    unfolding factorsLine decomposedOutcome outcomeLine refusedNumbers
     line-of-irreducible x y e l = rw e l
 
     pub line-of-decompose-refused : (r : Refusal) → answer ≡ DecomposeRefused r → Laid lent 0 (refusedLine r) out end
         → Laid lent 0 (factorsLine n answer factors) out end
-    unfolding factorsLine
-    line-of-decompose-refused r e l = rw e l
+    unfolding factorsLine decomposedOutcome
+    line-of-decompose-refused r e l = rw (e, outcome-refused) l
 
 -- Decompose gives fewer factors than there are elements
 few-factors : (a : Algebra) (lent : List ℕ) (k : ℕ) (c : Check) → c ≡ lowest (algebraTests a ++ (spaceTest ((a .size - 1) * a .size) (length lent) ∷ []))

@@ -1,103 +1,110 @@
--- The calls of a run: when a step can be taken, and what a call does when it cannot.
+-- The calls of a run: when a fill can be made, and what a call does when it cannot.
 use Prim.Native.Nat.{ℕ, _≤_, _<_}
 use mathlib.Core.Bool.{Bool, true, false, not, _&&_}
 use mathlib.Core.List.{List}
-use mathlib.Core.Path.{_≡_, refl, sym, _∙_, subst}
+use mathlib.Core.Path.{_≡_, refl, ap, sym, _∙_, subst}
 use native.Mathlib.Omega.{arith}
 use borrow.Author.Tests.{not-true, not-false, le-leb, lt-leb, leb-true}
 use lib.Dec.{T, leb}
 use lib.ListN.{length}
-use Rattle.bracket.specs.Transcript.{firstStep, step}
-use Rattle.bracket.specs.Steps.{stateOf, Sound, Lent, Stepping, idle, canStep, Begun, Taken}
+use Rattle.bracket.specs.Fills.{lineRoom}
+use Rattle.bracket.specs.Steps.{Sound, Lent, Filling, unread, canFill, Filled}
 use Rattle.bracket.specs.declared.run.Standing.{Standing}
 use Rattle.bracket.specs.declared.run.Stepped.{Stepped}
 use Rattle.reader.proofs.Words.{and-left, and-right}
 
 -- the tests in turn
 module _ (text : ℕ) (s : Standing) (arities room out : ℕ) where
-  pub run-over : not (s .goes) ≡ true → false ≡ canStep text s arities room out
-  unfolding canStep
-  run-over h = sym (simp (canStep, not-true (s .goes) h))
+  pub run-over : not (s .goes) ≡ true → false ≡ canFill text s arities room out
+  unfolding canFill
+  run-over h = sym (simp (canFill, not-true (s .goes) h))
 
   module _ (g : not (s .goes) ≡ false) where
-    pub past-text : text < s .at → false ≡ canStep text s arities room out
-    unfolding canStep
-    past-text h = sym (simp (canStep, not-false (s .goes) g, lt-leb (s .at) text h))
+    pub past-text : text < s .at → false ≡ canFill text s arities room out
+    unfolding canFill
+    past-text h = sym (simp (canFill, not-false (s .goes) g, lt-leb (s .at) text h))
 
     module _ (a : s .at ≤ text) where
-      pub no-size : s .size < 1 → false ≡ canStep text s arities room out
-      unfolding canStep
-      no-size h = sym (simp (canStep, not-false (s .goes) g, le-leb (s .at) text a, lt-leb 1 (s .size) h))
+      pub no-size : s .size < 1 → false ≡ canFill text s arities room out
+      unfolding canFill
+      no-size h = sym (simp (canFill, not-false (s .goes) g, le-leb (s .at) text a, lt-leb 1 (s .size) h))
 
       module _ (b : 1 ≤ s .size) where
-        pub size-above : 64 < s .size → false ≡ canStep text s arities room out
-        unfolding canStep
-        size-above h = sym (simp (canStep, not-false (s .goes) g, le-leb (s .at) text a, le-leb 1 (s .size) b, lt-leb (s .size) 64 h))
+        pub size-above : 64 < s .size → false ≡ canFill text s arities room out
+        unfolding canFill
+        size-above h = sym (simp (canFill, not-false (s .goes) g, le-leb (s .at) text a, le-leb 1 (s .size) b, lt-leb (s .size) 64 h))
 
         module _ (c : s .size ≤ 64) where
-          pub operations-above : 16 < s .operations → false ≡ canStep text s arities room out
-          unfolding canStep
+          pub operations-above : 16 < s .operations → false ≡ canFill text s arities room out
+          unfolding canFill
           operations-above h =
-              sym (simp (canStep, not-false (s .goes) g, le-leb (s .at) text a, le-leb 1 (s .size) b, le-leb (s .size) 64 c, lt-leb (s .operations) 16 h))
+              sym (simp (canFill, not-false (s .goes) g, le-leb (s .at) text a, le-leb 1 (s .size) b, le-leb (s .size) 64 c, lt-leb (s .operations) 16 h))
 
           module _ (d : s .operations ≤ 16) where
-            pub cells-above : s .at < s .cells → false ≡ canStep text s arities room out
-            unfolding canStep
-            cells-above h =
+            pub operations-past : s .at < s .operations → false ≡ canFill text s arities room out
+            unfolding canFill
+            operations-past h =
                 sym
-                (simp (canStep, not-false (s .goes) g, le-leb (s .at) text a, le-leb 1 (s .size) b, le-leb (s .size) 64 c, le-leb (s .operations) 16 d, lt-leb (s .cells) (s .at) h))
+                (simp (canFill, not-false (s .goes) g, le-leb (s .at) text a, le-leb 1 (s .size) b, le-leb (s .size) 64 c, le-leb (s .operations) 16 d, lt-leb (s .operations) (s .at) h))
 
-            -- what is left to test is the lent slices
-            module _ (e : s .cells ≤ s .at) where
-              lent-tests : canStep text s arities room out ≡ (leb 16 arities && (leb text room && leb 16384 out))
-              unfolding canStep
-              lent-tests =
-                  simp (canStep, not-false (s .goes) g, le-leb (s .at) text a, le-leb 1 (s .size) b, le-leb (s .size) 64 c, le-leb (s .operations) 16 d, le-leb (s .cells) (s .at) e)
+            -- what is left to test is the cells and the lent slices
+            module _ (e : s .operations ≤ s .at) where
+              cell-tests : canFill text s arities room out ≡ (leb (s .cells) (s .at) && (leb 16 arities && (leb text room && leb lineRoom out)))
+              unfolding canFill
+              cell-tests =
+                  simp (canFill, not-false (s .goes) g, le-leb (s .at) text a, le-leb 1 (s .size) b, le-leb (s .size) 64 c, le-leb (s .operations) 16 d, le-leb (s .operations) (s .at) e)
 
-              pub few-arities : arities < 16 → false ≡ canStep text s arities room out
-              few-arities h = sym (lent-tests ∙ simp (lt-leb 16 arities h))
+              pub cells-past : s .at < s .cells → false ≡ canFill text s arities room out
+              cells-past h = sym (cell-tests ∙ simp (lt-leb (s .cells) (s .at) h))
 
-              module _ (f : 16 ≤ arities) where
-                pub little-room : room < text → false ≡ canStep text s arities room out
-                little-room h = sym (lent-tests ∙ simp (le-leb 16 arities f, lt-leb text room h))
+              module _ (f : s .cells ≤ s .at) where
+                pub few-arities : arities < 16 → false ≡ canFill text s arities room out
+                few-arities h = sym (cell-tests ∙ simp (le-leb (s .cells) (s .at) f, lt-leb 16 arities h))
 
-                pub last-test : text ≤ room → leb 16384 out ≡ canStep text s arities room out
-                last-test h = sym (lent-tests ∙ simp (le-leb 16 arities f, le-leb text room h))
+                module _ (k : 16 ≤ arities) where
+                  pub little-room : room < text → false ≡ canFill text s arities room out
+                  little-room h = sym (cell-tests ∙ simp (le-leb (s .cells) (s .at) f, le-leb 16 arities k, lt-leb text room h))
+
+                  pub last-test : text ≤ room → leb lineRoom out ≡ canFill text s arities room out
+                  last-test h = sym (cell-tests ∙ simp (le-leb (s .cells) (s .at) f, le-leb 16 arities k, le-leb text room h))
 
 -- what the tests leave
 module _ (text : List ℕ) (s : Standing) (arities room lent : List ℕ) where
   abbrev able : Bool
-  able = canStep (length text) s (length arities) (length room) (length lent)
+  able = canFill (length text) s (length arities) (length room) (length lent)
 
   -- every number in its bounds
   within-bounds : able ≡ true → Sound text s × Lent text arities room lent
-  unfolding canStep
+  unfolding canFill
   within-bounds t =
-      let line = leb 16384 (length lent) in
+      let line = leb lineRoom (length lent) in
       let storage = leb (length text) (length room) && line in
       let sixteen = leb 16 (length arities) && storage in
       let paced = leb (s .cells) (s .at) && sixteen in
-      let few = leb (s .operations) 16 && paced in
+      let counted = leb (s .operations) (s .at) && paced in
+      let few = leb (s .operations) 16 && counted in
       let most = leb (s .size) 64 && few in
       let some = leb 1 (s .size) && most in
       let t1 = and-right (s .goes) (leb (s .at) (length text) && some) t in
       let t2 = and-right (leb (s .at) (length text)) some t1 in
       let t3 = and-right (leb 1 (s .size)) most t2 in
       let t4 = and-right (leb (s .size) 64) few t3 in
-      let t5 = and-right (leb (s .operations) 16) paced t4 in
-      let t6 = and-right (leb (s .cells) (s .at)) sixteen t5 in
-      let t7 = and-right (leb 16 (length arities)) storage t6 in (
+      let t5 = and-right (leb (s .operations) 16) counted t4 in
+      let t6 = and-right (leb (s .operations) (s .at)) paced t5 in
+      let t7 = and-right (leb (s .cells) (s .at)) sixteen t6 in
+      let t8 = and-right (leb 16 (length arities)) storage t7 in (
         record {
           within = leb-true (s .at) (length text) (and-left (leb (s .at) (length text)) some t1);
           some = leb-true 1 (s .size) (and-left (leb 1 (s .size)) most t2);
           most = leb-true (s .size) 64 (and-left (leb (s .size) 64) few t3);
-          few = leb-true (s .operations) 16 (and-left (leb (s .operations) 16) paced t4);
-          paced = leb-true (s .cells) (s .at) (and-left (leb (s .cells) (s .at)) sixteen t5);
+          few = leb-true (s .operations) 16 (and-left (leb (s .operations) 16) counted t4);
+          counted = leb-true (s .operations) (s .at) (and-left (leb (s .operations) (s .at)) paced t5);
+          paced = leb-true (s .cells) (s .at) (and-left (leb (s .cells) (s .at)) sixteen t6);
         },
         record {
-          sixteen = leb-true 16 (length arities) (and-left (leb 16 (length arities)) storage t6);
-          storage = leb-true (length text) (length room) (and-left (leb (length text) (length room)) line t7);
-          line = leb-true 16384 (length lent) (and-right (leb (length text) (length room)) line t7);
+          sixteen = leb-true 16 (length arities) (and-left (leb 16 (length arities)) storage t7);
+          storage = leb-true (length text) (length room) (and-left (leb (length text) (length room)) line t8);
+          line = leb-true lineRoom (length lent) (and-right (leb (length text) (length room)) line t8);
         },
       )
 
@@ -108,28 +115,20 @@ module _ (text : List ℕ) (s : Standing) (arities room lent : List ℕ) where
     pub able-lent : not b ≡ false → Lent text arities room lent
     able-lent h = within-bounds (sym eb ∙ not-false b h) .1
 
-    pub step-idles : not b ≡ true → Taken text s arities room lent arities room lent idle
-    step-idles h =
-        record { steps = λ t. absurd (subst T (sym eb ∙ not-true b h) t); idles = λ n. (refl, refl, refl, refl) }
+    pub fill-idles : not b ≡ true → (t : Standing) → t ≡ unread false → Filled text s arities room lent arities room lent (record { standing = t; wrote = 0 })
+    fill-idles h t et =
+        rw et (record { fills = λ y. absurd (subst T (sym eb ∙ not-true b h) y); idles = λ n. (refl, refl, refl, refl) })
 
-    pub step-taken : not b ≡ false → (arities′ room′ out : List ℕ) (r : Stepped) → Stepping text (s .at) (step text (stateOf s arities room)) lent arities′ room′ out r
-        → Taken text s arities room lent arities′ room′ out r
-    step-taken h arities′ room′ out r q =
-        record { steps = λ t. q; idles = λ n. absurd (n (subst T (sym (sym eb ∙ not-false b h)) tt)) }
+    pub fill-made : not b ≡ false → (arities′ room′ out : List ℕ) (r : Stepped) → Filling text s arities room lent arities′ room′ out r
+        → Filled text s arities room lent arities′ room′ out r
+    fill-made h arities′ room′ out r q =
+        record { fills = λ t. q; idles = λ n. absurd (n (subst T (sym (sym eb ∙ not-false b h)) tt)) }
 
--- the first step, or none
-module _ (text lent : List ℕ) where
-  pub begin-idles : length lent < 14 → Begun text lent lent idle
-  begin-idles h = record { begins = λ l. absurd (omega arith); idles = λ l. (refl, refl) }
-
-  pub begin-begins : 14 ≤ length lent → (out : List ℕ) (r : Stepped)
-      → ((arities room : List ℕ) → Stepping text 0 (firstStep text) lent arities room out r) → Begun text lent out r
-  begin-begins h out r q = record { begins = λ l. q; idles = λ l. absurd (omega arith) }
-
--- from a sound standing, with enough lent, a run that goes on can step
-pub sound-able : (text : List ℕ) (s : Standing) (arities room lent : List ℕ) → not (s .goes) ≡ false → Sound text s → Lent text arities room lent
-    → T (canStep (length text) s (length arities) (length room) (length lent))
+-- from a sound standing, with enough lent, a run that goes on can be filled from
+pub sound-able : (text : List ℕ) (s : Standing) (arities room lent : List ℕ) → s .goes ≡ true → Sound text s → Lent text arities room lent
+    → T (canFill (length text) s (length arities) (length room) (length lent))
 sound-able text s arities room lent g w l =
     subst T
-    (sym (le-leb 16384 (length lent) (l .line))
-    ∙ last-test (length text) s (length arities) (length room) (length lent) g (w .within) (w .some) (w .most) (w .few) (w .paced) (l .sixteen) (l .storage)) tt
+    (sym (le-leb lineRoom (length lent) (l .line))
+    ∙ last-test (length text) s (length arities) (length room) (length lent) (ap not g) (w .within) (w .some) (w .most) (w .few) (w .counted) (w .paced) (l .sixteen) (l .storage))
+    tt

@@ -2,8 +2,9 @@ pub mod Accepting
 pub mod Answering
 pub mod Calling
 pub mod Examples
+pub mod Fills
 pub mod Forward
+pub mod Gathering
 pub mod Numerals
-pub mod Parts
 pub mod Spacing
 pub mod Stepping

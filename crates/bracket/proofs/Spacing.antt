@@ -1,7 +1,7 @@
 -- What numbers look like: how long they are, numbers after spaces, in brackets, and one after the other.
 use Prim.Native.Nat.{ℕ, _+_, _-_, _*_, _/_, _%_, _≤_, _<_}
 use mathlib.Core.List.{List, [], _∷_, _++_, map, append-assoc, append-nil, map-append}
-use mathlib.Core.Path.{_≡_, refl, ap, sym}
+use mathlib.Core.Path.{_≡_, refl, ap, sym, _∙_}
 use native.Mathlib.Decide.{decLt}
 use native.Mathlib.Nat.{zero-mul, suc-mul, mul-le-mul-right}
 use native.Mathlib.Numerals.{add-one}
@@ -11,11 +11,13 @@ use lib.ListN.{length, getD, take, drop, length-drop, length-take}
 use lib.Seq.{take-suc, take-all}
 use Rattle.equivalence.specs.Lists.{upTo}
 use Rattle.equivalence.specs.Lent.{stretch}
+use Rattle.equivalence.specs.Outcome.{refusal}
 use Rattle.equivalence.specs.Refusal.{numberOf}
 use Rattle.equivalence.specs.declared.Refusal.{Refusal}
+use Rattle.equivalence.specs.declared.Refusal.the-variants.{Size, Operations, Arity, Cells, Length, Cell, Range, NotMap, Space, Equal, NotCongruence, Tally, Text}
 use Rattle.reader.specs.Reading.{ascii}
 use Rattle.reader.specs.Numbers.{decimal}
-use Rattle.bracket.specs.Answers.{spaced, bracketed, spacedBrackets, line, refusedLine}
+use Rattle.bracket.specs.Answers.{spaced, bracketed, spacedBrackets, line, refusedNumbers, outcomeLine, refusedLine}
 use Rattle.reader.specs.Promises.{Laid}
 use Rattle.reader.proofs.Laying.{laid-none, laid-more}
 
@@ -86,6 +88,28 @@ unfolding bracketed ascii
 bracketed-parts [] h = absurd (omega arith)
 bracketed-parts (x ∷ rest) h = ap (λ (l : List ℕ). 91 ∷ l) (append-assoc (decimal x) (spaced rest) (93 ∷ []))
 
+-- a refusal's line has its reason alone
+refused-line : (r : Refusal) (done : List ℕ) → outcomeLine (refusal r) done ≡ line (ascii "[refused") (spaced (numberOf r ∷ []))
+unfolding outcomeLine refusedNumbers refusal numberOf
+refused-line Size done = refl
+refused-line Operations done = refl
+refused-line Arity done = refl
+refused-line Cells done = refl
+refused-line Length done = refl
+refused-line Cell done = refl
+refused-line Range done = refl
+refused-line NotMap done = refl
+refused-line Space done = refl
+refused-line Equal done = refl
+refused-line NotCongruence done = refl
+refused-line Tally done = refl
+refused-line Text done = refl
+
+-- and is the same whatever success would give
+pub outcome-refused : (r : Refusal) (done : List ℕ) → outcomeLine (refusal r) done ≡ refusedLine r
+unfolding refusedLine
+outcome-refused r done = refused-line r done ∙ sym (refused-line r [])
+
 -- numbers and brackets written piece by piece
 module _ (lent : List ℕ) (put : ℕ) (mid : List ℕ) (at : ℕ) (after : List ℕ) (end : ℕ) where
   pub number-of-one : (v : ℕ) → v < 10 → Laid lent put ((48 + v) ∷ []) after end → Laid lent put (decimal v) after end
@@ -138,7 +162,7 @@ module _ (lent : List ℕ) (put : ℕ) (mid : List ℕ) (at : ℕ) (after : List
   pub refused-written : (r : Refusal) (v : ℕ) (mid′ : List ℕ) (at′ : ℕ) → v ≡ numberOf r → Laid lent put (ascii "[refused") mid at
       → Laid mid at (spaced (v ∷ [])) mid′ at′ → Laid mid′ at′ (ascii "]\n") after end → Laid lent put (refusedLine r) after end
   unfolding refusedLine
-  refused-written r v mid′ at′ e p q s = line-written (ascii "[refused") (spaced (numberOf r ∷ [])) mid′ at′ p (rw e at q) s
+  refused-written r v mid′ at′ e p q s = rw refused-line (line-written (ascii "[refused") (spaced (numberOf r ∷ [])) mid′ at′ p (rw e at q) s)
 
   pub generated-written : (word a b mid′ : List ℕ) (at′ : ℕ) (mid″ : List ℕ) (at″ : ℕ) → Laid lent put word mid at → Laid mid at a mid′ at′
       → Laid mid′ at′ b mid″ at″ → Laid mid″ at″ (ascii "]\n") after end → Laid lent put (line word (a ++ b)) after end

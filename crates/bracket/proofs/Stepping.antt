@@ -1,15 +1,15 @@
 -- Steps of a run: what each line comes to.
-use Prim.Native.Nat.{ℕ, _+_, _-_, _≤_, _<_}
+use Prim.Native.Nat.{ℕ, zero, suc, _+_, _-_, _≤_, _<_}
 use mathlib.Core.Bool.{Bool, true, false, not, _||_}
 use mathlib.Core.List.{List, [], _∷_}
 use mathlib.Core.Path.{_≡_, refl, sym, _∙_}
 use native.Mathlib.Nat.{sub-zero}
 use native.Mathlib.Numerals.{add-one}
 use native.Mathlib.Omega.{arith}
-use borrow.Author.Tests.{not-true, not-false, eqb-false, ltb-false}
+use borrow.Author.Tests.{not-true, not-false, eqb-false, ltb-false, lt-ltb, le-ltb}
 use lib.Dec.{eqb, ltb}
 use lib.ListN.{length, take, drop, set}
-use lib.Seq.{take-suc-set, length-take-le}
+use lib.Seq.{take-suc-set, take-set-le, drop-set-lt, length-take-le}
 use Rattle.equivalence.specs.Lists.{every}
 use Rattle.equivalence.specs.Refusal.{lowest, sizeTest}
 use Rattle.equivalence.proofs.Refusals.{lowest-none, lowest-here, lowest-next}
@@ -20,10 +20,11 @@ use Rattle.algebra.specs.Algebra.{Algebra, algebraOf}
 use Rattle.reader.specs.Reading.{ascii, begins}
 use Rattle.reader.specs.Lines.{sizeLine, tested, afterSize, sized, operation, request}
 use Rattle.bracket.specs.Answers.{refusedLine}
-use Rattle.bracket.specs.Transcript.{State, goes, afterLine, afterRequest, firstStep, operationStep, requestStep, step}
+use Rattle.bracket.specs.Transcript.{State, goes, ends, textLimit, afterLine, afterRequest, firstStep, operationStep, requestStep, step}
 use Rattle.reader.specs.Promises.{bit, NumberRead, Laid, passing, progressOf, operationProgress, OperationRead, requestOf, goesOn, Requested}
 use Rattle.bracket.specs.Promises.{lineFor}
-use Rattle.bracket.specs.Steps.{stateOf, stepOf, Sound, Lent, Stepping}
+use Rattle.bracket.specs.Fills.{due}
+use Rattle.bracket.specs.Steps.{stateOf, placeBy, placeOf, stepOf, unread, Sound, Lent, Stepping, Kept}
 use Rattle.reader.specs.declared.lines.OperationLine.{OperationLine}
 use Rattle.reader.specs.declared.reading.Number.{Number}
 use Rattle.reader.specs.declared.requests.Asked.{Asked}
@@ -34,10 +35,6 @@ use Rattle.bracket.specs.declared.run.Stepped.{Stepped}
 use Rattle.reader.proofs.Laying.{laid-none, laid-part, laid-front}
 use Rattle.reader.proofs.SpacedNumbers.{found-number, missing-number}
 use Rattle.reader.proofs.Words.{begins-within}
-
--- a run that did not get past its size line
-abbrev unbegun : Standing
-unbegun = record { goes = false; at = 0; size = 1; operations = 0; cells = 0; asked = false }
 
 -- a run that has just read its size line
 abbrev begun : ℕ → ℕ → Standing
@@ -72,37 +69,48 @@ size-known n b e h =
     let z : n ≡ 0 → ⊥ = eqb-false n 0 (or-left (eqb n 0) (ltb 64 n) f) in
     omega (arith, ltb-false 64 n (or-right (eqb n 0) (ltb 64 n) f))
 
-module _ (text lent out : List ℕ) (n : Number) (r : NumberRead text 0 (sizeLine text 0) n) (wrote : ℕ) (arities room : List ℕ) where
-  pub first-fault : not (n .ok) ≡ true → Laid lent 0 (refusedLine Text) out wrote
-      → Stepping text 0 (firstStep text) lent arities room out (stepped unbegun wrote)
-  unfolding firstStep sized afterSize afterLine
-  first-fault h l = record { piece = refusedLine Text; value = rw (missing-number r h); laid = l; sound = omega arith; past = omega arith }
+-- a text within the limit is read
+first-read : (text : List ℕ) → length text ≤ textLimit → firstStep text ≡ afterLine (sized text)
+unfolding firstStep
+first-read text h = simp (firstStep, le-ltb textLimit (length text) h)
 
-  module _ (h : not (n .ok) ≡ false) (b : Bool) (e : b ≡ not (sizeTest (n .value) .applies)) where
-    pub first-refused : not b ≡ true → Laid lent 0 (refusedLine Size) out wrote
-        → Stepping text 0 (firstStep text) lent arities room out (stepped unbegun wrote)
-    unfolding firstStep sized afterSize afterLine tested
-    first-refused k l =
-        record {
-          piece = refusedLine Size;
-          value = rw (found-number r h, size-fails (n .value) b e k);
-          laid = l;
-          sound = omega arith;
-          past = omega arith;
-        }
+-- a first line that ends the run
+first-ended : (text lent out piece : List ℕ) (wrote : ℕ) (t : Standing) → t ≡ unread false → firstStep text ≡ ends piece → Laid lent 0 piece out wrote
+    → (arities room : List ℕ) → Stepping text 0 (firstStep text) lent arities room out (stepped t wrote)
+first-ended text lent out piece wrote t et e l arities room =
+    rw et (record { piece = piece; value = e; laid = l; sound = omega arith; past = omega arith })
 
-  pub first-begun : not (n .ok) ≡ false → (b : Bool) → b ≡ not (sizeTest (n .value) .applies) → not b ≡ false
-      → Stepping text 0 (firstStep text) lent arities room lent (stepped (begun (n .value) (n .next)) 0)
-  unfolding firstStep sized afterSize afterLine tested
-  first-begun h b e k =
-      let p : 0 + 1 ≤ n .next = rw (not-false (n .ok) h) at (r .past) in
-      record {
-        piece = [];
-        value = rw (found-number r h, size-passes (n .value) b e k);
-        laid = laid-none lent 0 (omega arith);
-        sound = omega (arith, size-known (n .value) b e k, r .within);
-        past = p;
-      }
+module _ (text lent out : List ℕ) (wrote : ℕ) (t : Standing) (et : t ≡ unread false) where
+  pub first-too-long : textLimit < length text → Laid lent 0 (refusedLine Text) out wrote
+      → (arities room : List ℕ) → Stepping text 0 (firstStep text) lent arities room out (stepped t wrote)
+  unfolding firstStep
+  first-too-long h = first-ended text lent out (refusedLine Text) wrote t et (simp (firstStep, lt-ltb textLimit (length text) h))
+
+  module _ (h : length text ≤ textLimit) (n : Number) (r : NumberRead text 0 (sizeLine text 0) n) where
+    pub first-fault : not (n .ok) ≡ true → Laid lent 0 (refusedLine Text) out wrote
+        → (arities room : List ℕ) → Stepping text 0 (firstStep text) lent arities room out (stepped t wrote)
+    unfolding sized afterSize afterLine
+    first-fault f = first-ended text lent out (refusedLine Text) wrote t et (first-read text h ∙ rw (missing-number r f))
+
+    pub first-refused : not (n .ok) ≡ false → (b : Bool) → b ≡ not (sizeTest (n .value) .applies) → not b ≡ true → Laid lent 0 (refusedLine Size) out wrote
+        → (arities room : List ℕ) → Stepping text 0 (firstStep text) lent arities room out (stepped t wrote)
+    unfolding sized afterSize afterLine tested
+    first-refused f b e k =
+        first-ended text lent out (refusedLine Size) wrote t et (first-read text h ∙ rw (found-number r f, size-fails (n .value) b e k))
+
+pub first-begun : (text lent : List ℕ) → length text ≤ textLimit → (n : Number) → NumberRead text 0 (sizeLine text 0) n
+    → not (n .ok) ≡ false → (b : Bool) → b ≡ not (sizeTest (n .value) .applies) → not b ≡ false
+    → (arities room : List ℕ) → Stepping text 0 (firstStep text) lent arities room lent (stepped (begun (n .value) (n .next)) 0)
+unfolding sized afterSize afterLine tested
+first-begun text lent h n r f b e k arities room =
+    let p : 0 + 1 ≤ n .next = rw (not-false (n .ok) f) at (r .past) in
+    record {
+      piece = [];
+      value = first-read text h ∙ rw (found-number r f, size-passes (n .value) b e k);
+      laid = laid-none lent 0 (omega arith);
+      sound = omega (arith, size-known (n .value) b e k, r .within);
+      past = p;
+    }
 
 -- an operation line that was refused, or gave one operation more
 module _ (text : List ℕ) (s : Standing) (arities room lent out : List ℕ) (sound : Sound text s) (w : Lent text arities room lent)
@@ -137,6 +145,23 @@ module _ (text : List ℕ) (s : Standing) (arities room lent out : List ℕ) (so
         past = omega (arith, r .reached);
       }
 
+  pub operation-keeps : (x : Refusal) → l .check ≡ Failed x
+      → Kept s arities room (record { goes = false; at = s .at; size = s .size; operations = s .operations; cells = s .cells; asked = false }) arities after
+  operation-keeps x e =
+      record { operations = omega arith; cells = omega arith; used-arities = refl; spare-arities = refl; used-cells = r .before }
+
+  pub operation-adds : l .check ≡ Passed
+      → Kept s arities room (record { goes = true; at = l .next; size = s .size; operations = s .operations + 1; cells = l .cells; asked = false })
+      (set arities (s .operations) (l .arity)) after
+  operation-adds e =
+      record {
+        operations = omega arith;
+        cells = r .behind;
+        used-arities = take-set-le (s .operations) arities (s .operations) (l .arity) (omega arith);
+        spare-arities = drop-set-lt (s .operations + 1) arities (s .operations) (l .arity) (omega arith);
+        used-cells = r .before;
+      }
+
 -- a request, by what it asks
 after-asked : (a : Algebra) (xs : List ℕ) (next : ℕ) (q : Asked)
     → afterRequest a (requestOf xs next q) ≡ stepOf (goesOn q) (lineFor a xs q) (record { at = next; algebra = a; asked = true })
@@ -167,6 +192,13 @@ request-stepped text s arities room lent sound w after l r p out wrote a g eg =
       past = rw eg p;
     }
 
+-- which leaves the arities, and the cells in use
+pub request-keeps : (text : List ℕ) (s : Standing) (arities room after : List ℕ) (l : RequestLine)
+    → Requested text (s .at) room (s .cells) (request text (s .at)) after l → (g : Bool)
+    → Kept s arities room (record { goes = g; at = l .next; size = s .size; operations = s .operations; cells = s .cells; asked = true }) arities after
+request-keeps text s arities room after l r g =
+    record { operations = omega arith; cells = omega arith; used-arities = refl; spare-arities = refl; used-cells = laid-front (r .laid) }
+
 -- which step a line takes
 module _ (text : List ℕ) (s : State) where
   asked-request : s .asked ≡ true → step text s ≡ requestStep text s
@@ -182,19 +214,44 @@ module _ (text : List ℕ) (s : State) where
     unfolding step
     other-request h = simp (step, e, ← eb, h)
 
-module _ (text : List ℕ) (s : Standing) (arities room lent arities′ room′ out : List ℕ) (r : Stepped) where
-  pub step-asked : s .asked ≡ true → Stepping text (s .at) (requestStep text (stateOf s arities room)) lent arities′ room′ out r
-      → Stepping text (s .at) (step text (stateOf s arities room)) lent arities′ room′ out r
-  step-asked e q = rw (asked-request text (stateOf s arities room) e) q
+placed-midway : (text : List ℕ) (at : ℕ) (x : State) → 0 < at → due text (placeBy true at x) ≡ step text x
+unfolding due
+placed-midway text zero x h = absurd (omega arith)
+placed-midway text (suc at) x h = refl
 
-  module _ (e : s .asked ≡ false) (b : Bool) (eb : b ≡ begins text (s .at) (ascii "[op")) where
-    pub step-operation : b ≡ true → Stepping text (s .at) (operationStep text (stateOf s arities room)) lent arities′ room′ out r
-        → Stepping text (s .at) (step text (stateOf s arities room)) lent arities′ room′ out r
-    step-operation h q = rw (word-operation text (stateOf s arities room) e b eb h) q
+-- the step that is due where a run stands
+module _ (text : List ℕ) (s : Standing) (arities room : List ℕ) (g : s .goes ≡ true) where
+  due-first : s .at ≡ 0 → due text (placeOf s arities room) ≡ firstStep text
+  unfolding due
+  due-first e = rw (g, e)
 
-    pub step-request : b ≡ false → Stepping text (s .at) (requestStep text (stateOf s arities room)) lent arities′ room′ out r
-        → Stepping text (s .at) (step text (stateOf s arities room)) lent arities′ room′ out r
-    step-request h q = rw (other-request text (stateOf s arities room) e b eb h) q
+  due-step : 0 < s .at → due text (placeOf s arities room) ≡ step text (stateOf s arities room)
+  unfolding due
+  due-step h = rw g (placed-midway text (s .at) (stateOf s arities room) h)
+
+  module _ (lent arities′ room′ out : List ℕ) (r : Stepped) where
+    pub step-first : s .at ≡ 0 → ((a b : List ℕ) → Stepping text 0 (firstStep text) lent a b out r)
+        → Stepping text (s .at) (due text (placeOf s arities room)) lent arities′ room′ out r
+    step-first e q = rw (due-first e, e) (q arities′ room′)
+
+    module _ (h : s .at ≡ 0 → ⊥) where
+      pub step-asked : s .asked ≡ true → Stepping text (s .at) (requestStep text (stateOf s arities room)) lent arities′ room′ out r
+          → Stepping text (s .at) (due text (placeOf s arities room)) lent arities′ room′ out r
+      step-asked e q = rw (due-step (omega arith) ∙ asked-request text (stateOf s arities room) e) q
+
+      module _ (e : s .asked ≡ false) (b : Bool) (eb : b ≡ begins text (s .at) (ascii "[op")) where
+        pub step-operation : b ≡ true → Stepping text (s .at) (operationStep text (stateOf s arities room)) lent arities′ room′ out r
+            → Stepping text (s .at) (due text (placeOf s arities room)) lent arities′ room′ out r
+        step-operation k q = rw (due-step (omega arith) ∙ word-operation text (stateOf s arities room) e b eb k) q
+
+        pub step-request : b ≡ false → Stepping text (s .at) (requestStep text (stateOf s arities room)) lent arities′ room′ out r
+            → Stepping text (s .at) (due text (placeOf s arities room)) lent arities′ room′ out r
+        step-request k q = rw (due-step (omega arith) ∙ other-request text (stateOf s arities room) e b eb k) q
+
+-- the first line leaves the lent slices
+pub first-keeps : (s s′ : Standing) (arities room : List ℕ) (text : List ℕ) → Sound text s → s .at ≡ 0 → Kept s arities room s′ arities room
+first-keeps s s′ arities room text w e =
+    record { operations = omega (arith, w .counted); cells = omega (arith, w .paced); used-arities = refl; spare-arities = refl; used-cells = refl }
 
 -- the word of an operation line is within the text
 pub operation-room : (text : List ℕ) (s : Standing) (b : Bool) → b ≡ begins text (s .at) (ascii "[op") → Sound text s → b ≡ true → s .at + 3 ≤ length text

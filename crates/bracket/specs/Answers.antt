@@ -1,19 +1,19 @@
 -- What the desk writes: one line for each request, and one for a refusal that ends the run.
 use Prim.Native.Nat.{ℕ, _-_, _*_}
+use mathlib.Core.Bool.{true, false}
 use mathlib.Core.List.{List, [], _∷_, _++_, map}
+use lib.Dec.{eqb}
 use lib.ListN.{replicate}
 use Rattle.equivalence.specs.Lists.{upTo}
 use Rattle.equivalence.specs.Lent.{stretch}
-use Rattle.equivalence.specs.Refusal.{numberOf}
+use Rattle.equivalence.specs.Outcome.{Outcome, refusal, writtenOutcome}
 use Rattle.equivalence.specs.declared.Refusal.{Refusal}
 use Rattle.equivalence.specs.declared.Written.{Written}
-use Rattle.equivalence.specs.declared.Written.the-variants.{Done, Refused as WriteRefused}
 use Rattle.algebra.specs.Algebra.{Algebra}
 use Rattle.congruence.specs.Calls.{generateCall, containedCall, separateCall, decomposeCall}
+use Rattle.congruence.specs.Outcome.{generatedOutcome, decomposedOutcome}
 use Rattle.congruence.specs.declared.Generated.{Generated}
-use Rattle.congruence.specs.declared.Generated.the-variants.{Merges, Refused as GenerateRefused}
 use Rattle.congruence.specs.declared.Decomposed.{Decomposed}
-use Rattle.congruence.specs.declared.Decomposed.the-variants.{Factors, Irreducible, Refused as DecomposeRefused}
 use Rattle.reader.specs.Reading.{ascii}
 use Rattle.reader.specs.Numbers.{decimal}
 use Rattle.reader.specs.Lines.{Request, generate, contained, separate, decompose}
@@ -37,25 +37,31 @@ spacedBrackets (m ∷ rest) = ascii " " ++ bracketed m ++ spacedBrackets rest
 unfoldable pub line : List ℕ → List ℕ → List ℕ
 line word rest = word ++ rest ++ ascii "]\n"
 
--- `[refused 8]`
+-- the numbers in a refusal's line: the reason, and behind 11 its two elements
+unfoldable pub refusedNumbers : Outcome → List ℕ
+refusedNumbers o = elim (eqb (o .reason) 11) [ true ↦ o .reason ∷ o .first ∷ o .second ∷ [] | false ↦ o .reason ∷ [] ]
+
+-- the line for an outcome: the one that is given for success, else `[refused 8]` or `[refused 11 0 2]`
+unfoldable pub outcomeLine : Outcome → List ℕ → List ℕ
+outcomeLine o done = elim (eqb (o .reason) 0) [ true ↦ done | false ↦ line (ascii "[refused") (spaced (refusedNumbers o)) ]
+
+-- the line for a refusal that no service gave
 unfoldable pub refusedLine : Refusal → List ℕ
-refusedLine r = line (ascii "[refused") (spaced (numberOf r ∷ []))
+refusedLine r = outcomeLine (refusal r) []
 
 -- `[map 0 0 2 3]`
 unfoldable pub mapLine : Written → List ℕ → List ℕ
-mapLine Done m = line (ascii "[map") (spaced m)
-mapLine (WriteRefused r) m = refusedLine r
+mapLine a m = outcomeLine (writtenOutcome a) (line (ascii "[map") (spaced m))
 
 -- `[generated 2 [0 1 0 1]]`: merges, then map
 unfoldable pub generatedLine : Generated → List ℕ → List ℕ
-generatedLine (Merges k) m = line (ascii "[generated") (spaced (k ∷ []) ++ spacedBrackets (m ∷ []))
-generatedLine (GenerateRefused r) m = refusedLine r
+generatedLine a m =
+    let o = generatedOutcome a in outcomeLine o (line (ascii "[generated") (spaced (o .count ∷ []) ++ spacedBrackets (m ∷ [])))
 
--- `[factors [0 1 0 1] [0 0 2 2]]`, or `[refused 11 0 2]`
+-- `[factors [0 1 0 1] [0 0 2 2]]`
 unfoldable pub factorsLine : ℕ → Decomposed → List ℕ → List ℕ
-factorsLine n (Factors k) bytes = line (ascii "[factors") (spacedBrackets (map (stretch n bytes) (upTo k)))
-factorsLine n (Irreducible x y) bytes = line (ascii "[refused") (spaced (11 ∷ x .0 ∷ y .0 ∷ []))
-factorsLine n (DecomposeRefused r) bytes = refusedLine r
+factorsLine n a bytes =
+    let o = decomposedOutcome a in outcomeLine o (line (ascii "[factors") (spacedBrackets (map (stretch n bytes) (upTo (o .count)))))
 
 -- the answer to a request: what the service answers, lent just the bytes that it wants
 unfoldable pub answer : Algebra → Request → List ℕ

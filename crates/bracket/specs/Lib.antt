@@ -1,4 +1,5 @@
 pub mod Answers
 pub mod Transcript
+pub mod Fills
 pub mod Promises
 pub mod Steps

@@ -11,6 +11,7 @@ use Rattle.reader.specs.Lines.{generate, contained, separate, decompose}
 use Rattle.reader.specs.declared.requests.Asked.{Asked}
 use Rattle.reader.specs.declared.requests.Asked.the-variants.{Generate, Contained, Separate, Decompose, Nothing}
 use Rattle.bracket.specs.Answers.{refusedLine, answer}
+use Rattle.bracket.specs.Fills.{lineRoom}
 
 -- what is written for a request, where these numbers were stored
 abbrev pub lineFor : Algebra → List ℕ → Asked → List ℕ
@@ -30,13 +31,13 @@ pub record FactorsRoom (n k : ℕ) (factors out : List ℕ) : Type 0 where
 pub record LineFits (n : ℕ) (out : List ℕ) : Type 0 where
   pub some : 0 < n
   pub most : n ≤ 64
-  pub line : 16384 ≤ length out
+  pub line : lineRoom ≤ length out
 
 -- a map of 1 to 64 bytes, and room for a line
 pub record MapFits (map out : List ℕ) : Type 0 where
   pub some : 0 < length map
   pub most : length map ≤ 64
-  pub line : 16384 ≤ length out
+  pub line : lineRoom ≤ length out
 
 -- Decompose's answer over n elements, the list that it was lent, and room for a line
 pub record FactorsFit (answer : Decomposed) (n : ℕ) (factors out : List ℕ) : Type 0 where

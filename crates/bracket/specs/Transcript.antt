@@ -1,5 +1,5 @@
 -- The whole output as a function of the whole input.
-use Prim.Native.Nat.{ℕ, zero, suc, _+_, _≤_, _<_}
+use Prim.Native.Nat.{ℕ, zero, suc, _+_}
 use mathlib.Core.Bool.{Bool, true, false, not, _&&_}
 use mathlib.Core.List.{List, [], _∷_, _++_}
 use lib.Dec.{leb, ltb}
@@ -9,6 +9,10 @@ use Rattle.algebra.specs.Algebra.{Algebra}
 use Rattle.reader.specs.Reading.{ascii, Read, found, fault, begins}
 use Rattle.reader.specs.Lines.{Progress, defined, refused, sized, operation, Request, request}
 use Rattle.bracket.specs.Answers.{refusedLine, answer}
+
+-- the longest text that is read
+abbrev pub textLimit : ℕ
+textLimit = 65536
 
 -- where a run stands: at the start of a line, behind the lines that gave this algebra, before or after the first request
 pub record State : Type 0 where
@@ -31,9 +35,9 @@ unfoldable pub afterRequest : Algebra → Read Request → Step
 afterRequest a (found q at) = goes (answer a q) (record { at = at; algebra = a; asked = true })
 afterRequest a fault = ends (refusedLine Text)
 
--- the first line, which is the size line
+-- the first line, which is the size line; a text of more than 65,536 bytes is refused before it is read
 unfoldable pub firstStep : List ℕ → Step
-firstStep text = afterLine (sized text)
+firstStep text = elim (ltb textLimit (length text)) [ true ↦ ends (refusedLine Text) | false ↦ afterLine (sized text) ]
 
 -- an operation line, which begins with `[op`
 unfoldable pub operationStep : List ℕ → State → Step
@@ -60,11 +64,4 @@ run (suc k) text s = elim (leb (length text) (s .at)) [ true ↦ [] | false ↦ 
 
 -- the output of the desk program; a text has no more lines than bytes
 unfoldable pub transcript : List ℕ → List ℕ
-transcript text =
-    elim (ltb 65536 (length text)) [ true ↦ refusedLine Text | false ↦ output (firstStep text) (run (length text) text) ]
-
--- the pieces that a step and those after it write, in order: to a step that ends the run, or to the end of the text
-pub data Pieces (text : List ℕ) : Step → List (List ℕ) → Type 0 where
-  ended : {piece : List ℕ} → Pieces text (ends piece) (piece ∷ [])
-  finished : {piece : List ℕ} {s : State} → length text ≤ s .at → Pieces text (goes piece s) (piece ∷ [])
-  onwards : {piece : List ℕ} {s : State} {rest : List (List ℕ)} → s .at < length text → Pieces text (step text s) rest → Pieces text (goes piece s) (piece ∷ rest)
+transcript text = output (firstStep text) (run (length text) text)

@@ -1,5 +1,6 @@
-// Bracket text: writer, and the answer to each line of a run; `reader` reads.
+// Bracket text: writer, the answer to each line, and a run in fills; `reader` reads.
 
 mod answers;
 pub mod run;
+mod steps;
 mod writing;

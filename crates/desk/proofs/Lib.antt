@@ -1,1 +1,1 @@
-pub mod Advancing
+pub mod Running

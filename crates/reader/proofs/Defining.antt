@@ -2,7 +2,7 @@
 use Prim.Native.Nat.{ℕ, _+_, _-_}
 use mathlib.Core.Bool.{Bool, true, false, not}
 use mathlib.Core.List.{List, [], _∷_}
-use mathlib.Core.Path.{_≡_, ap, sym, _∙_}
+use mathlib.Core.Path.{_≡_, refl, ap, sym, _∙_}
 use native.Mathlib.Omega.{arith}
 use borrow.Author.Tests.{not-true, not-false}
 use lib.Dec.{ltb}
@@ -23,7 +23,7 @@ use Rattle.reader.specs.Promises.{readOf, NumberRead, Roomy, Stored, tab
 use Rattle.reader.specs.declared.lines.OperationLine.{OperationLine}
 use Rattle.reader.specs.declared.reading.Number.{Number}
 use Rattle.reader.specs.declared.reading.Spot.{Spot}
-use Rattle.reader.proofs.Laying.{laid-part, laid-before}
+use Rattle.reader.proofs.Laying.{laid-part, laid-before, laid-front}
 use Rattle.reader.proofs.Readers.{then-found, then-fault}
 use Rattle.reader.proofs.SpacedNumbers.{close-found, close-fault, found-number, missing-number}
 use Rattle.reader.proofs.Words.{begins-within}
@@ -51,6 +51,8 @@ module _ (text : List ℕ) (at s n : ℕ) (lent : List ℕ) (put : ℕ) (w : Roo
         value = λ arities. ap (afterTable (algebraOf n arities (take put lent)) s) e;
         reached = omega arith;
         paced = omega arith;
+        behind = omega arith;
+        before = laid-front (st .laid);
       }
 
   pub table-faulty : not (t .ok) ≡ true → TableRead text at s n lent put after (refusal Text s at put)
@@ -88,6 +90,8 @@ module _ (text : List ℕ) (at s n : ℕ) (lent : List ℕ) (put : ℕ) (w : Roo
             value = λ arities. rw (table-read, cell-above n (st .new) (below ∙ not-true b f));
             reached = omega arith;
             paced = omega arith;
+            behind = omega arith;
+            before = laid-front (st .laid);
           }
 
       pub table-defined : not b ≡ false
@@ -98,18 +102,20 @@ module _ (text : List ℕ) (at s n : ℕ) (lent : List ℕ) (put : ℕ) (w : Roo
             value = λ arities. rw (table-read, cells-below n (st .new) (below ∙ not-false b f), laid-before (st .laid));
             reached = omega (arith, begins-within text (ascii "]\n") (t .at) tt (st .reached .within) (sym eq ∙ not-false q g), st .reached .past);
             paced = omega (arith, st .paced);
+            behind = omega (arith, st .laid .place);
+            before = laid-front (st .laid);
           }
 
 -- its arity, and the tests after that
-module _ (text : List ℕ) (at n operations : ℕ) (lent : List ℕ) (put : ℕ) (w : Roomy text at lent put) (after : List ℕ) (s : Number)
+module _ (text : List ℕ) (at n operations : ℕ) (lent : List ℕ) (put : ℕ) (w : Roomy text at lent put) (s : Number)
     (r : NumberRead text at (arity text at) s) where
   count : length (take put lent) ≡ put
   count = length-take-le put lent (omega arith)
 
-  pub arity-faulty : not (s .ok) ≡ true → OperationRead text at n operations lent put after (refusal Text (s .value) at put)
+  pub arity-faulty : not (s .ok) ≡ true → OperationRead text at n operations lent put lent (refusal Text (s .value) at put)
   unfolding operationProgress tableProgress operation afterArity
   arity-faulty h =
-      record { value = λ arities l. rw (missing-number r h); reached = omega arith; paced = omega arith }
+      record { value = λ arities l. rw (missing-number r h); reached = omega arith; paced = omega arith; behind = omega arith; before = refl }
 
   module _ (h : not (s .ok) ≡ false) (c : Check) (ec : c ≡ lowest (operationTests n operations put (s .value))) where
     arity-known : (arities : List ℕ) → length arities ≡ operations
@@ -117,18 +123,20 @@ module _ (text : List ℕ) (at n operations : ℕ) (lent : List ℕ) (put : ℕ)
     unfolding operationProgress tableProgress operation afterArity
     arity-known arities l = rw (found-number r h, l, count, ← ec)
 
-    pub operation-refused : (x : Refusal) → c ≡ Failed x → OperationRead text at n operations lent put after (refusal x (s .value) at put)
+    pub operation-refused : (x : Refusal) → c ≡ Failed x → OperationRead text at n operations lent put lent (refusal x (s .value) at put)
     unfolding tested
     operation-refused x e =
-        record { value = λ arities l. arity-known arities l ∙ rw e; reached = omega arith; paced = omega arith }
+        record { value = λ arities l. arity-known arities l ∙ rw e; reached = omega arith; paced = omega arith; behind = omega arith; before = refl }
 
-    pub operation-read : c ≡ Passed → (o : OperationLine)
+    pub operation-read : c ≡ Passed → (after : List ℕ) (o : OperationLine)
         → TableRead text (s .next) (s .value) n lent put after o
         → OperationRead text at n operations lent put after o
     unfolding tested
-    operation-read e o q =
+    operation-read e after o q =
         record {
           value = λ arities l. arity-known arities l ∙ rw e (q .value arities);
           reached = omega (arith, q .reached, r .past);
           paced = omega (arith, q .paced, r .past);
+          behind = q .behind;
+          before = q .before;
         }

@@ -75,22 +75,26 @@ progressOf n arities room s cells next (Failed r) = refused r
 unfoldable pub tableProgress : List ℕ → ℕ → ℕ → ℕ → List ℕ → ℕ → List ℕ → Progress
 tableProgress text at s n lent put arities = afterTable (algebraOf n arities (take put lent)) s (lastTable n s text at)
 
--- the table was read as that says, and stands in the storage behind the cells before
+-- the table was read as that says, and stands in the storage behind the cells before, which stay as they are
 pub record TableRead (text : List ℕ) (at s n : ℕ) (lent : List ℕ) (put : ℕ) (after : List ℕ) (r : OperationLine) : Type 0 where
   pub value : (arities : List ℕ) → tableProgress text at s n lent put arities ≡ progressOf n arities after (r .arity) (r .cells) (r .next) (r .check)
   pub reached : Reached text at (r .next)
   pub paced : r .cells + at ≤ put + r .next
+  pub behind : put ≤ r .cells
+  pub before : take put after ≡ take put lent
 
 -- an operation line, behind these arities and so many cells of the storage
 unfoldable pub operationProgress : List ℕ → ℕ → ℕ → List ℕ → ℕ → List ℕ → Progress
 operationProgress text at n lent put arities = operation (algebraOf n arities (take put lent)) text at
 
--- the line was read as that says, behind so many operations
+-- the line was read as that says, behind so many operations; the cells before stay as they are
 pub record OperationRead (text : List ℕ) (at n operations : ℕ) (lent : List ℕ) (put : ℕ) (after : List ℕ) (r : OperationLine) : Type 0 where
   pub value : (arities : List ℕ) → length arities ≡ operations
       → operationProgress text at n lent put arities ≡ progressOf n arities after (r .arity) (r .cells) (r .next) (r .check)
   pub reached : Reached text at (r .next)
   pub paced : r .cells + at ≤ put + r .next
+  pub behind : put ≤ r .cells
+  pub before : take put after ≡ take put lent
 
 -- the request that was read, where these numbers were stored
 abbrev pub requestOf : List ℕ → ℕ → Asked → Read Request

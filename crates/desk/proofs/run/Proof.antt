@@ -1,47 +1,49 @@
--- `run` meets its contract, by the laws of Advancing.
-use Prim.Native.Nat.{_+_, _-_}
+-- `run` meets its contract, by the laws of Running. The measure is how far the run is from its end.
 use mathlib.Core.Path.{_≡_, refl}
 use borrow.Author.Needs.{needs}
 use lib.ListN.{length}
-use Rattle.reader.specs.Promises.{bit}
-use Rattle.desk.specs.Running.{Running}
-use Rattle.desk.proofs.Advancing.{running-begins, running-less}
+use Rattle.bracket.specs.Steps.{placeOf}
+use Rattle.bracket.proofs.Fills.{left}
+use Rattle.desk.proofs.Running.{Running, running-begins, part-next, part-within, count-fits, fill-nearer, running-on, running-ends}
 use Rattle.desk.proofs.run.Statement.{statement}
 use Rattle.desk.proofs.run.Tie as tie
 
 abbrev Inv-loop : tie.InvT-loop
-Inv-loop text arities₀ room₀ out₀ standing₀ put₀ arities room out standing put =
-    Running text standing arities room out put × ((length arities ≡ length arities₀) × (length room ≡ length room₀))
+Inv-loop text arities₀ room₀ out₀ standing₀ written₀ arities room out standing written =
+    Running text standing arities room out written × ((length arities ≡ length arities₀) × (length room ≡ length room₀))
 
 abbrev μ-loop : tie.MeasureT-loop
-μ-loop text arities₀ room₀ out₀ standing₀ put₀ arities room out standing put = length text - standing .at + bit (standing .goes)
+μ-loop text arities₀ room₀ out₀ standing₀ written₀ arities room out standing written = left text (placeOf standing arities room)
 
-begin-requires : tie.Need-begin-requires Inv-loop μ-loop
-begin-requires c κs = search needs
+unread-requires : tie.Need-unread-requires Inv-loop μ-loop
+unread-requires c κs = search needs
 
 loop-holds : tie.Need-loop-holds Inv-loop μ-loop
 loop-holds c = (search running-begins, (refl, refl))
 
-advance-requires : tie.Need-advance-requires Inv-loop μ-loop
-advance-requires c κs = search needs
+fill-requires : tie.Need-fill-requires Inv-loop μ-loop
+fill-requires c κs = search needs
+
+sub-write-next : tie.Need-sub-write-next Inv-loop μ-loop
+sub-write-next c = search needs
+
+part-write-next-start : tie.Need-part-write-next-start Inv-loop μ-loop
+part-write-next-start c = search needs
+
+part-write-next-end : tie.Need-part-write-next-end Inv-loop μ-loop
+part-write-next-end c = search part-within
+
+write-next-requires : tie.Need-write-next-requires Inv-loop μ-loop
+write-next-requires c κs =
+    let f = c .before .before .before .before .before .before .before .before in
+    let l = f .before .before .before .before .before in
+    (part-next _ _ _ _ _ _ (l .loop .inv .0) (f .before .before .before .before .loop-test .taken) _ _ _ _ (f .fill .ensures), search count-fits)
 
 loop-less : tie.Need-loop-less Inv-loop μ-loop
-loop-less c = search running-less
+loop-less c = search fill-nearer
 
 loop-again : tie.Need-loop-again Inv-loop μ-loop
-loop-again c = search needs
-
-sub-write-all : tie.Need-sub-write-all Inv-loop μ-loop
-sub-write-all c = search needs
-
-part-write-all-start : tie.Need-part-write-all-start Inv-loop μ-loop
-part-write-all-start c = search needs
-
-part-write-all-end : tie.Need-part-write-all-end Inv-loop μ-loop
-part-write-all-end c = search needs
-
-write-all-requires : tie.Need-write-all-requires Inv-loop μ-loop
-write-all-requires c κs = search needs
+loop-again c = (search running-on, search needs)
 
 same-length : tie.Need-same-length Inv-loop μ-loop
 same-length c = search needs
@@ -53,7 +55,7 @@ same-length-3 : tie.Need-same-length-3 Inv-loop μ-loop
 same-length-3 c = search needs
 
 returns : tie.Need-returns Inv-loop μ-loop
-returns c = search needs
+returns c = search running-ends
 
 pub run-spec : {M : Type 1} → statement M
 run-spec =
@@ -61,15 +63,15 @@ run-spec =
     (tie.spec
     Inv-loop
     μ-loop
-    begin-requires
+    unread-requires
     loop-holds
-    advance-requires
+    fill-requires
+    sub-write-next
+    part-write-next-start
+    part-write-next-end
+    write-next-requires
     loop-less
     loop-again
-    sub-write-all
-    part-write-all-start
-    part-write-all-end
-    write-all-requires
     same-length
     same-length-2
     same-length-3

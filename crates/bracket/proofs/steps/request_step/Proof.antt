@@ -1,8 +1,8 @@
--- `run::request_step` meets its contract, by the laws of Stepping.
-use Rattle.bracket.proofs.Stepping.{request-stepped}
+-- `steps::request_step` meets its contract, by the laws of Stepping.
+use Rattle.bracket.proofs.Stepping.{request-stepped, request-keeps}
 use borrow.Author.Needs.{needs}
-use Rattle.bracket.proofs.run.request_step.Statement.{statement}
-use Rattle.bracket.proofs.run.request_step.Tie as tie
+use Rattle.bracket.proofs.steps.request_step.Statement.{statement}
+use Rattle.bracket.proofs.steps.request_step.Tie as tie
 
 read-request-requires : tie.Need-read-request-requires
 read-request-requires c κs = search needs
@@ -50,7 +50,7 @@ same-length-2 : tie.Need-same-length-2
 same-length-2 c = search needs
 
 returns : tie.Need-returns
-returns c = search request-stepped
+returns c = (search request-stepped, search request-keeps)
 
 pub request-step-spec : {M : Type 1} → statement M
 request-step-spec =

@@ -1,8 +1,8 @@
--- `run::operation_step` meets its contract, by the laws of Stepping.
-use Rattle.bracket.proofs.Stepping.{operation-ends, operation-place, operation-grows}
+-- `steps::operation_step` meets its contract, by the laws of Stepping.
+use Rattle.bracket.proofs.Stepping.{operation-ends, operation-keeps, operation-place, operation-grows, operation-adds}
 use borrow.Author.Needs.{needs}
-use Rattle.bracket.proofs.run.operation_step.Statement.{statement}
-use Rattle.bracket.proofs.run.operation_step.Tie as tie
+use Rattle.bracket.proofs.steps.operation_step.Statement.{statement}
+use Rattle.bracket.proofs.steps.operation_step.Tie as tie
 
 add-read-operation : tie.Need-add-read-operation
 add-read-operation c = search needs
@@ -23,7 +23,7 @@ same-length-2 : tie.Need-same-length-2
 same-length-2 c = search needs
 
 returns : tie.Need-returns
-returns c = search operation-ends
+returns c = (search operation-ends, search operation-keeps)
 
 enum-told : tie.Need-enum-told
 enum-told c = search needs
@@ -41,7 +41,7 @@ same-length-4 : tie.Need-same-length-4
 same-length-4 c = search needs
 
 returns-2 : tie.Need-returns-2
-returns-2 c = search operation-grows
+returns-2 c = (search operation-grows, search operation-adds)
 
 pub operation-step-spec : {M : Type 1} → statement M
 operation-step-spec =

@@ -1,0 +1,96 @@
+-- `run::gather` meets its contract, by the laws of Gathering. The measure is how far the run is from its end.
+use Prim.Native.Nat.{_+_, _≤_}
+use native.Mathlib.Omega.{arith}
+use lib.ListN.{length}
+use Rattle.bracket.proofs.Fills.{left}
+use Rattle.bracket.proofs.Gathering.{Gathered, gathered-none, gathered-more, gathered-over, gathered-short, gathered-fits, gathered-lent, line-less}
+use Rattle.bracket.specs.Steps.{placeOf}
+use borrow.Author.Needs.{needs}
+use Rattle.bracket.proofs.run.gather.Statement.{statement}
+use Rattle.bracket.proofs.run.gather.Tie as tie
+
+abbrev Inv-loop : tie.InvT-loop
+Inv-loop text arities₀ room₀ out₀ standing₀ put₀ arities room out standing put =
+    Gathered text standing₀ arities₀ room₀ out₀ standing arities room out put
+
+abbrev μ-loop : tie.MeasureT-loop
+μ-loop text arities₀ room₀ out₀ standing₀ put₀ arities room out standing put = left text (placeOf standing arities room)
+
+loop-holds : tie.Need-loop-holds Inv-loop μ-loop
+loop-holds c = search gathered-none
+
+sub-if1 : tie.Need-sub-if1 Inv-loop μ-loop
+sub-if1 c = search needs
+
+same-length : tie.Need-same-length Inv-loop μ-loop
+same-length c = search needs
+
+same-length-2 : tie.Need-same-length-2 Inv-loop μ-loop
+same-length-2 c = search needs
+
+same-length-3 : tie.Need-same-length-3 Inv-loop μ-loop
+same-length-3 c = search needs
+
+returns : tie.Need-returns Inv-loop μ-loop
+returns c = search gathered-short
+
+sub-line : tie.Need-sub-line Inv-loop μ-loop
+sub-line c = search needs
+
+part-line-start : tie.Need-part-line-start Inv-loop μ-loop
+part-line-start c = search needs
+
+part-line-end : tie.Need-part-line-end Inv-loop μ-loop
+part-line-end c = search needs
+
+line-requires : tie.Need-line-requires Inv-loop μ-loop
+line-requires c κs = (search needs, (search gathered-lent, search needs))
+
+add-put : tie.Need-add-put Inv-loop μ-loop
+add-put c =
+    let k = c .before .before .before .before .before .before .before .before in
+    let l = k .before .before .before .before .before .before in
+    let h : l .loop .put + k .line .result .wrote ≤ length (l .loop .out) = search gathered-fits in
+    omega (arith, l .loop .inv .laid .long, l .before .before .before .before .before .good)
+
+loop-less : tie.Need-loop-less Inv-loop μ-loop
+loop-less c = search line-less
+
+loop-again : tie.Need-loop-again Inv-loop μ-loop
+loop-again c = search gathered-more
+
+same-length-4 : tie.Need-same-length-4 Inv-loop μ-loop
+same-length-4 c = search needs
+
+same-length-5 : tie.Need-same-length-5 Inv-loop μ-loop
+same-length-5 c = search needs
+
+same-length-6 : tie.Need-same-length-6 Inv-loop μ-loop
+same-length-6 c = search needs
+
+returns-2 : tie.Need-returns-2 Inv-loop μ-loop
+returns-2 c = search gathered-over
+
+pub gather-spec : {M : Type 1} → statement M
+gather-spec =
+    tie.close
+    (tie.spec
+    Inv-loop
+    μ-loop
+    loop-holds
+    sub-if1
+    same-length
+    same-length-2
+    same-length-3
+    returns
+    sub-line
+    part-line-start
+    part-line-end
+    line-requires
+    add-put
+    loop-less
+    loop-again
+    same-length-4
+    same-length-5
+    same-length-6
+    returns-2)

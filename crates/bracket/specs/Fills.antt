@@ -1,0 +1,46 @@
+-- A run in fills: lines are taken, and what they write is laid, until the run is over or the room gets short.
+use Prim.Native.Nat.{ℕ, _-_, _≤_, _<_}
+use mathlib.Core.Bool.{true, false}
+use mathlib.Core.List.{List, [], _∷_, _++_}
+use lib.Dec.{leb}
+use lib.ListN.{length}
+use Rattle.bracket.specs.Transcript.{State, Step, goes, ends, firstStep, step}
+
+-- the room that a line may want
+abbrev pub lineRoom : ℕ
+lineRoom = 16384
+
+-- where a run stands: before its first line, before another, or at its end
+pub data Place : Type 0 where
+  fresh : Place
+  midway : State → Place
+  over : Place
+
+-- the step that is due at a place
+unfoldable pub due : List ℕ → Place → Step
+due text fresh = firstStep text
+due text (midway s) = step text s
+due text over = ends []
+
+-- what a step writes
+unfoldable pub pieceOf : Step → List ℕ
+pieceOf (goes piece s) = piece
+pieceOf (ends piece) = piece
+
+-- where a step leads; behind the last byte of the text the run is over
+unfoldable pub placeAfter : List ℕ → Step → Place
+placeAfter text (goes piece s) = elim (leb (length text) (s .at)) [ true ↦ over | false ↦ midway s ]
+placeAfter text (ends piece) = over
+
+-- a fill of so much room, from a place to a place: its bytes are what the steps between them write, in order; it ends where the run is over, or where a line may want more
+-- than the room that is left
+pub data Fill (text : List ℕ) : ℕ → Place → List ℕ → Place → Type 0 where
+  ended : {room : ℕ} → Fill text room over [] over
+  short : {room : ℕ} {p : Place} → room < lineRoom → Fill text room p [] p
+  takes : {room : ℕ} {p q : Place} {more : List ℕ} → lineRoom ≤ room → Fill text (room - length (pieceOf (due text p))) (placeAfter text (due text p)) more q
+      → Fill text room p (pieceOf (due text p) ++ more) q
+
+-- the bytes of the fills of a run from a place on, each fill from where the one before it ended, to the end of the run
+pub data Fills (text : List ℕ) : Place → List (List ℕ) → Type 0 where
+  finished : Fills text over []
+  onwards : {room : ℕ} {p q : Place} {bytes : List ℕ} {rest : List (List ℕ)} → Fill text room p bytes q → Fills text q rest → Fills text p (bytes ∷ rest)

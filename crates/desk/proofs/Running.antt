@@ -1,0 +1,101 @@
+-- The program's loop: what is written is the front of the transcript, and what the run still writes is the rest.
+use Prim.Native.Nat.{ℕ, _+_, _-_, _*_, _≤_, _<_}
+use mathlib.Core.Bool.{true, false}
+use mathlib.Core.List.{List, [], _++_}
+use mathlib.Core.Path.{_≡_, refl, ap, sym, _∙_, subst}
+use native.Mathlib.Omega.{arith}
+use lib.ListN.{length, take, drop, length-append, length-drop}
+use lib.Seq.{drop-drop, drop-append-seam}
+use Rattle.reader.proofs.Laying.{laid-part}
+use Rattle.bracket.specs.Transcript.{output, transcript}
+use Rattle.bracket.specs.Fills.{Place, fresh, over, due}
+use Rattle.bracket.specs.Steps.{placeOf, unread, Sound, Lent, Filling, Filled}
+use Rattle.bracket.proofs.Calling.{sound-able}
+use Rattle.bracket.proofs.Fills.{remaining, fill-remaining, left, fill-less}
+use Rattle.bracket.proofs.Gathering.{goes-left}
+use Rattle.bracket.specs.declared.run.Standing.{Standing}
+use Rattle.bracket.specs.declared.run.Stepped.{Stepped}
+use Rattle.desk.specs.Writing.{Next, Enough}
+
+-- a run over the text of which `written` bytes are written out
+pub record Running (text : List ℕ) (s : Standing) (arities room out : List ℕ) (written : ℕ) : Type 0 where
+  pub sound : Sound text s
+  pub enough : Enough text arities room out
+  pub within : written ≤ length (transcript text)
+  pub rest : drop written (transcript text) ≡ remaining text (placeOf s arities room)
+  pub bounded : written + 32768 * left text (placeOf s arities room) ≤ 32768 * (length text + 2)
+
+-- what follows a part
+drop-part : (whole part rest : List ℕ) (written : ℕ) → drop written whole ≡ part ++ rest → drop (written + length part) whole ≡ rest
+drop-part whole part rest written e = sym (drop-drop (length part) written whole) ∙ rw e (drop-append-seam part rest)
+
+-- it begins with nothing written
+pub running-begins : (text arities room out : List ℕ) (s : Standing) → s ≡ unread true → Enough text arities room out → Running text s arities room out 0
+unfolding remaining transcript due
+running-begins text arities room out s e w = rw e (record { sound = omega arith; enough = w; within = omega arith; rest = refl; bounded = omega arith })
+
+-- a fill of a run that goes on
+module _ (text : List ℕ) (s : Standing) (arities room out : List ℕ) (written : ℕ) (w : Running text s arities room out written) (g : s .goes ≡ true)
+    (arities′ room′ out′ : List ℕ) (r : Stepped) (f : Filled text s arities room out arities′ room′ out′ r) where
+  filling : Filling text s arities room out arities′ room′ out′ r
+  filling =
+      f .fills
+      (sound-able text s arities room out g (w .sound)
+      (record { sixteen = w .enough .sixteen; storage = w .enough .storage; line = omega (arith, w .enough .long) }))
+
+  part-laid : take (r .wrote - 0) (drop 0 out′) ≡ filling .bytes
+  part-laid = laid-part (filling .laid)
+
+  to-come : drop written (transcript text) ≡ filling .bytes ++ remaining text (placeOf (r .standing) arities′ room′)
+  to-come = w .rest ∙ fill-remaining text (filling .fill)
+
+  to-follow : drop (written + length (filling .bytes)) (transcript text) ≡ remaining text (placeOf (r .standing) arities′ room′)
+  to-follow = drop-part (transcript text) (filling .bytes) (remaining text (placeOf (r .standing) arities′ room′)) written to-come
+
+  -- what it laid comes next
+  pub part-next : Next (transcript text) written (take (r .wrote - 0) (drop 0 out′))
+  part-next =
+      subst (λ (x : List ℕ). Next (transcript text) written x) (sym part-laid)
+      (record { follows = to-come ∙ ap (λ (x : List ℕ). filling .bytes ++ x) (sym to-follow) })
+
+  pub part-within : r .wrote ≤ length out′
+  part-within = omega (arith, filling .laid .within, filling .laid .long)
+
+  -- each fill gets nearer to the end of the run
+  pub fill-nearer : left text (placeOf (r .standing) arities′ room′) < left text (placeOf s arities room)
+  fill-nearer = fill-less text (omega (arith, w .enough .long)) (goes-left text s arities room g) (filling .fill)
+
+  few : length (filling .bytes) ≤ 32768
+  few = omega (arith, filling .laid .place, filling .laid .within, w .enough .long)
+
+  -- so that the count stays small
+  pub count-fits : written + length (take (r .wrote - 0) (drop 0 out′)) < 18446744073709551616
+  count-fits = omega (arith, ap length part-laid, few, w .bounded, w .enough .most, fill-nearer)
+
+  -- and the loop goes on from there
+  pub running-on : length arities′ ≡ length arities → length room′ ≡ length room → (n : ℕ) → n ≡ written + length (take (r .wrote - 0) (drop 0 out′))
+      → Running text (r .standing) arities′ room′ out′ n
+  running-on ea er n en =
+      let e : n ≡ written + length (filling .bytes) = en ∙ ap (λ (x : List ℕ). written + length x) part-laid in
+      let t : length (transcript text) - written ≡ length (filling .bytes) + length (remaining text (placeOf (r .standing) arities′ room′)) =
+      sym (length-drop written (transcript text)) ∙ ap length to-come ∙ length-append (filling .bytes) (remaining text (placeOf (r .standing) arities′ room′)) in
+      record {
+        sound = filling .sound;
+        enough =
+            record {
+              most = w .enough .most;
+              sixteen = omega (arith, w .enough .sixteen);
+              storage = omega (arith, w .enough .storage);
+              long = omega (arith, w .enough .long, filling .laid .long);
+            };
+        within = omega (arith, w .within);
+        rest = rw e to-follow;
+        bounded = omega (arith, w .bounded, few, fill-nearer);
+      }
+
+-- where the run is over, all is written
+pub running-ends : (text : List ℕ) (s : Standing) (arities room out : List ℕ) (written : ℕ) → Running text s arities room out written → s .goes ≡ false
+    → written ≡ length (transcript text)
+unfolding remaining due output
+running-ends text s arities room out written w g =
+    let e : drop written (transcript text) ≡ [] = w .rest ∙ rw g in omega (arith, w .within, sym (length-drop written (transcript text)) ∙ ap length e)
