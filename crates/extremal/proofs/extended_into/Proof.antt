@@ -13,7 +13,7 @@ well-formed : (s : tie.Start) → WellFormed (algebra s)
 well-formed s = accepted-wellFormed (algebra s) (s .pre .0)
 
 extend-requires : tie.Need-extend-requires
-extend-requires c κs = let p = c .before .before .before .before .before .pre in (p .0, (p .1 .0, (p .1 .1 .0, (omega (arith, p .1 .1 .1), omega (arith, p .1 .1 .1)))))
+extend-requires c κs = let p = c .before .before .before .before .pre in (p .0, (p .1 .0, (p .1 .1 .0, (omega (arith, p .1 .1 .1), omega (arith, p .1 .1 .1)))))
 
 same-length : tie.Need-same-length
 same-length c = search needs
