@@ -73,7 +73,7 @@ number-stands text at =
       | no h ↦ elim (ℕ-discrete a 0) [
         | yes z ↦ rw (number-zero text at a refl (omega arith) z) (one-stands text at 0 (sym z) (omega arith))
         | no z ↦ elim (decLt 9 b) [
-          | yes k ↦ rw (number-one text at a refl b refl (omega arith) z k) (one-stands text at a refl (omega arith))
+          | yes k ↦ rw (number-one text at a refl b refl (omega arith) k) (one-stands text at a refl (omega arith))
           | no k ↦ elim (decLt 9 c) [
             | yes l ↦ rw (number-two text at a refl b refl (omega arith) z c refl (omega arith) l) (two-stand text at a b refl refl (omega arith) (omega arith) (omega arith))
             | no l ↦ elim (decLt 255 (10 * (10 * a + b) + c)) [
@@ -110,10 +110,7 @@ alone-one : (text : List ℕ) (at v : ℕ) → Alone text at v → v < 10 → nu
 alone-one text at v w h =
     let e = decimal-one v h in
     let d = byte-digit text at v (omega arith) (first-byte text at (48 + v) [] (rw e at (w .here))) in
-    elim (ℕ-discrete v 0) [
-      | yes z ↦ number-zero text at v d (omega arith) z ∙ ap (λ (x : ℕ). found x (at + 1)) (sym z)
-      | no z ↦ number-one text at v d (digitAt text (at + 1)) refl (omega arith) z (rw e at (w .end))
-    ]
+    number-one text at v d (digitAt text (at + 1)) refl (omega arith) (rw e at (w .end))
 
 alone-two : (text : List ℕ) (at v : ℕ) → Alone text at v → 10 ≤ v → v < 100 → number text at ≡ found v (at + 2)
 alone-two text at v w g h =

@@ -1,5 +1,5 @@
 -- The program's loop: what is written is the front of the transcript, and what the run still writes is the rest.
-use Prim.Native.Nat.{ℕ, _+_, _-_, _*_, _≤_, _<_}
+use Prim.Native.Nat.{ℕ, _+_, _-_, _*_, _^_, _≤_, _<_}
 use mathlib.Core.Bool.{true, false}
 use mathlib.Core.List.{List, [], _++_}
 use mathlib.Core.Path.{_≡_, refl, ap, sym, _∙_, subst}
@@ -69,7 +69,7 @@ module _ (text : List ℕ) (s : Standing) (arities room out : List ℕ) (written
   few = omega (arith, filling .laid .place, filling .laid .within, w .enough .long)
 
   -- so that the count stays small
-  pub count-fits : written + length (take (r .wrote - 0) (drop 0 out′)) < 18446744073709551616
+  pub count-fits : written + length (take (r .wrote - 0) (drop 0 out′)) < 2 ^ 64
   count-fits = omega (arith, ap length part-laid, few, w .bounded, w .enough .most, fill-nearer)
 
   -- and the loop goes on from there

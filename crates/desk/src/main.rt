@@ -1,6 +1,6 @@
 // The desk program: reads bracket text from standard input and writes what it answers to standard output.
 ghost use mathlib.Core.Path.{_≡_};
-ghost use Prim.Native.Nat.{_+_, _<_};
+ghost use Prim.Native.Nat.{_+_, _^_, _<_};
 ghost use lib.ListN.{length};
 ghost use Rattle.bracket.specs.Transcript.{transcript};
 ghost use Rattle.desk.specs.Writing.{Next, Enough};
@@ -22,7 +22,7 @@ fn out_space() -> [u8; 32768]
 // Writes out the part that comes next, behind the `written` bytes before it; how many are written then.
 fn write_next(text: &[u8], written: usize, part: &[u8]) -> usize
     requires { ⌜ Next (transcript (now text)) written (now part) ⌝ }
-    requires { ⌜ written + length (now part) < 18446744073709551616 ⌝ }
+    requires { ⌜ written + length (now part) < 2 ^ 64 ⌝ }
     ensures { λ r. ⌜ r ≡ written + length (now (part .entry)) ⌝ }
 {
     io::write_all(1, part);

@@ -2,8 +2,8 @@
 use Prim.Native.Nat.{ℕ, _+_, _-_, _*_, _≤_, _<_}
 use mathlib.Core.Bool.{true, false}
 use mathlib.Core.List.{List}
-use mathlib.Core.Path.{_≡_}
-use native.Mathlib.Decide.{decLt}
+use mathlib.Core.Path.{_≡_, ap, sym, _∙_}
+use native.Mathlib.Decide.{decLt, ℕ-discrete}
 use native.Mathlib.Omega.{arith}
 use borrow.Author.Tests.{lt-ltb, le-ltb, le-leb, lt-leb, eq-eqb, ne-eqb}
 use lib.ListN.{length}
@@ -41,12 +41,16 @@ module _ (text : List ℕ) (at a : ℕ) (ea : a ≡ digitAt text at) where
   unfolding number
   number-zero h z = simp (number, ← ea, le-ltb 9 a h, eq-eqb a 0 z)
 
-  module _ (b : ℕ) (eb : b ≡ digitAt text (at + 1)) (h : a ≤ 9) (z : a ≡ 0 → ⊥) where
+  module _ (b : ℕ) (eb : b ≡ digitAt text (at + 1)) (h : a ≤ 9) where
     pub number-one : 9 < b → number text at ≡ found a (at + 1)
     unfolding number
-    number-one k = simp (number, ← ea, ← eb, le-ltb 9 a h, ne-eqb a 0 z, lt-ltb 9 b k)
+    number-one k =
+        elim (ℕ-discrete a 0) [
+          | yes z ↦ number-zero h z ∙ ap (λ (v : ℕ). found v (at + 1)) (sym z)
+          | no z ↦ simp (number, ← ea, ← eb, le-ltb 9 a h, ne-eqb a 0 z, lt-ltb 9 b k)
+        ]
 
-    module _ (c : ℕ) (ec : c ≡ digitAt text (at + 2)) (k : b ≤ 9) where
+    module _ (z : a ≡ 0 → ⊥) (c : ℕ) (ec : c ≡ digitAt text (at + 2)) (k : b ≤ 9) where
       pub number-two : 9 < c → number text at ≡ found (10 * a + b) (at + 2)
       unfolding number
       number-two l = simp (number, ← ea, ← eb, ← ec, le-ltb 9 a h, ne-eqb a 0 z, le-ltb 9 b k, lt-ltb 9 c l)
@@ -71,12 +75,12 @@ module _ (text : List ℕ) (at a : ℕ) (ea : a ≡ digitAt text at) where
   digit-zero h z =
       record { within = omega (arith, digit-within text at (omega arith)); past = omega arith; value = number-zero text at a ea h z }
 
-  module _ (b : ℕ) (eb : b ≡ digitAt text (at + 1)) (h : a ≤ 9) (z : a ≡ 0 → ⊥) where
+  module _ (b : ℕ) (eb : b ≡ digitAt text (at + 1)) (h : a ≤ 9) where
     pub one-digit : 9 < b → NumberRead text at (number text at) (record { ok = true; value = a; next = at + 1 })
     one-digit k =
-        record { within = omega (arith, digit-within text at (omega arith)); past = omega arith; value = number-one text at a ea b eb h z k }
+        record { within = omega (arith, digit-within text at (omega arith)); past = omega arith; value = number-one text at a ea b eb h k }
 
-    module _ (c : ℕ) (ec : c ≡ digitAt text (at + 2)) (k : b ≤ 9) where
+    module _ (z : a ≡ 0 → ⊥) (c : ℕ) (ec : c ≡ digitAt text (at + 2)) (k : b ≤ 9) where
       pub two-digits : 9 < c → NumberRead text at (number text at) (record { ok = true; value = 10 * a + b; next = at + 2 })
       two-digits l =
           record {

@@ -1,4 +1,6 @@
 -- `reading::read_number` meets its contract, by the laws of Digits.
+use mathlib.Core.Path.{_≡_}
+use native.Mathlib.Omega.{arith}
 use Rattle.reader.proofs.Digits.{no-digit, digit-zero, one-digit, two-digits, too-large, three-digits}
 use borrow.Author.Needs.{needs}
 use Rattle.reader.proofs.reading.read_number.Statement.{statement}
@@ -14,7 +16,7 @@ add-t10 : tie.Need-add-t10
 add-t10 c = search needs
 
 returns-2 : tie.Need-returns-2
-returns-2 c = search digit-zero
+returns-2 c = let z : c .before .before .digit-at .result ≡ 0 = omega arith in search digit-zero
 
 add-digit-at : tie.Need-add-digit-at
 add-digit-at c = search needs
