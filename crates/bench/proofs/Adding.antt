@@ -24,10 +24,10 @@ use Rattle.theory.specs.Extremal.{extended}
 use Rattle.extremal.proofs.Bridges.{front-byte}
 use Rattle.theory.proofs.Above.{LeastJoining, extended-law}
 use Rattle.bench.specs.Calls.{tallyTest, benched, handedTests, addTests, clearTests, mapByAdd, lostByAdd, addCall, clearCall}
-use Rattle.bench.specs.Growth.{MapGrown, SheetGrown}
+use Rattle.bench.specs.InnerGrowth.{MapGrown, SheetGrown}
 use Rattle.bench.specs.Promises.{LeastExtension}
 use Rattle.bench.specs.State.{mapOn, sheetOf, withSheet, withMap, raisedBy, blocksLost}
-use Rattle.bench.proofs.Drawing.{mapOn-redrawn, withMap-same}
+use Rattle.bench.proofs.SheetMaps.{mapOn-sheetWith, withMap-same}
 use Rattle.bench.proofs.Testing.{done, refused, benched-cases, benched-append, Clearable, clear-passed, Addable, add-passed}
 use Rattle.bench.specs.declared.Bench.{Bench}
 use Rattle.bench.specs.declared.Sheet.{Sheet}
@@ -58,7 +58,7 @@ module _ (b : Bench) (a : Algebra) (k x y : ℕ) where
     unfolding raisedBy sheetOf
     afterAdd-map eight =
         ap (mapOn (b .n)) (withMap-same b k (mapByAdd b a k x y) (omega (arith, eight, p .placed .sheet)))
-        ∙ mapOn-redrawn (b .n) (mapByAdd b a k x y) (sheetOf b k) (added-length ∙ sym (p .placed .drawn .size))
+        ∙ mapOn-sheetWith (b .n) (mapByAdd b a k x y) (sheetOf b k) (added-length ∙ sym (p .placed .faultless .size))
 
     -- demand 2 for Add
     pub added-least : LeastExtension a (mapOn (a .size) (sheetOf b k)) x y (mapByAdd b a k x y)
@@ -101,7 +101,7 @@ grown-call b a k x y e old new lost o g = rw (g .sheet, g .blocks, o) (sym (benc
 pub cleared-map : (b : Bench) (k : ℕ) → Clearable b k → length (b .sheets) ≡ 8 → mapOn (b .n) (sheetOf (withMap b k (identity (b .n))) k) ≡ identity (b .n)
 cleared-map b k p eight =
     ap (mapOn (b .n)) (withMap-same b k (identity (b .n)) (omega (arith, eight, p .sheet)))
-    ∙ mapOn-redrawn (b .n) (identity (b .n)) (sheetOf b k) (identity-map (b .n) .long)
+    ∙ mapOn-sheetWith (b .n) (identity (b .n)) (sheetOf b k) (identity-map (b .n) .long)
 
 pub clear-cases : (b : Bench) (k : ℕ) → (Clearable b k × (clearCall b k ≡ done (withMap b k (identity (b .n))))) ⊎ ((r : Refusal) × (clearCall b k ≡ refused r b))
 unfolding clearCall

@@ -1,5 +1,5 @@
--- The bench's answers: the tests of each call rise by rank, so a call is refused with the lowest reason among its tests, and only so; and an
--- answer is told by its outcome.
+-- The bench's answers: the tests of each call rise by rank, so a call is refused with the lowest reason among its tests, and only so; and
+-- answers of one outcome are equal.
 use Prim.Native.Nat.{ℕ}
 use mathlib.Core.List.{List}
 use mathlib.Core.Path.{_≡_, refl, sym, ap}
@@ -62,7 +62,7 @@ bench-reasons =
       clear = λ b k. benched-reason (clearTests b k) _ _ (rises-clear b k);
     }
 
--- ---- an answer is told by its outcome
+-- ---- answers of one outcome are equal
 
 pub answerOutcome-injective : Injective answerOutcome
 unfolding answerOutcome

@@ -3,7 +3,6 @@ use Prim.Native.Nat.{ℕ}
 use mathlib.Core.Bool.{true, false}
 use mathlib.Core.List.{List, [], _∷_}
 use mathlib.Core.Path.{_≡_, refl}
-use lib.ListN.{length}
 use Rattle.equivalence.specs.Equivalence.{Map, isMap, holds, inside, roots, blocks, mapOf, identity, maps, best}
 use Rattle.equivalence.specs.Lists.{upTo, every, keep, first, concat}
 use Rattle.equivalence.specs.Refusal.{lowest, sizeTest, answered, elementsTest}
@@ -14,8 +13,8 @@ use Rattle.algebra.specs.Algebra.{Algebra, algebraOf, cellCount, operationsOf, 
 use Rattle.algebra.specs.Congruence.{respects, isCongruence, congruences}
 use Rattle.theory.specs.Extremal.{holdsAll, above, extended}
 use Rattle.bench.specs.Calls.{sheetTest, benchTest, tallyTest, benched, startCall, mapByAdd, lostByAdd, placeTests, handedTests, addCall, clearTests, clearCall}
-use Rattle.bench.specs.Lessons.{Start, Add, Clear, Made, sizeAfter, additions, drawn, mapAfter, lostAfter}
-use Rattle.bench.specs.State.{mapOn, redrawn, zeroSheet, zeroBench, freshBench, sheetOf, withSheet, withMap, raisedBy, blocksLost}
+use Rattle.bench.specs.Histories.{Start, Add, Clear, Made, onSheet, sheetAfter, lostAfter}
+use Rattle.bench.specs.State.{mapOn, sheetWith, zeroSheet, eightOf, zeroBench, freshBench, sheetOf, withSheet, withMap, raisedBy, blocksLost}
 use Rattle.bench.specs.declared.Answer.the-variants.{Done, Refused}
 use Rattle.bench.specs.declared.Bench.{Bench}
 
@@ -34,14 +33,17 @@ at n t = record { n = n; tally = t; sheets = freshBench n .sheets }
 abbrev five : Map → Bench
 five m = withMap (freshBench 3) 5 m
 
--- calls made, the latest first: Start, an Add that was refused, the same accepted, and Clear of another sheet
-abbrev lesson : List Made
-lesson =
-    record { call = Clear 1; accepted = true }
-    ∷ record { call = Add (bare 2) 0 0 1; accepted = true }
-    ∷ record { call = Add (bare 2) 0 0 1; accepted = false }
-    ∷ record { call = Start 2; accepted = true }
+-- calls made, the latest first: Start, an Add to sheet 0 that was accepted, one that was refused
+abbrev made : List Made
+made =
+    record { call = Add (bare 3) 0 1 2; accepted = false }
+    ∷ record { call = Add (bare 3) 0 0 1; accepted = true }
+    ∷ record { call = Start 3; accepted = true }
     ∷ []
+
+-- and Clear of the sheet
+abbrev clearedThen : List Made
+clearedThen = record { call = Clear 0; accepted = true } ∷ made
 
 pub record Edges : Type 0 where
   -- sheet 7 is the last
@@ -59,11 +61,12 @@ pub record Edges : Type 0 where
   -- an equal pair: the old map, 0 0 2, is no congruence of the algebra, and a block is lost
   pub equal : (mapOn 3 (sheetOf (addCall (five (0 ∷ 0 ∷ 2 ∷ [])) unary 5 1 1 .bench) 5) ≡ 0 ∷ 0 ∷ 0 ∷ [])
       × (addCall (five (0 ∷ 0 ∷ 2 ∷ [])) unary 5 1 1 .bench .tally ≡ 1)
-  -- a refused Add is not told, and a Clear takes no block back
-  pub told : (length (additions 0 lesson) ≡ 1) × (lostAfter lesson ≡ 1)
+  -- a refused Add does nothing, another sheet stays, and a Clear takes no block back
+  pub history : (sheetAfter 0 made .map ≡ 0 ∷ 0 ∷ 2 ∷ []) × (sheetAfter 1 made .map ≡ 0 ∷ 1 ∷ 2 ∷ []) × (sheetAfter 0 clearedThen .map ≡ 0 ∷ 1 ∷ 2 ∷ [])
+      × (lostAfter 8 clearedThen ≡ 1)
 
 pub edges : Edges
-unfolding upTo every first holds concat mapOf keep maps roots blocks best inside isMap identity isCongruence operations operationsOf cellCount arguments place value respects congruences holdsAll above extended lowest algebraTests sizeTest elementsTest answered written sheetTest benchTest tallyTest benched startCall mapByAdd lostByAdd placeTests handedTests addCall clearTests clearCall mapOn redrawn zeroSheet zeroBench freshBench sheetOf withSheet withMap raisedBy blocksLost sizeAfter additions drawn mapAfter lostAfter
+unfolding upTo every first holds concat mapOf keep maps roots blocks best inside isMap identity isCongruence operations operationsOf cellCount arguments place value respects congruences holdsAll above extended lowest algebraTests sizeTest elementsTest answered written sheetTest benchTest tallyTest benched startCall mapByAdd lostByAdd placeTests handedTests addCall clearTests clearCall mapOn sheetWith zeroSheet eightOf zeroBench freshBench sheetOf withSheet withMap raisedBy blocksLost onSheet sheetAfter lostAfter
 edges =
     record {
       seven = refl;
@@ -75,5 +78,5 @@ edges =
       zeros = (refl, refl, refl);
       unnamed = (refl, refl);
       equal = (refl, refl);
-      told = (refl, refl);
+      history = (refl, refl, refl, refl);
     }

@@ -1,7 +1,7 @@
 pub mod Edges
-pub mod Drawing
+pub mod SheetMaps
 pub mod Testing
 pub mod Answers
 pub mod Adding
 pub mod Promises
-pub mod Lessons
+pub mod Histories

@@ -13,9 +13,9 @@ use Rattle.equivalence.specs.declared.Refusal.{Refusal}
 use Rattle.algebra.specs.Algebra.{Algebra}
 use Rattle.bench.specs.Calls.{startTests, startCall, mapByAdd, lostByAdd, addCall, clearCall}
 use Rattle.bench.specs.Promises.{OnlySheet, StartPromise, AddPromise, ClearPromise}
-use Rattle.bench.specs.State.{mapOn, redrawn, zeroSheet, noSheet, zeroBench, freshBench, sheetOf, withSheet, withMap, raisedBy}
+use Rattle.bench.specs.State.{mapOn, zeroSheet, sheetWith, eightOf, zeroBench, freshBench, noSheet, sheetOf, withSheet, withMap, raisedBy}
 use Rattle.bench.proofs.Adding.{afterAdd, add-cases, added-length, afterAdd-map, added-least, cleared-map, clear-cases}
-use Rattle.bench.proofs.Drawing.{mapOn-redrawn, withMap-other, withMap-sheets, withMap-past}
+use Rattle.bench.proofs.SheetMaps.{mapOn-sheetWith, withMap-other, withMap-sheets, withMap-past}
 use Rattle.bench.proofs.Testing.{done, refused, benched-cases, size-passed, Addable}
 use Rattle.bench.specs.declared.Answer.the-variants.{Done, Refused}
 use Rattle.bench.specs.declared.Bench.{Bench}
@@ -26,19 +26,19 @@ use Rattle.bench.specs.declared.Benched.{Benched}
 untouched : (k : ℕ) (b : Bench) → OnlySheet k b b
 untouched k b = record { size = refl; count = refl; others = λ j h. refl; past = λ j. refl }
 
-redrawn-only : (b : Bench) (k : ℕ) (m : Map) → length m ≡ b .n → OnlySheet k b (withMap b k m)
+pub withMap-only : (b : Bench) (k : ℕ) (m : Map) → length m ≡ b .n → OnlySheet k b (withMap b k m)
 unfolding withMap withSheet
-redrawn-only b k m e =
+withMap-only b k m e =
     record { size = refl; count = withMap-sheets b k m; others = λ j h. withMap-other b k m j h; past = λ j. withMap-past b k m (b .n) e j }
 
 raised-only : (k lost : ℕ) (b after : Bench) → OnlySheet k b after → OnlySheet k b (raisedBy lost after)
 unfolding raisedBy sheetOf
 raised-only k lost b after h = record { size = h .size; count = h .count; others = h .others; past = h .past }
 
-add-only : (b : Bench) (a : Algebra) (k x y : ℕ) → OnlySheet k b (addCall b a k x y .bench)
+pub add-only : (b : Bench) (a : Algebra) (k x y : ℕ) → OnlySheet k b (addCall b a k x y .bench)
 add-only b a k x y =
     elim (add-cases b a k x y) [
-      | inl p ↦ rw (p .1) (raised-only k (lostByAdd b a k x y) b _ (redrawn-only b k (mapByAdd b a k x y) (added-length b a k x y (p .0) ∙ sym (p .0 .placed .drawn .size))))
+      | inl p ↦ rw (p .1) (raised-only k (lostByAdd b a k x y) b _ (withMap-only b k (mapByAdd b a k x y) (added-length b a k x y (p .0) ∙ sym (p .0 .placed .faultless .size))))
       | inr p ↦ rw (p .1) (untouched k b)
     ]
 
@@ -46,7 +46,7 @@ clear-only : (b : Bench) (k : ℕ) → OnlySheet k b (clearCall b k .bench) × (
 unfolding withMap withSheet
 clear-only b k =
     elim (clear-cases b k) [
-      | inl p ↦ rw (p .1) (redrawn-only b k (identity (b .n)) (identity-map (b .n) .long), refl)
+      | inl p ↦ rw (p .1) (withMap-only b k (identity (b .n)) (identity-map (b .n) .long), refl)
       | inr p ↦ rw (p .1) (untouched k b, refl)
     ]
 
@@ -66,8 +66,8 @@ module _ (b : Bench) (a : Algebra) (k x y : ℕ) (eight : length (b .sheets) ≡
       record {
         refused = λ reason f. absurd (never-refused _ _ e reason f);
         only = add-only b a k x y;
-        least = λ f. rw (new, p .placed .drawn .size) (added-least b a k x y p);
-        tally = λ f. rw (new, e, p .placed .drawn .size);
+        least = λ f. rw (new, p .placed .faultless .size) (added-least b a k x y p);
+        tally = λ f. rw (new, e, p .placed .faultless .size);
       }
 
   pub add-promise : AddPromise b a k x y
@@ -100,28 +100,28 @@ clear-promise b k eight =
     ]
 
 -- every sheet of a fresh bench
-fresh-sheet : (n k : ℕ) → k < 8 → sheetOf (freshBench n) k ≡ redrawn (identity n) zeroSheet
-unfolding freshBench sheetOf
-fresh-sheet n k l = getD-replicate 8 k (redrawn (identity n) zeroSheet) noSheet l
+pub fresh-sheet : (n k : ℕ) → k < 8 → sheetOf (freshBench n) k ≡ sheetWith (identity n) zeroSheet
+unfolding freshBench eightOf sheetOf
+fresh-sheet n k l = getD-replicate 8 k (sheetWith (identity n) zeroSheet) noSheet l
 
 zero-at : (m x : ℕ) → byte (replicate m 0) x ≡ 0
 zero-at zero x = refl
 zero-at (suc m) zero = refl
 zero-at (suc m) (suc x) = zero-at m x
 
-fresh-zeros : (n x : ℕ) → n ≤ 64 → n ≤ x → byte (redrawn (identity n) zeroSheet .map) x ≡ 0
-unfolding redrawn zeroSheet
+fresh-zeros : (n x : ℕ) → n ≤ 64 → n ≤ x → byte (sheetWith (identity n) zeroSheet .map) x ≡ 0
+unfolding sheetWith zeroSheet
 fresh-zeros n x l h =
     let e = identity-map n .long in
     written-old (identity n) (replicate 64 0) (omega arith) x (omega arith) ∙ zero-at 64 x
 
 pub start-promise : (n : ℕ) → StartPromise n
-unfolding startCall freshBench zeroBench
+unfolding startCall freshBench zeroBench eightOf
 start-promise n =
     elim (benched-cases (startTests n) (freshBench n) zeroBench) [
       | inl p ↦ record {
         size = λ f. rw (p .1);
-        maps = λ f k l. rw (p .1, fresh-sheet n k l) (mapOn-redrawn n (identity n) zeroSheet (identity-map n .long));
+        maps = λ f k l. rw (p .1, fresh-sheet n k l) (mapOn-sheetWith n (identity n) zeroSheet (identity-map n .long));
         zeros = λ f k l x h. rw (p .1, fresh-sheet n k l) (fresh-zeros n x (size-passed n [] (p .0) .1) h);
         tally = rw (p .1);
         refused = λ reason f. absurd (never-refused _ _ (p .1) reason f);

@@ -21,7 +21,7 @@ use Rattle.algebra.specs.Accepted.{algebraTests, Accepted}
 use Rattle.algebra.specs.Algebra.{Algebra}
 use Rattle.bench.specs.Calls.{sheetTest, benchTest, tallyTest, placeTests, handedTests, clearTests, benched}
 use Rattle.bench.specs.State.{mapOn, sheetOf}
-use Rattle.bench.proofs.Drawing.{of-every-sheet}
+use Rattle.bench.proofs.SheetMaps.{of-every-sheet}
 use Rattle.bench.specs.declared.Answer.the-variants.{Done, Refused}
 use Rattle.bench.specs.declared.Bench.{Bench}
 use Rattle.bench.specs.declared.Benched.{Benched}
@@ -95,17 +95,17 @@ elements-passed n x y h = (
 )
 
 -- the bench is over n and every sheet has a map
-pub record Drawn (b : Bench) (n : ℕ) : Type 0 where
+pub record Faultless (b : Bench) (n : ℕ) : Type 0 where
   pub size : b .n ≡ n
   pub map : (k : ℕ) → k < length (b .sheets) → T (isMap n (mapOn n (sheetOf b k)))
 
-bench-passed : (n : ℕ) (b : Bench) → ¬ T (benchTest n b .applies) → Drawn b n
+bench-passed : (n : ℕ) (b : Bench) → ¬ T (benchTest n b .applies) → Faultless b n
 unfolding benchTest sheetOf
 bench-passed n b h =
-    let drawn : Bool = every (λ s. isMap n (mapOn n s)) (b .sheets) in
+    let maps : Bool = every (λ s. isMap n (mapOn n s)) (b .sheets) in
     record {
-      size = eqb→eq (b .n) n (no-not (eqb (b .n) n) (no-or-left (not (eqb (b .n) n)) (not drawn) h));
-      map = of-every-sheet (λ s. isMap n (mapOn n s)) (b .sheets) (no-not drawn (no-or-right (not (eqb (b .n) n)) (not drawn) h));
+      size = eqb→eq (b .n) n (no-not (eqb (b .n) n) (no-or-left (not (eqb (b .n) n)) (not maps) h));
+      map = of-every-sheet (λ s. isMap n (mapOn n s)) (b .sheets) (no-not maps (no-or-right (not (eqb (b .n) n)) (not maps) h));
     }
 
 -- what Clear's tests leave
@@ -113,21 +113,21 @@ pub record Clearable (b : Bench) (k : ℕ) : Type 0 where
   pub some : 1 ≤ b .n
   pub most : b .n ≤ 64
   pub sheet : k < 8
-  pub drawn : Drawn b (b .n)
+  pub faultless : Faultless b (b .n)
 
 pub clear-passed : (b : Bench) (k : ℕ) → lowest (clearTests b k) ≡ Passed → Clearable b k
 unfolding clearTests
 clear-passed b k e =
     let one = size-passed (b .n) (sheetTest k ∷ benchTest (b .n) b ∷ []) e in
     let seven = of-passed _ _ (of-passed _ _ e .1) in
-    record { some = one .0; most = one .1; sheet = sheet-passed k (seven .0); drawn = bench-passed (b .n) b (of-passed _ _ (seven .1) .0) }
+    record { some = one .0; most = one .1; sheet = sheet-passed k (seven .0); faultless = bench-passed (b .n) b (of-passed _ _ (seven .1) .0) }
 
 -- what Add's 7 and 8 leave
 pub record Placed (b : Bench) (n k x y : ℕ) : Type 0 where
   pub sheet : k < 8
   pub first : x < n
   pub second : y < n
-  pub drawn : Drawn b n
+  pub faultless : Faultless b n
 
 place-passed : (b : Bench) (n k x y : ℕ) → lowest (placeTests b n k x y) ≡ Passed → Placed b n k x y
 unfolding placeTests
@@ -135,7 +135,7 @@ place-passed b n k x y e =
     let seven = of-passed _ _ e in
     let pair = of-passed _ _ (seven .1) in
     let ends = elements-passed n x y (pair .0) in
-    record { sheet = sheet-passed k (seven .0); first = ends .0; second = ends .1; drawn = bench-passed n b (of-passed _ _ (pair .1) .0) }
+    record { sheet = sheet-passed k (seven .0); first = ends .0; second = ends .1; faultless = bench-passed n b (of-passed _ _ (pair .1) .0) }
 
 -- what Add's tests leave
 pub record Addable (b : Bench) (a : Algebra) (k x y : ℕ) : Type 0 where

@@ -3,5 +3,5 @@ pub mod Outcome
 pub mod Calls
 pub mod Reasons
 pub mod Promises
-pub mod Lessons
-pub mod Growth
+pub mod Histories
+pub mod InnerGrowth

@@ -11,21 +11,25 @@ use Rattle.bench.specs.declared.Sheet.{Sheet}
 unfoldable pub mapOn : ℕ → Sheet → Map
 mapOn n s = take n (s .map)
 
--- a sheet with a new map; the bytes past it stay
-unfoldable pub redrawn : Map → Sheet → Sheet
-redrawn m s = record { map = written m (s .map) }
-
 -- a sheet of zeros
 unfoldable pub zeroSheet : Sheet
 zeroSheet = record { map = replicate 64 0 }
 
+-- a sheet with another map; the bytes past it stay
+unfoldable pub sheetWith : Map → Sheet → Sheet
+sheetWith m s = record { map = written m (s .map) }
+
+-- a bench over n with eight equal sheets and tally 0
+unfoldable pub eightOf : ℕ → Sheet → Bench
+eightOf n s = record { n = n; tally = 0; sheets = replicate 8 s }
+
 -- a bench of zeros
 unfoldable pub zeroBench : Bench
-zeroBench = record { n = 0; tally = 0; sheets = replicate 8 zeroSheet }
+zeroBench = eightOf 0 zeroSheet
 
 -- the bench over n with the identity on every sheet and tally 0
 unfoldable pub freshBench : ℕ → Bench
-freshBench n = record { n = n; tally = 0; sheets = replicate 8 (redrawn (identity n) zeroSheet) }
+freshBench n = eightOf n (sheetWith (identity n) zeroSheet)
 
 -- no sheet: what stands past the last one
 abbrev pub noSheet : Sheet
@@ -41,7 +45,7 @@ withSheet b k s = record { n = b .n; tally = b .tally; sheets = set (b .sheets) 
 
 -- the bench with another map on sheet k
 unfoldable pub withMap : Bench → ℕ → Map → Bench
-withMap b k m = withSheet b k (redrawn m (sheetOf b k))
+withMap b k m = withSheet b k (sheetWith m (sheetOf b k))
 
 -- the bench with its tally raised
 unfoldable pub raisedBy : ℕ → Bench → Bench

@@ -69,8 +69,7 @@ fn raised(bench: Bench, k: usize, sheet: Sheet, lost: usize) -> Benched
             bench,
         };
     }
-    let mut next = bench;
-    next.sheets[k] = sheet;
+    let mut next = sheets::with_sheet(bench, k, sheet);
     next.tally = total as u32;
     Benched {
         answer: Answer::Done,

@@ -8,8 +8,8 @@ ghost use Rattle.equivalence.specs.Equivalence.{isMap, identity};
 ghost use Rattle.equivalence.specs.Lent.{written};
 ghost use Rattle.algebra.specs.Algebra.{algebraOf};
 ghost use Rattle.algebra.specs.Accepted.{Accepted};
-ghost use Rattle.bench.specs.State.{mapOn, redrawn, noSheet, zeroSheet, zeroBench, freshBench, withMap};
-ghost use Rattle.bench.specs.Growth.{MapGrown, SheetGrown};
+ghost use Rattle.bench.specs.State.{mapOn, zeroSheet, sheetWith, eightOf, zeroBench, freshBench, noSheet, withSheet, withMap};
+ghost use Rattle.bench.specs.InnerGrowth.{MapGrown, SheetGrown};
 use super::Bench;
 use super::Sheet;
 
@@ -19,19 +19,7 @@ fn zero_sheet() -> Sheet
     Sheet { map: [0u8; 64] }
 }
 
-// A bench of zeros.
-pub fn zeros() -> Bench
-    ensures { λ r. ⌜ r ≡ zeroBench ⌝ }
-{
-    let sheet = zero_sheet();
-    Bench {
-        n: 0,
-        tally: 0,
-        sheets: [sheet; 8],
-    }
-}
-
-fn draw_identity(map: &mut [u8; 64], n: usize)
+fn write_identity(map: &mut [u8; 64], n: usize)
     requires { ⌜ n ≤ 64 ⌝ }
     ensures { λ _. ⌜ now (map .exit) ≡ written (identity n) (now (map .entry)) ⌝ }
 {
@@ -41,11 +29,31 @@ fn draw_identity(map: &mut [u8; 64], n: usize)
 // The sheet with the identity over n.
 fn identity_sheet(sheet: Sheet, n: usize) -> Sheet
     requires { ⌜ n ≤ 64 ⌝ }
-    ensures { λ r. ⌜ r ≡ redrawn (identity n) sheet ⌝ }
+    ensures { λ r. ⌜ r ≡ sheetWith (identity n) sheet ⌝ }
 {
     let mut map = sheet.map;
-    draw_identity(&mut map, n);
-    Sheet { map }
+    write_identity(&mut map, n);
+    let mut next = sheet;
+    next.map = map;
+    next
+}
+
+// A bench over n with eight equal sheets and tally 0.
+fn eight_of(n: usize, sheet: Sheet) -> Bench
+    ensures { λ r. ⌜ r ≡ eightOf n sheet ⌝ }
+{
+    Bench {
+        n,
+        tally: 0,
+        sheets: [sheet; 8],
+    }
+}
+
+// A bench of zeros.
+pub fn zeros() -> Bench
+    ensures { λ r. ⌜ r ≡ zeroBench ⌝ }
+{
+    eight_of(0, zero_sheet())
 }
 
 // A bench over n with the identity on every sheet and tally 0.
@@ -55,11 +63,17 @@ pub fn fresh(n: usize) -> Bench
 {
     let zero = zero_sheet();
     let sheet = identity_sheet(zero, n);
-    Bench {
-        n,
-        tally: 0,
-        sheets: [sheet; 8],
-    }
+    eight_of(n, sheet)
+}
+
+// The bench with another sheet.
+pub fn with_sheet(bench: Bench, k: usize, sheet: Sheet) -> Bench
+    requires { ⌜ k < 8 ⌝ }
+    ensures { λ r. ⌜ r ≡ withSheet bench k sheet ⌝ }
+{
+    let mut next = bench;
+    next.sheets[k] = sheet;
+    next
 }
 
 // The bench with the identity on one sheet.
@@ -68,14 +82,10 @@ pub fn cleared(bench: Bench, k: usize) -> Bench
     requires { ⌜ k < 8 ⌝ }
     ensures { λ r. ⌜ r ≡ withMap bench k (identity (bench .n)) ⌝ }
 {
-    let mut sheets = bench.sheets;
-    let old = sheets[k];
-    sheets[k] = identity_sheet(old, bench.n);
-    Bench {
-        n: bench.n,
-        tally: bench.tally,
-        sheets,
-    }
+    let on_bench = bench.sheets;
+    let old = nth(on_bench, k);
+    let new = identity_sheet(old, bench.n);
+    with_sheet(bench, k, new)
 }
 
 // One of eight sheets.
@@ -87,7 +97,7 @@ pub fn nth(sheets: [Sheet; 8], k: usize) -> Sheet
 }
 
 // Whether the first n bytes are a map over n.
-fn is_drawn(map: &[u8; 64], n: usize) -> bool
+fn has_map(map: &[u8; 64], n: usize) -> bool
     requires { ⌜ n ≤ 64 ⌝ }
     ensures { λ r. ⌜ r ≡ isMap n (take n (now (map .entry))) ⌝ }
 {
@@ -96,7 +106,7 @@ fn is_drawn(map: &[u8; 64], n: usize) -> bool
 }
 
 // Whether all eight sheets have maps over n.
-pub fn all_drawn(sheets: [Sheet; 8], n: usize) -> bool
+pub fn all_have_maps(sheets: [Sheet; 8], n: usize) -> bool
     requires { ⌜ n ≤ 64 ⌝ }
     ensures { λ r. ⌜ r ≡ every (λ s. isMap n (mapOn n s)) sheets ⌝ }
 {
@@ -104,7 +114,7 @@ pub fn all_drawn(sheets: [Sheet; 8], n: usize) -> bool
     while k < 8 {
         let sheet = sheets[k];
         let map = sheet.map;
-        if !is_drawn(&map, n) {
+        if !has_map(&map, n) {
             return false;
         }
         k += 1;
@@ -146,8 +156,7 @@ pub fn extended(sheet: Sheet, n: usize, arities: &[u8], cells: &[u8], x: usize, 
 {
     let mut map = sheet.map;
     let lost = extend_map(&mut map, n, arities, cells, x, y);
-    Grown {
-        sheet: Sheet { map },
-        lost,
-    }
+    let mut next = sheet;
+    next.map = map;
+    Grown { sheet: next, lost }
 }

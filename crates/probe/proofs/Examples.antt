@@ -3,7 +3,7 @@ use mathlib.Core.List.{[], _∷_}
 use mathlib.Core.Path.{_≡_, refl}
 use lib.ListN.{getD, take, drop}
 use Rattle.bench.specs.Calls.{clearCall}
-use Rattle.bench.specs.State.{redrawn, zeroSheet, freshBench}
+use Rattle.bench.specs.State.{zeroSheet, sheetWith, eightOf, freshBench}
 use Rattle.bench.specs.declared.Bench.{Bench}
 use Rattle.equivalence.specs.Equivalence.{mapOf, identity}
 use Rattle.equivalence.specs.Lists.{upTo, first, concat}
@@ -29,5 +29,5 @@ pub record Examples : Type 0 where
   pub place : (placeNumber (placeOf 0 1) ≡ 0) × (placeNumber (placeOf 1 1) ≡ 65535)
 
 pub examples : Examples
-unfolding upTo first concat mapOf identity written redrawn zeroSheet freshBench rowStart placeOf little littleIn sheetBytes sizeBytes tallyBytes imageOf placeNumber imageCall
+unfolding upTo first concat mapOf identity written zeroSheet sheetWith eightOf freshBench rowStart placeOf little littleIn sheetBytes sizeBytes tallyBytes imageOf placeNumber imageCall
 examples = record { number = (refl, refl); sheet = refl; size = refl; tally = refl; other = refl; place = (refl, refl) }

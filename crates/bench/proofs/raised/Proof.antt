@@ -16,20 +16,17 @@ add-total c = search needs
 returns : tie.Need-returns
 returns c = sym (tally-refused _ _ _ (omega arith))
 
-mul-sheet : tie.Need-mul-sheet
-mul-sheet c = search needs
-
-element-set-from-sheet : tie.Need-element-set-from-sheet
-element-set-from-sheet c = search needs
+with-sheet-requires : tie.Need-with-sheet-requires
+with-sheet-requires c κs = search needs
 
 cast-next : tie.Need-cast-next
 cast-next c = search needs
 
 returns-2 : tie.Need-returns-2
 unfolding raisedBy withSheet
-returns-2 c = sym (tally-passed _ _ _ (omega arith))
+returns-2 c = rw (c .with-sheet .ensures) (sym (tally-passed _ _ _ (omega arith)))
 
 pub raised-spec : {M : Type 1} → statement M
 raised-spec =
     tie.close
-    (tie.spec cast-total add-total returns mul-sheet element-set-from-sheet cast-next returns-2)
+    (tie.spec cast-total add-total returns with-sheet-requires cast-next returns-2)

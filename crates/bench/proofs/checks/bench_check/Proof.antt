@@ -11,16 +11,16 @@ returns : tie.Need-returns
 unfolding lowest benchTest
 returns c = simp (ne-eqb _ _ (c .if1 .taken))
 
-all-drawn-requires : tie.Need-all-drawn-requires
-all-drawn-requires c κs = search needs
+all-have-maps-requires : tie.Need-all-have-maps-requires
+all-have-maps-requires c κs = search needs
 
 returns-2 : tie.Need-returns-2
 unfolding lowest benchTest
-returns-2 c = simp (eq-eqb _ _ (c .before .before .before .if1 .left), sym (c .before .all-drawn .ensures) ∙ not-true _ (c .if2 .taken))
+returns-2 c = simp (eq-eqb _ _ (c .before .before .before .if1 .left), sym (c .before .all-have-maps .ensures) ∙ not-true _ (c .if2 .taken))
 
 returns-3 : tie.Need-returns-3
 unfolding lowest benchTest
-returns-3 c = simp (eq-eqb _ _ (c .before .before .before .if1 .left), sym (c .before .all-drawn .ensures) ∙ not-false _ (c .if2 .left))
+returns-3 c = simp (eq-eqb _ _ (c .before .before .before .if1 .left), sym (c .before .all-have-maps .ensures) ∙ not-false _ (c .if2 .left))
 
 pub bench-check-spec : {M : Type 1} → statement M
-bench-check-spec = tie.close (tie.spec returns all-drawn-requires returns-2 returns-3)
+bench-check-spec = tie.close (tie.spec returns all-have-maps-requires returns-2 returns-3)

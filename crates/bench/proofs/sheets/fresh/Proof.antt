@@ -10,9 +10,12 @@ zero-sheet-requires c κs = search needs
 identity-sheet-requires : tie.Need-identity-sheet-requires
 identity-sheet-requires c κs = search needs
 
+eight-of-requires : tie.Need-eight-of-requires
+eight-of-requires c κs = search needs
+
 returns : tie.Need-returns
 unfolding freshBench
-returns c = rw (c .identity-sheet .ensures, c .before .zero-sheet .ensures)
+returns c = rw (c .eight-of .ensures, c .before .identity-sheet .ensures, c .before .before .zero-sheet .ensures)
 
 pub fresh-spec : {M : Type 1} → statement M
-fresh-spec = tie.close (tie.spec zero-sheet-requires identity-sheet-requires returns)
+fresh-spec = tie.close (tie.spec zero-sheet-requires identity-sheet-requires eight-of-requires returns)

@@ -1,4 +1,5 @@
-// A lesson at the bench: each line is a call, its answer, and the first four bytes of the sheet that it names and the tally after it. The algebra
+// Start, Add and Clear on cases that a reader can check by hand: each line is a call, its answer, and the first four bytes of the sheet that it names
+// and the tally after it. The algebra
 // has the elements 0 to 3 and one unary operation with cells 1 0 3 2, but where a line says otherwise.
 use bench::Answer;
 use bench::Bench;

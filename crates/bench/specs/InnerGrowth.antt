@@ -6,7 +6,7 @@ use lib.ListN.{take}
 use Rattle.equivalence.specs.Lent.{written}
 use Rattle.algebra.specs.Algebra.{Algebra}
 use Rattle.theory.specs.Extremal.{extended}
-use Rattle.bench.specs.State.{mapOn, redrawn, blocksLost}
+use Rattle.bench.specs.State.{mapOn, sheetWith, blocksLost}
 use Rattle.bench.specs.declared.Sheet.{Sheet}
 
 -- the first bytes of `old`, a map, became the least congruence that holds it and the pair, at the cost of `lost` blocks
@@ -17,6 +17,6 @@ pub record MapGrown (a : Algebra) (x y : ℕ) (old new : List ℕ) (lost : ℕ) 
 
 -- the same of a sheet
 pub record SheetGrown (a : Algebra) (x y : ℕ) (old new : Sheet) (lost : ℕ) : Type 0 where
-  pub sheet : new ≡ redrawn (extended a (mapOn (a .size) old) x y) old
+  pub sheet : new ≡ sheetWith (extended a (mapOn (a .size) old) x y) old
   pub blocks : lost ≡ blocksLost (a .size) (mapOn (a .size) old) (extended a (mapOn (a .size) old) x y)
   pub few : lost ≤ 64

@@ -1,11 +1,11 @@
--- `bench::sheets::draw_identity` meets its contract.
+-- `bench::sheets::write_identity` meets its contract.
 use native.Mathlib.Omega.{arith}
 use borrow.Author.Needs.{needs}
 use Rattle.equivalence.proofs.Maps.{identity-map}
 use Rattle.equivalence.proofs.Writing.{filled-written}
-use Rattle.bench.proofs.Drawing.{filled-identity}
-use Rattle.bench.proofs.sheets.draw_identity.Statement.{statement}
-use Rattle.bench.proofs.sheets.draw_identity.Tie as tie
+use Rattle.bench.proofs.SheetMaps.{filled-identity}
+use Rattle.bench.proofs.sheets.write_identity.Statement.{statement}
+use Rattle.bench.proofs.sheets.write_identity.Tie as tie
 
 identity-requires : tie.Need-identity-requires
 identity-requires c κs = search needs
@@ -13,5 +13,5 @@ identity-requires c κs = search needs
 returns : tie.Need-returns
 returns c = filled-written _ _ _ _ (identity-map _ .long) (omega arith) (search needs) (filled-identity _ _ _ (c .identity .ensures))
 
-pub draw-identity-spec : {M : Type 1} → statement M
-draw-identity-spec = tie.close (tie.spec identity-requires returns)
+pub write-identity-spec : {M : Type 1} → statement M
+write-identity-spec = tie.close (tie.spec identity-requires returns)

@@ -15,21 +15,21 @@ use Rattle.equivalence.specs.Lists.{every}
 use Rattle.equivalence.specs.Lent.{written}
 use Rattle.equivalence.proofs.Lists.{every-of, of-every, member-at, member-index}
 use Rattle.equivalence.proofs.Maps.{identity-at}
-use Rattle.bench.specs.State.{mapOn, redrawn, sheetOf, noSheet, withSheet, withMap}
+use Rattle.bench.specs.State.{mapOn, sheetWith, sheetOf, noSheet, withSheet, withMap}
 use Rattle.bench.specs.declared.Bench.{Bench}
 use Rattle.bench.specs.declared.Sheet.{Sheet}
 
 module _ (n : ℕ) (m : Map) (s : Sheet) (e : length m ≡ n) where
-  pub mapOn-redrawn : mapOn n (redrawn m s) ≡ m
-  unfolding mapOn redrawn written
-  mapOn-redrawn = take-at m (drop (length m) (s .map)) n e
+  pub mapOn-sheetWith : mapOn n (sheetWith m s) ≡ m
+  unfolding mapOn sheetWith written
+  mapOn-sheetWith = take-at m (drop (length m) (s .map)) n e
 
-  pub past-redrawn : drop n (redrawn m s .map) ≡ drop n (s .map)
-  unfolding redrawn written
-  past-redrawn = drop-at m (drop (length m) (s .map)) n e ∙ ap (λ (k : ℕ). drop k (s .map)) e
+  pub past-sheetWith : drop n (sheetWith m s .map) ≡ drop n (s .map)
+  unfolding sheetWith written
+  past-sheetWith = drop-at m (drop (length m) (s .map)) n e ∙ ap (λ (k : ℕ). drop k (s .map)) e
 
 module _ (b : Bench) (k : ℕ) (m : Map) where
-  pub withMap-same : k < length (b .sheets) → sheetOf (withMap b k m) k ≡ redrawn m (sheetOf b k)
+  pub withMap-same : k < length (b .sheets) → sheetOf (withMap b k m) k ≡ sheetWith m (sheetOf b k)
   unfolding withMap withSheet sheetOf
   withMap-same l = getD-set-same (b .sheets) k _ noSheet l
 
@@ -50,7 +50,7 @@ module _ (b : Bench) (k : ℕ) (m : Map) where
   withMap-past n e j =
       elim (ℕ-discrete j k) [
         | yes i ↦ elim (decLt k (length (b .sheets))) [
-          | yes l ↦ rw (i, withMap-same l) (past-redrawn n m (sheetOf b k) e)
+          | yes l ↦ rw (i, withMap-same l) (past-sheetWith n m (sheetOf b k) e)
           | no l ↦ ap (λ (s : Sheet). drop n (s .map)) (withMap-outside (omega arith) j)
         ]
         | no i ↦ ap (λ (s : Sheet). drop n (s .map)) (withMap-other j i)

@@ -1,8 +1,8 @@
--- `bench::sheets::is_drawn` meets its contract.
+-- `bench::sheets::has_map` meets its contract.
 use native.Mathlib.Numerals.{unary-clauses}
 use borrow.Author.Needs.{needs}
-use Rattle.bench.proofs.sheets.is_drawn.Statement.{statement}
-use Rattle.bench.proofs.sheets.is_drawn.Tie as tie
+use Rattle.bench.proofs.sheets.has_map.Statement.{statement}
+use Rattle.bench.proofs.sheets.has_map.Tie as tie
 
 sub-is-map : tie.Need-sub-is-map
 sub-is-map c = search needs
@@ -19,6 +19,6 @@ is-map-requires c κs = search needs
 returns : tie.Need-returns
 returns c = simp unary-clauses at (c .is-map .ensures)
 
-pub is-drawn-spec : {M : Type 1} → statement M
-is-drawn-spec =
+pub has-map-spec : {M : Type 1} → statement M
+has-map-spec =
     tie.close (tie.spec sub-is-map part-is-map-start part-is-map-end is-map-requires returns)

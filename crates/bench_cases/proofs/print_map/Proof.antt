@@ -1,8 +1,8 @@
--- `lesson::print_map` meets its contract: it prints four bytes and ends.
+-- `bench_cases::print_map` meets its contract: it prints four bytes and ends.
 use Prim.Native.Nat.{_-_, _≤_}
 use borrow.Author.Needs.{needs}
-use Rattle.lesson.proofs.print_map.Statement.{statement}
-use Rattle.lesson.proofs.print_map.Tie as tie
+use Rattle.bench_cases.proofs.print_map.Statement.{statement}
+use Rattle.bench_cases.proofs.print_map.Tie as tie
 
 abbrev Inv-loop : tie.InvT-loop
 Inv-loop map x₀ t3 x = x ≤ 4

@@ -1,4 +1,4 @@
--- `bench::sheets::all_drawn` meets its contract.
+-- `bench::sheets::all_have_maps` meets its contract.
 use Prim.Native.Nat.{ℕ, _-_, _≤_, _<_}
 use mathlib.Core.Path.{_≡_, sym, _∙_}
 use native.Mathlib.Omega.{arith}
@@ -10,9 +10,9 @@ use borrow.Author.Tests.{not-true, not-false}
 use Rattle.equivalence.specs.Equivalence.{isMap}
 use Rattle.equivalence.proofs.Tests.{T-of, not-T-of, true-is, false-is}
 use Rattle.bench.specs.State.{mapOn, noSheet}
-use Rattle.bench.proofs.Drawing.{every-sheet, of-every-sheet}
-use Rattle.bench.proofs.sheets.all_drawn.Statement.{statement}
-use Rattle.bench.proofs.sheets.all_drawn.Tie as tie
+use Rattle.bench.proofs.SheetMaps.{every-sheet, of-every-sheet}
+use Rattle.bench.proofs.sheets.all_have_maps.Statement.{statement}
+use Rattle.bench.proofs.sheets.all_have_maps.Tie as tie
 
 abbrev Inv-loop : tie.InvT-loop
 Inv-loop n sheets k₀ k = (k ≤ 8) × ((j : ℕ) → j < k → T (isMap n (mapOn n (getD sheets j noSheet))))
@@ -29,15 +29,15 @@ mul-sheet c = search needs
 array-copy-out-sheet : tie.Need-array-copy-out-sheet Inv-loop μ-loop
 array-copy-out-sheet c = search needs
 
-is-drawn-requires : tie.Need-is-drawn-requires Inv-loop μ-loop
-is-drawn-requires c κs = search needs
+has-map-requires : tie.Need-has-map-requires Inv-loop μ-loop
+has-map-requires c κs = search needs
 
 returns : tie.Need-returns Inv-loop μ-loop
 unfolding mapOn
 returns c =
     let l = c .before .before .before .before .before .before .before .args .t1 in
     let e : length l ≡ 8 = search needs in
-    false-is _ (λ t. not-T-of (sym (c .before .is-drawn .ensures) ∙ not-true _ (c .if1 .taken)) (of-every-sheet _ l t _ (omega (arith, c .before .before .before .before .before .loop-test .taken))))
+    false-is _ (λ t. not-T-of (sym (c .before .has-map .ensures) ∙ not-true _ (c .if1 .taken)) (of-every-sheet _ l t _ (omega (arith, c .before .before .before .before .before .loop-test .taken))))
 
 add-k : tie.Need-add-k Inv-loop μ-loop
 add-k c = search needs
@@ -47,7 +47,7 @@ loop-less c = search needs
 
 loop-again : tie.Need-loop-again Inv-loop μ-loop
 unfolding mapOn
-loop-again c = (search needs, below-more _ _ (c .before .before .before .before .before .before .loop .inv .1) (T-of (sym (c .before .is-drawn .ensures) ∙ not-false _ (c .if1 .left))))
+loop-again c = (search needs, below-more _ _ (c .before .before .before .before .before .before .loop .inv .1) (T-of (sym (c .before .has-map .ensures) ∙ not-false _ (c .if1 .left))))
 
 returns-2 : tie.Need-returns-2 Inv-loop μ-loop
 returns-2 c =
@@ -55,8 +55,8 @@ returns-2 c =
     let e : length l ≡ 8 = search needs in
     true-is _ (every-sheet _ l (λ j h. c .before .loop .inv .1 j (omega arith)))
 
-pub all-drawn-spec : {M : Type 1} → statement M
-all-drawn-spec =
+pub all-have-maps-spec : {M : Type 1} → statement M
+all-have-maps-spec =
     tie.close
     (tie.spec
     Inv-loop
@@ -64,7 +64,7 @@ all-drawn-spec =
     loop-holds
     mul-sheet
     array-copy-out-sheet
-    is-drawn-requires
+    has-map-requires
     returns
     add-k
     loop-less
