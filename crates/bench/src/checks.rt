@@ -3,7 +3,7 @@ ghost use mathlib.Core.Path.{_≡_};
 ghost use mathlib.Core.List.{[], _∷_};
 ghost use Prim.Native.Nat.{_≤_};
 ghost use Rattle.equivalence.specs.Refusal.{lowest};
-ghost use Rattle.algebra.specs.Algebra.{algebraOf};
+ghost use Rattle.algebra.specs.Algebra.{algebraIn};
 ghost use Rattle.bench.specs.Calls.{startTests, benchTest, clearTests, placeTests, handedTests};
 use super::Bench;
 use super::sheets;
@@ -78,7 +78,7 @@ pub fn handed_check(
     x: usize,
     y: usize,
 ) -> Check
-    ensures { λ r. ⌜ r ≡ lowest (handedTests bench (algebraOf n (now (arities .entry)) (now (cells .entry))) sheet x y) ⌝ }
+    ensures { λ r. ⌜ r ≡ lowest (handedTests bench (algebraIn n (arities .entry) (cells .entry)) sheet x y) ⌝ }
 {
     let check = algebra::check(n, arities, cells);
     match check {

@@ -5,7 +5,7 @@ ghost use mathlib.Core.List.{[], _∷_};
 ghost use Prim.Native.Nat.{_+_, _<_, _≤_};
 ghost use Rattle.equivalence.specs.Refusal.{lowest};
 ghost use Rattle.equivalence.specs.declared.Check.the-variants.{Passed};
-ghost use Rattle.algebra.specs.Algebra.{algebraOf};
+ghost use Rattle.algebra.specs.Algebra.{algebraIn};
 ghost use Rattle.bench.specs.State.{withSheet, raisedBy};
 ghost use Rattle.bench.specs.Calls.{tallyTest, benched, startCall, handedTests, addCall, clearCall};
 use equivalence::Check;
@@ -87,8 +87,8 @@ fn extend(
     x: usize,
     y: usize,
 ) -> Benched
-    requires { ⌜ lowest (handedTests bench (algebraOf n (now arities) (now cells)) k x y) ≡ Passed ⌝ }
-    ensures { λ r. ⌜ r ≡ addCall bench (algebraOf n (now (arities .entry)) (now (cells .entry))) k x y ⌝ }
+    requires { ⌜ lowest (handedTests bench (algebraIn n arities cells) k x y) ≡ Passed ⌝ }
+    ensures { λ r. ⌜ r ≡ addCall bench (algebraIn n (arities .entry) (cells .entry)) k x y ⌝ }
 {
     let on_bench = bench.sheets;
     let old = sheets::nth(on_bench, k);
@@ -107,7 +107,7 @@ pub fn add(
     x: usize,
     y: usize,
 ) -> Benched
-    ensures { λ r. ⌜ r ≡ addCall bench (algebraOf n (now (arities .entry)) (now (cells .entry))) sheet x y ⌝ }
+    ensures { λ r. ⌜ r ≡ addCall bench (algebraIn n (arities .entry) (cells .entry)) sheet x y ⌝ }
 {
     let check = checks::handed_check(bench, n, arities, cells, sheet, x, y);
     match check {

@@ -6,7 +6,7 @@ ghost use Rattle.equivalence.specs.Lists.{every};
 ghost use lib.Dec.{T};
 ghost use Rattle.equivalence.specs.Equivalence.{isMap, identity};
 ghost use Rattle.equivalence.specs.Lent.{written};
-ghost use Rattle.algebra.specs.Algebra.{algebraOf};
+ghost use Rattle.algebra.specs.Algebra.{algebraIn};
 ghost use Rattle.algebra.specs.Accepted.{Accepted};
 ghost use Rattle.bench.specs.State.{mapOn, zeroSheet, sheetWith, eightOf, zeroBench, freshBench, noSheet, withSheet, withMap};
 ghost use Rattle.bench.specs.InnerGrowth.{MapGrown, SheetGrown};
@@ -137,22 +137,22 @@ fn extend_map(
     x: usize,
     y: usize,
 ) -> usize
-    requires { ⌜ Accepted (algebraOf n (now arities) (now cells)) ⌝ }
+    requires { ⌜ Accepted (algebraIn n arities cells) ⌝ }
     requires { ⌜ T (isMap n (take n (now map))) ⌝ }
     requires { ⌜ x < n ⌝ }
     requires { ⌜ y < n ⌝ }
-    ensures { λ r. ⌜ MapGrown (algebraOf n (now (arities .entry)) (now (cells .entry))) x y (now (map .entry)) (now (map .exit)) r ⌝ }
+    ensures { λ r. ⌜ MapGrown (algebraIn n (arities .entry) (cells .entry)) x y (now (map .entry)) (now (map .exit)) r ⌝ }
 {
     extremal::extended_into(map, n, arities, cells, x, y)
 }
 
 // The sheet with the least congruence of the algebra that holds its map and the pair.
 pub fn extended(sheet: Sheet, n: usize, arities: &[u8], cells: &[u8], x: usize, y: usize) -> Grown
-    requires { ⌜ Accepted (algebraOf n (now arities) (now cells)) ⌝ }
+    requires { ⌜ Accepted (algebraIn n arities cells) ⌝ }
     requires { ⌜ T (isMap n (mapOn n sheet)) ⌝ }
     requires { ⌜ x < n ⌝ }
     requires { ⌜ y < n ⌝ }
-    ensures { λ r. ⌜ SheetGrown (algebraOf n (now (arities .entry)) (now (cells .entry))) x y sheet (r .sheet) (r .lost) ⌝ }
+    ensures { λ r. ⌜ SheetGrown (algebraIn n (arities .entry) (cells .entry)) x y sheet (r .sheet) (r .lost) ⌝ }
 {
     let mut map = sheet.map;
     let lost = extend_map(&mut map, n, arities, cells, x, y);

@@ -2,7 +2,7 @@
 ghost use mathlib.Core.Path.{_≡_};
 ghost use Rattle.equivalence.specs.Calls.{meetCall, joinCall};
 ghost use Rattle.equivalence.specs.Order.{placeOf};
-ghost use Rattle.algebra.specs.Algebra.{algebraOf};
+ghost use Rattle.algebra.specs.Algebra.{algebraIn};
 ghost use Rattle.congruence.specs.Calls.{quotientCall, certifyCall};
 ghost use Rattle.equivalence.specs.Outcome.{packed, writtenOutcome};
 ghost use Rattle.congruence.specs.Outcome.{dividedOutcome, certifiedOutcome};
@@ -57,8 +57,8 @@ pub extern "C" fn probe_quotient(
     map: &[u8],
     out: &mut [u8],
 ) -> u32
-    ensures { λ r. ⌜ r ≡ packed (dividedOutcome (quotientCall (algebraOf n (now (arities .entry)) (now (cells .entry))) (now (map .entry)) (now (out .entry)) .0)) ⌝ }
-    ensures { λ _. ⌜ now (out .exit) ≡ quotientCall (algebraOf n (now (arities .entry)) (now (cells .entry))) (now (map .entry)) (now (out .entry)) .1 ⌝ }
+    ensures { λ r. ⌜ r ≡ packed (dividedOutcome (quotientCall (algebraIn n (arities .entry) (cells .entry)) (now (map .entry)) (now (out .entry)) .0)) ⌝ }
+    ensures { λ _. ⌜ now (out .exit) ≡ quotientCall (algebraIn n (arities .entry) (cells .entry)) (now (map .entry)) (now (out .entry)) .1 ⌝ }
 {
     outcome::divided_number(congruence::quotient(n, arities, cells, map, out))
 }
@@ -66,7 +66,7 @@ pub extern "C" fn probe_quotient(
 // Certify: 256 for yes, 0 for no, or the reason.
 #[no_mangle]
 pub extern "C" fn probe_certify(n: usize, arities: &[u8], cells: &[u8], maps: &[u8]) -> u32
-    ensures { λ r. ⌜ r ≡ packed (certifiedOutcome (certifyCall (algebraOf n (now (arities .entry)) (now (cells .entry))) (now (maps .entry)))) ⌝ }
+    ensures { λ r. ⌜ r ≡ packed (certifiedOutcome (certifyCall (algebraIn n (arities .entry) (cells .entry)) (now (maps .entry)))) ⌝ }
 {
     outcome::certified_number(congruence::certify(n, arities, cells, maps))
 }
@@ -97,7 +97,7 @@ pub extern "C" fn probe_bench_add(
     x: usize,
     y: usize,
 ) -> u32
-    ensures { λ r. ⌜ (r, now (bytes .exit)) ≡ imageCall (λ b. addCall b (algebraOf n (now (arities .entry)) (now (cells .entry))) sheet x y) (now (bytes .entry)) ⌝ }
+    ensures { λ r. ⌜ (r, now (bytes .exit)) ≡ imageCall (λ b. addCall b (algebraIn n (arities .entry) (cells .entry)) sheet x y) (now (bytes .entry)) ⌝ }
 {
     if bytes.len() != image::LENGTH {
         return 255;
