@@ -3,14 +3,14 @@ use Prim.Native.Nat.{ℕ, _-_, _*_, _≤_, _<_}
 use mathlib.Core.List.{List, [], _∷_, _++_}
 use mathlib.Core.Path.{_≡_, sym, ap, subst, _∙_}
 use native.Mathlib.Omega.{arith}
-use lib.Dec.{T, ltb→lt}
+use lib.Dec.{T}
 use lib.ListN.{length, getD, take, drop}
 use lib.Seq.{take-at}
 use Rattle.equivalence.specs.Equivalence.{Map, isMap, blocks}
 use Rattle.equivalence.specs.Lists.{concat}
 use Rattle.equivalence.specs.Lent.{stretch, written}
 use Rattle.equivalence.specs.Refusal.{lowest, mapTest, spaceTest}
-use Rattle.equivalence.proofs.Refusals.{lowest-none, lowest-next, lowest-append, serve-passed}
+use Rattle.equivalence.proofs.Refusals.{lowest-none, lowest-next, lowest-append, serve-passed, space-passed}
 use Rattle.equivalence.proofs.Stretches.{stretch-concat}
 use Rattle.equivalence.proofs.Tests.{T?}
 use Rattle.algebra.specs.Accepted.{algebraTests, Accepted}
@@ -32,17 +32,12 @@ use Rattle.congruence.specs.declared.Divided.the-variants.{Blocks, Refus
 use Rattle.congruence.specs.declared.Decomposed.{Decomposed}
 use Rattle.congruence.specs.declared.Decomposed.the-variants.{Factors, Irreducible, Refused as DecomposeRefused}
 
--- space enough: 9 does not apply
-pub space-passed : (wanted : ℕ) (lent : List ℕ) → wanted ≤ length lent → ¬ T (spaceTest wanted (length lent) .applies)
-unfolding spaceTest
-space-passed wanted lent h t = absurd (omega (arith, ltb→lt (length lent) wanted t))
-
 -- ---- Decompose
 
 module _ (a : Algebra) (accepted : Accepted a) (lent : List ℕ) (room : factorSpace (a .size) ≤ length lent) where
   decompose-passed : lowest (decomposeTests a (length lent)) ≡ Passed
   unfolding Accepted
-  decompose-passed = lowest-append (algebraTests a) _ accepted ∙ lowest-next _ [] (space-passed (factorSpace (a .size)) lent room) ∙ lowest-none
+  decompose-passed = lowest-append (algebraTests a) _ accepted ∙ space-passed (factorSpace (a .size)) (length lent) [] room ∙ lowest-none
 
   decompose-served : decomposeCall a lent ≡ (decomposed a, written (factorBytes a) lent)
   unfolding decomposeCall
@@ -70,7 +65,7 @@ module _ (a : Algebra) (accepted : Accepted a) (m : Map) (p : Congruence a m) (t
   quotient-passed =
       lowest-append (algebraTests a) _ accepted
       ∙ lowest-next _ _ (not-yes (isMap (a .size) m) (p .map))
-      ∙ lowest-next _ _ (space-passed (quotientSpace a m) tables room)
+      ∙ space-passed (quotientSpace a m) (length tables) _ room
       ∙ lowest-next _ [] (not-yes (isCongruence a m) (p .respects))
       ∙ lowest-none
 

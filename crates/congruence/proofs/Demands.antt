@@ -26,7 +26,7 @@ use Rattle.congruence.specs.Calls.{element}
 use Rattle.theory.specs.Certify.{certified}
 use Rattle.theory.specs.Decompose.{listed, reducible, commonPair}
 use Rattle.theory.specs.Splitting.{Unsplit}
-use Rattle.congruence.specs.Demands.{LeastCongruence, GreatestCongruence, MeetRight, JoinRight, operationAt, QuotientAtMembers, MaximalApart, EarliestCongruence, HeldByAll, FirstCommonPair, FactorsRight, FactorTheorem}
+use Rattle.congruence.specs.Demands.{LeastCongruence, GreatestCongruence, MeetRight, JoinRight, operationNo, QuotientAtMembers, MaximalApart, EarliestCongruence, HeldByAll, FirstCommonPair, FactorsRight, FactorTheorem}
 use Rattle.theory.specs.Extremal.{generated, contained, separated}
 use Rattle.theory.proofs.Certificates.{listed-certified}
 use Rattle.theory.proofs.CommonPair.{Common, FirstCommon, commonPair-law, commonPair-one}
@@ -88,7 +88,7 @@ module _ (a : Algebra) (accepted : Accepted a) where
       let w = accepted-wellFormed a accepted in
       let q = congruence-is a m p in
       let count : length (operations (quotient a m)) ≡ length (operations a) = ap length (operations-quotient a m) ∙ length-map (operations a) (onBlocks (a .size) m) in
-      let each : (i : ℕ) → i < length (operations a) → operationAt (quotient a m) i ≡ onBlocks (a .size) m (operationAt a i) =
+      let each : (i : ℕ) → i < length (operations a) → operationNo (quotient a m) i ≡ onBlocks (a .size) m (operationNo a i) =
       λ i l. ap (λ (fs : List Operation). getD fs i (record { arity = 0; table = [] })) (operations-quotient a m)
       ∙ map-at (onBlocks (a .size) m) (operations a) i (record { arity = 0; table = [] }) (record { arity = 0; table = [] }) l in
       record {
@@ -97,7 +97,7 @@ module _ (a : Algebra) (accepted : Accepted a) where
         count = count;
         arity = λ i l. ap (λ (f : Operation). f .arity) (each i l);
         cell = λ i l xs j. ap (λ (f : Operation). value (blocks (a .size) m) f (map (blockOf m) xs)) (each i l)
-            ∙ block-value a w m q (operationAt a i) (member-at (operations a) i (record { arity = 0; table = [] }) l) xs (of-arguments (a .size) (operationAt a i .arity) xs j);
+            ∙ block-value a w m q (operationNo a i) (member-at (operations a) i (record { arity = 0; table = [] }) l) xs (of-arguments (a .size) (operationNo a i .arity) xs j);
       }
 
   -- ---- demand 3

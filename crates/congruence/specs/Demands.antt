@@ -48,8 +48,8 @@ pub record JoinRight (n : ℕ) (a b m : Map) : Type 0 where
   pub least : (c : Map) → T (isMap n c) → T (inside n a c) → T (inside n b c) → T (inside n m c)
 
 -- operation number i of an algebra
-abbrev pub operationAt : Algebra → ℕ → Operation
-operationAt a i = getD (operations a) i (record { arity = 0; table = [] })
+abbrev pub operationNo : Algebra → ℕ → Operation
+operationNo a i = getD (operations a) i (record { arity = 0; table = [] })
 
 -- Demand 2, Quotient: q's elements are the numbers of m's blocks; for each operation of a it has one of the same arity, whose cell at the blocks of any
 -- members is the block of the result at those members
@@ -57,9 +57,9 @@ pub record QuotientAtMembers (a : Algebra) (m : Map) (q : Algebra) : Type 0 wher
   pub size : q .size ≡ blocks (a .size) m
   pub block : (b : ℕ) → b < q .size → (x : ℕ) × (x < a .size) × (blockOf m x ≡ b)
   pub count : length (operations q) ≡ length (operations a)
-  pub arity : (i : ℕ) → i < length (operations a) → operationAt q i .arity ≡ operationAt a i .arity
-  pub cell : (i : ℕ) → i < length (operations a) → (xs : List ℕ) → Member xs (arguments (a .size) (operationAt a i .arity))
-      → value (q .size) (operationAt q i) (map (blockOf m) xs) ≡ blockOf m (value (a .size) (operationAt a i) xs)
+  pub arity : (i : ℕ) → i < length (operations a) → operationNo q i .arity ≡ operationNo a i .arity
+  pub cell : (i : ℕ) → i < length (operations a) → (xs : List ℕ) → Member xs (arguments (a .size) (operationNo a i .arity))
+      → value (q .size) (operationNo q i) (map (blockOf m) xs) ≡ blockOf m (value (a .size) (operationNo a i) xs)
 
 -- m holds x and y apart, and every strictly larger congruence joins them
 pub record MaximalApart (a : Algebra) (m : Map) (x y : ℕ) : Type 0 where

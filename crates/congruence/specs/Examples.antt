@@ -22,8 +22,8 @@ abbrev pub elevenWith : ℕ → ℕ → Outcome
 elevenWith x y = record { reason = 11; count = 0; first = x; second = y }
 
 -- another reason, with zeros
-abbrev pub refused : ℕ → Outcome
-refused r = record { reason = r; count = 0; first = 0; second = 0 }
+abbrev pub refusedWith : ℕ → Outcome
+refusedWith r = record { reason = r; count = 0; first = 0; second = 0 }
 
 -- examples 1 to 11; one byte more is lent than the call writes, or wants
 pub record Examples : Type 0 where
@@ -41,18 +41,18 @@ pub record Examples : Type 0 where
 
 -- the small input of each reason from 1 to 12; those of 13 and 14 are the bench's and the text's
 pub record SmallInputs : Type 0 where
-  pub size : shown generatedOutcome (generateCall (bare 65) [] (nines 65)) ≡ (refused 1, nines 65)
-  pub operations : shown generatedOutcome (generateCall (algebraOf 1 (replicate 17 0) (replicate 17 0)) [] (nines 1)) ≡ (refused 2, nines 1)
-  pub arity : shown generatedOutcome (generateCall (algebraOf 1 (4 ∷ []) (0 ∷ [])) [] (nines 1)) ≡ (refused 3, nines 1)
-  pub cells : shown generatedOutcome (generateCall (algebraOf 64 (3 ∷ []) []) [] (nines 64)) ≡ (refused 4, nines 64)
-  pub length : shown generatedOutcome (generateCall (algebraOf 2 (1 ∷ []) (0 ∷ [])) [] (nines 2)) ≡ (refused 5, nines 2)
-  pub cell : shown generatedOutcome (generateCall (algebraOf 2 (1 ∷ []) (0 ∷ 2 ∷ [])) [] (nines 2)) ≡ (refused 6, nines 2)
-  pub range : shown generatedOutcome (generateCall (bare 2) (0 ∷ 2 ∷ []) (nines 2)) ≡ (refused 7, nines 2)
-  pub map : shown writtenOutcome (containedCall (bare 3) (0 ∷ 2 ∷ 2 ∷ []) (nines 3)) ≡ (refused 8, nines 3)
-  pub space : shown generatedOutcome (generateCall (bare 4) [] (nines 3)) ≡ (refused 9, nines 3)
-  pub equal : shown writtenOutcome (separateCall (bare 2) 1 1 (nines 2)) ≡ (refused 10, nines 2)
+  pub size : shown generatedOutcome (generateCall (bare 65) [] (nines 65)) ≡ (refusedWith 1, nines 65)
+  pub operations : shown generatedOutcome (generateCall (algebraOf 1 (replicate 17 0) (replicate 17 0)) [] (nines 1)) ≡ (refusedWith 2, nines 1)
+  pub arity : shown generatedOutcome (generateCall (algebraOf 1 (4 ∷ []) (0 ∷ [])) [] (nines 1)) ≡ (refusedWith 3, nines 1)
+  pub cells : shown generatedOutcome (generateCall (algebraOf 64 (3 ∷ []) []) [] (nines 64)) ≡ (refusedWith 4, nines 64)
+  pub length : shown generatedOutcome (generateCall (algebraOf 2 (1 ∷ []) (0 ∷ [])) [] (nines 2)) ≡ (refusedWith 5, nines 2)
+  pub cell : shown generatedOutcome (generateCall (algebraOf 2 (1 ∷ []) (0 ∷ 2 ∷ [])) [] (nines 2)) ≡ (refusedWith 6, nines 2)
+  pub range : shown generatedOutcome (generateCall (bare 2) (0 ∷ 2 ∷ []) (nines 2)) ≡ (refusedWith 7, nines 2)
+  pub map : shown writtenOutcome (containedCall (bare 3) (0 ∷ 2 ∷ 2 ∷ []) (nines 3)) ≡ (refusedWith 8, nines 3)
+  pub space : shown generatedOutcome (generateCall (bare 4) [] (nines 3)) ≡ (refusedWith 9, nines 3)
+  pub equal : shown writtenOutcome (separateCall (bare 2) 1 1 (nines 2)) ≡ (refusedWith 10, nines 2)
   pub irreducible : shown decomposedOutcome (decomposeCall (bare 2) (nines 2)) ≡ (elevenWith 0 1, nines 2)
-  pub congruence : shown dividedOutcome (quotientCall u (0 ∷ 1 ∷ 0 ∷ 3 ∷ []) (nines 3)) ≡ (refused 12, nines 3)
+  pub congruence : shown dividedOutcome (quotientCall u (0 ∷ 1 ∷ 0 ∷ 3 ∷ []) (nines 3)) ≡ (refusedWith 12, nines 3)
   -- the lowest number goes first: 7 before 9, 9 before 12
-  pub rangeFirst : shown generatedOutcome (generateCall u (0 ∷ 4 ∷ []) (nines 2)) ≡ (refused 7, nines 2)
-  pub spaceFirst : shown dividedOutcome (quotientCall u (0 ∷ 1 ∷ 0 ∷ 3 ∷ []) (nines 2)) ≡ (refused 9, nines 2)
+  pub rangeFirst : shown generatedOutcome (generateCall u (0 ∷ 4 ∷ []) (nines 2)) ≡ (refusedWith 7, nines 2)
+  pub spaceFirst : shown dividedOutcome (quotientCall u (0 ∷ 1 ∷ 0 ∷ 3 ∷ []) (nines 2)) ≡ (refusedWith 9, nines 2)
