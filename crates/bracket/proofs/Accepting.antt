@@ -23,7 +23,7 @@ use Rattle.reader.specs.Reading.{ascii, Read, found, fault, Reader, onward, _>>
 use Rattle.reader.specs.Numbers.{number}
 use Rattle.reader.specs.Tables.{cell, parted, bracket, table}
 use Rattle.reader.specs.Lines.{Progress, defined, refused, close, sizeLine, tested, afterSize, sized, arity, lastTable, operationTests, cellTest, withOperation, afterTable, afterArity, operation, Request, request}
-use Rattle.bracket.specs.Answers.{refusedLine}
+use Rattle.writer.specs.Lines.{refusedLine}
 use Rattle.bracket.specs.Transcript.{State, Step, goes, ends, textLimit, afterLine, afterRequest, firstStep, operationStep, requestStep, step}
 
 -- what is found has a property

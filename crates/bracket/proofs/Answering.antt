@@ -8,7 +8,7 @@ use lib.ListN.{length, take, replicate, length-replicate}
 use Rattle.equivalence.specs.Lists.{upTo}
 use Rattle.equivalence.specs.Lent.{stretch}
 use Rattle.equivalence.specs.Outcome.{success, writtenOutcome}
-use Rattle.equivalence.specs.Refusal.{lowest, spaceTest, answered, serve}
+use Rattle.equivalence.specs.Refusal.{lowest, answered, serve}
 use Rattle.equivalence.specs.declared.Check.{Check}
 use Rattle.equivalence.specs.declared.Check.the-variants.{Passed, Failed}
 use Rattle.equivalence.specs.declared.Element.{Element}
@@ -16,24 +16,26 @@ use Rattle.equivalence.specs.declared.Refusal.{Refusal}
 use Rattle.equivalence.specs.declared.Refusal.the-variants.{Text}
 use Rattle.equivalence.specs.declared.Written.{Written}
 use Rattle.equivalence.specs.declared.Written.the-variants.{Done, Refused as WriteRefused}
-use Rattle.algebra.specs.Accepted.{algebraTests}
 use Rattle.algebra.specs.Algebra.{Algebra, algebraOf}
 use Rattle.algebra.proofs.Accepted.{accepted-wellFormed}
-use Rattle.congruence.specs.Calls.{generateCall, containedCall, separateCall, decomposed, decomposeCall}
+use Rattle.congruence.specs.Calls.{generateCall, containedCall, separateCall, decomposed, decomposeTests, decomposeCall}
 use Rattle.congruence.specs.Outcome.{generatedOutcome, decomposedOutcome}
 use Rattle.congruence.proofs.Calls.{factors-reducible}
+use Rattle.theory.specs.Decompose.{factorSpace}
 use Rattle.theory.proofs.Factors.{listed-law}
-use Rattle.congruence.proofs.Serving.{of-checked}
+use Rattle.congruence.proofs.Serving.{of-decomposeTests}
 use Rattle.congruence.specs.declared.Decomposed.{Decomposed}
 use Rattle.congruence.specs.declared.Decomposed.the-variants.{Factors, Irreducible, Refused as DecomposeRefused}
 use Rattle.congruence.specs.declared.Generated.{Generated}
 use Rattle.congruence.specs.declared.Generated.the-variants.{Merges, Refused as GenerateRefused}
 use Rattle.reader.specs.Reading.{ascii}
 use Rattle.reader.specs.Lines.{generate, contained, separate, decompose}
-use Rattle.bracket.specs.Answers.{spaced, spacedBrackets, line, refusedNumbers, outcomeLine, refusedLine, mapLine, generatedLine, factorsLine, answer}
-use Rattle.reader.specs.Promises.{Laid}
-use Rattle.bracket.specs.Promises.{lineFor, FactorsRoom, LineFits, MapFits, FactorsFit, ZeroFactors, Zeros}
-use Rattle.bracket.proofs.Spacing.{outcome-refused}
+use Rattle.writer.specs.Lines.{spaced, spacedBrackets, line, refusedNumbers, outcomeLine, refusedLine}
+use Rattle.writer.specs.InnerRoom.{FactorsRoom}
+use Rattle.writer.proofs.Spacing.{outcome-refused}
+use Rattle.bracket.specs.Answers.{mapLine, generatedLine, factorsLine, answer}
+use Rattle.reader.specs.Laying.{Laid}
+use Rattle.bracket.specs.InnerPromises.{lineFor, LineFits, MapFits, FactorsFit, ZeroFactors, Zeros}
 use Rattle.reader.specs.declared.requests.Asked.{Asked}
 use Rattle.reader.specs.declared.requests.Asked.the-variants.{Generate, Contained, Separate, Decompose, Nothing}
 
@@ -76,7 +78,7 @@ module _ (answer : Decomposed) (n : ℕ) (factors lent : List ℕ) (f : FactorsF
   factors-room k e =
       let l : k < n = f .few k e in
       let p : k * (4 * n + 2) ≤ 63 * 258 = mul-le-mul {n₂ = 63} {m₂ = 258} (omega (arith, f .fits)) (omega (arith, f .fits)) in
-      let q : k * n ≤ (n - 1) * n = mul-le-mul-right {m = k} {n = n - 1} n (omega arith) in
+      let q : k * n ≤ factorSpace n = mul-le-mul-right {m = k} {n = n - 1} n (omega arith) in
       record { some = f .fits .some; line = omega (arith, f .fits .line); list = rw (f .list) q }
 
   module _ (out : List ℕ) (end : ℕ) where
@@ -96,22 +98,22 @@ module _ (answer : Decomposed) (n : ℕ) (factors lent : List ℕ) (f : FactorsF
     line-of-decompose-refused r e l = rw (e, outcome-refused) l
 
 -- Decompose gives fewer factors than there are elements
-few-factors : (a : Algebra) (lent : List ℕ) (k : ℕ) (c : Check) → c ≡ lowest (algebraTests a ++ (spaceTest ((a .size - 1) * a .size) (length lent) ∷ []))
+few-factors : (a : Algebra) (lent : List ℕ) (k : ℕ) (c : Check) → c ≡ lowest (decomposeTests a (length lent))
     → answered DecomposeRefused c (decomposed a) ≡ Factors k → k < a .size
 unfolding answered
 few-factors a lent k Passed e g =
-    let w = accepted-wellFormed a (of-checked a (spaceTest ((a .size - 1) * a .size) (length lent) ∷ []) e .0) in
+    let w = accepted-wellFormed a (of-decomposeTests a (length lent) e .0) in
     rw (factors-reducible a k g .1) (listed-law a w .few)
 few-factors a lent k (Failed r) e g = let z : _≡_ {A = ℕ} 0 1 = cc in absurd (omega arith)
 
 pub factors-few : (a : Algebra) (lent map : List ℕ) (d : Decomposed) → (d, map) ≡ decomposeCall a lent → (k : ℕ) → d ≡ Factors k → k < a .size
 unfolding decomposeCall serve
 factors-few a lent map d e k g =
-    few-factors a lent k (lowest (algebraTests a ++ (spaceTest ((a .size - 1) * a .size) (length lent) ∷ []))) refl
+    few-factors a lent k (lowest (decomposeTests a (length lent))) refl
     (sym (ap (λ (p : Decomposed × List ℕ). p .0) e) ∙ g)
 
 -- all factors together have 63 × 64 bytes at most
-pub factors-short : (n : ℕ) → n ≤ 64 → (n - 1) * n ≤ 4032
+pub factors-short : (n : ℕ) → n ≤ 64 → factorSpace n ≤ 4032
 factors-short n h = mul-le-mul {n₂ = 63} {m₂ = 64} (omega arith) h
 
 -- the calls, lent zeros
@@ -132,15 +134,15 @@ module _ (n : ℕ) (arities cells before map lent out : List ℕ) (end : ℕ) (z
   separate-answered v w g e l = rw (← z .zeros, ← e) l
 
 -- Decompose, lent zeros
-pub zeros-of-4032 : (n : ℕ) (out : List ℕ) → LineFits n out → ZeroFactors n (take ((n - 1) * n - 0) (replicate 4032 0)) out
-zeros-of-4032 n out f = record { zeros = rw sub-zero (take-zeros ((n - 1) * n) 4032 (factors-short n (f .most))); fits = f }
+pub zeros-of-4032 : (n : ℕ) (out : List ℕ) → LineFits n out → ZeroFactors n (take (factorSpace n - 0) (replicate 4032 0)) out
+zeros-of-4032 n out f = record { zeros = rw sub-zero (take-zeros (factorSpace n) 4032 (factors-short n (f .most))); fits = f }
 
 pub factors-fit : (n : ℕ) (arities cells before factors out : List ℕ) (d : Decomposed) → ZeroFactors n before out → length factors ≡ length before
     → (d, factors) ≡ decomposeCall (algebraOf n arities cells) before → FactorsFit d n factors out
 factors-fit n arities cells before factors out d z e g =
     record {
       fits = z .fits;
-      list = e ∙ ap length (z .zeros) ∙ length-replicate ((n - 1) * n) 0;
+      list = e ∙ ap length (z .zeros) ∙ length-replicate (factorSpace n) 0;
       few = λ k h. factors-few (algebraOf n arities cells) before factors d g k h;
     }
 

@@ -8,7 +8,8 @@ use borrow.Author.Tests.{not-true, not-false, le-leb, lt-leb, leb-true}
 use lib.Dec.{T, leb}
 use lib.ListN.{length}
 use Rattle.bracket.specs.Fills.{lineRoom}
-use Rattle.bracket.specs.Steps.{Sound, Lent, Filling, unread, canFill, Filled}
+use Rattle.bracket.specs.Standings.{Sound, Filling, unread, canFill, FillPromise}
+use Rattle.bracket.specs.InnerSteps.{Lent}
 use Rattle.bracket.specs.declared.run.Standing.{Standing}
 use Rattle.bracket.specs.declared.run.Stepped.{Stepped}
 use Rattle.reader.proofs.Words.{and-left, and-right}
@@ -115,12 +116,12 @@ module _ (text : List ℕ) (s : Standing) (arities room lent : List ℕ) where
     pub able-lent : not b ≡ false → Lent text arities room lent
     able-lent h = within-bounds (sym eb ∙ not-false b h) .1
 
-    pub fill-idles : not b ≡ true → (t : Standing) → t ≡ unread false → Filled text s arities room lent arities room lent (record { standing = t; wrote = 0 })
+    pub fill-idles : not b ≡ true → (t : Standing) → t ≡ unread false → FillPromise text s arities room lent arities room lent (record { standing = t; wrote = 0 })
     fill-idles h t et =
         rw et (record { fills = λ y. absurd (subst T (sym eb ∙ not-true b h) y); idles = λ n. (refl, refl, refl, refl) })
 
     pub fill-made : not b ≡ false → (arities′ room′ out : List ℕ) (r : Stepped) → Filling text s arities room lent arities′ room′ out r
-        → Filled text s arities room lent arities′ room′ out r
+        → FillPromise text s arities room lent arities′ room′ out r
     fill-made h arities′ room′ out r q =
         record { fills = λ t. q; idles = λ n. absurd (n (subst T (sym (sym eb ∙ not-false b h)) tt)) }
 

@@ -9,9 +9,9 @@ use borrow.Author.Tests.{lt-ltb, le-leb, lt-leb}
 use lib.ListN.{length}
 use Rattle.equivalence.specs.Lists.{concat}
 use Rattle.equivalence.specs.declared.Refusal.the-variants.{Text}
-use Rattle.bracket.specs.Answers.{refusedLine}
+use Rattle.writer.specs.Lines.{refusedLine}
 use Rattle.bracket.specs.Transcript.{State, Step, goes, ends, textLimit, firstStep, step, output, run, transcript}
-use Rattle.bracket.specs.Fills.{lineRoom, Place, fresh, midway, over, due, pieceOf, placeAfter, Fill, ended, short, takes, Fills, finished, onwards}
+use Rattle.bracket.specs.Fills.{lineRoom, Position, fresh, midway, over, due, pieceOf, positionAfter, Fill, ended, short, takes, Fills, finished, onwards}
 use Rattle.bracket.proofs.Forward.{Ahead, step-ahead}
 
 module _ (text : List ℕ) where
@@ -42,21 +42,21 @@ module _ (text : List ℕ) where
       ]
 
   -- where a step leads
-  pub after-midway : (piece : List ℕ) (s : State) → s .at < length text → placeAfter text (goes piece s) ≡ midway s
-  unfolding placeAfter
-  after-midway piece s h = simp (placeAfter, lt-leb (length text) (s .at) h)
+  pub after-midway : (piece : List ℕ) (s : State) → s .at < length text → positionAfter text (goes piece s) ≡ midway s
+  unfolding positionAfter
+  after-midway piece s h = simp (positionAfter, lt-leb (length text) (s .at) h)
 
-  pub after-over : (piece : List ℕ) (s : State) → length text ≤ s .at → placeAfter text (goes piece s) ≡ over
-  unfolding placeAfter
-  after-over piece s h = simp (placeAfter, le-leb (length text) (s .at) h)
+  pub after-over : (piece : List ℕ) (s : State) → length text ≤ s .at → positionAfter text (goes piece s) ≡ over
+  unfolding positionAfter
+  after-over piece s h = simp (positionAfter, le-leb (length text) (s .at) h)
 
-  -- what a run still writes from a place on
-  unfoldable pub remaining : Place → List ℕ
+  -- what a run still writes from a position on
+  unfoldable pub remaining : Position → List ℕ
   remaining p = output (due text p) (run (length text) text)
 
   -- what a step writes, and what remains after it
-  step-remaining : (d : Step) → output d (run (length text) text) ≡ pieceOf d ++ remaining (placeAfter text d)
-  unfolding output pieceOf remaining due placeAfter
+  step-remaining : (d : Step) → output d (run (length text) text) ≡ pieceOf d ++ remaining (positionAfter text d)
+  unfolding output pieceOf remaining due positionAfter
   step-remaining (goes piece s) =
       elim (decLt (s .at) (length text)) [
         | yes l ↦
@@ -67,7 +67,7 @@ module _ (text : List ℕ) where
   step-remaining (ends piece) = sym (append-nil piece)
 
   -- a fill lays the first of what remains, and leaves the rest
-  pub fill-remaining : {room : ℕ} {p q : Place} {bytes : List ℕ} → Fill text room p bytes q → remaining p ≡ bytes ++ remaining q
+  pub fill-remaining : {room : ℕ} {p q : Position} {bytes : List ℕ} → Fill text room p bytes q → remaining p ≡ bytes ++ remaining q
   unfolding remaining
   fill-remaining ended = refl
   fill-remaining (short h) = refl
@@ -76,7 +76,7 @@ module _ (text : List ℕ) where
       ∙ ap (λ (w : List ℕ). pieceOf (due text p) ++ w) (fill-remaining f)
       ∙ sym (append-assoc (pieceOf (due text p)) more (remaining q))
 
-  fills-remaining : {p : Place} {parts : List (List ℕ)} → Fills text p parts → concat parts ≡ remaining p
+  fills-remaining : {p : Position} {parts : List (List ℕ)} → Fills text p parts → concat parts ≡ remaining p
   unfolding remaining concat output due
   fills-remaining finished = refl
   fills-remaining (onwards {bytes = bytes} f g) = ap (λ (w : List ℕ). bytes ++ w) (fills-remaining g) ∙ sym (fill-remaining f)
@@ -86,15 +86,15 @@ module _ (text : List ℕ) where
   unfolding remaining transcript due
   fills-transcript parts f = fills-remaining f
 
-  -- how far a place is from the end of the run
-  abbrev pub left : Place → ℕ
+  -- how far a position is from the end of the run
+  abbrev pub left : Position → ℕ
   left fresh = length text + 2
   left (midway s) = length text - s .at + 1
   left over = 0
 
   after-left : (k : ℕ) (d : Step) → 0 < k → ((piece : List ℕ) (s : State) → d ≡ goes piece s → s .at < length text → length text - s .at + 1 < k)
-      → left (placeAfter text d) < k
-  unfolding placeAfter
+      → left (positionAfter text d) < k
+  unfolding positionAfter
   after-left k (goes piece s) h near =
       elim (decLt (s .at) (length text)) [
         | yes l ↦ rw (after-midway piece s l) (near piece s refl l)
@@ -103,7 +103,7 @@ module _ (text : List ℕ) where
   after-left k (ends piece) h near = h
 
   -- each step gets nearer
-  pub step-less : (p : Place) → 0 < left p → left (placeAfter text (due text p)) < left p
+  pub step-less : (p : Position) → 0 < left p → left (positionAfter text (due text p)) < left p
   unfolding due
   step-less fresh h = after-left (length text + 2) (firstStep text) h (λ piece s e l. omega arith)
   step-less (midway t) h =
@@ -111,19 +111,19 @@ module _ (text : List ℕ) where
       (λ piece s e l. let a : t .at < s .at = rw e at (step-ahead text t) in omega arith)
   step-less over h = absurd (omega arith)
 
-  step-no-more : (p : Place) → left (placeAfter text (due text p)) ≤ left p
-  unfolding due placeAfter
+  step-no-more : (p : Position) → left (positionAfter text (due text p)) ≤ left p
+  unfolding due positionAfter
   step-no-more fresh = let h = step-less fresh (omega arith) in omega arith
   step-no-more (midway s) = let h = step-less (midway s) (omega arith) in omega arith
   step-no-more over = omega arith
 
-  fill-no-more : {room : ℕ} {p q : Place} {bytes : List ℕ} → Fill text room p bytes q → left q ≤ left p
+  fill-no-more : {room : ℕ} {p q : Position} {bytes : List ℕ} → Fill text room p bytes q → left q ≤ left p
   fill-no-more ended = omega arith
   fill-no-more (short h) = omega arith
   fill-no-more (takes {p = p} h f) = omega (arith, fill-no-more f, step-no-more p)
 
   -- and so does each fill
-  pub fill-less : {room : ℕ} {p q : Place} {bytes : List ℕ} → lineRoom ≤ room → 0 < left p → Fill text room p bytes q → left q < left p
+  pub fill-less : {room : ℕ} {p q : Position} {bytes : List ℕ} → lineRoom ≤ room → 0 < left p → Fill text room p bytes q → left q < left p
   fill-less r h ended = absurd (omega arith)
   fill-less r h (short l) = absurd (omega arith)
   fill-less r h (takes {p = p} l f) = omega (arith, fill-no-more f, step-less p h)

@@ -4,17 +4,20 @@ use mathlib.Core.Bool.{Bool, true, false}
 use mathlib.Core.List.{List, [], _++_, append-nil, append-assoc}
 use mathlib.Core.Path.{_≡_, refl, ap, sym, _∙_}
 use native.Mathlib.Decide.{decLt}
-use native.Mathlib.Nat.{sub-zero, zero-add}
+use native.Mathlib.Nat.{sub-zero}
 use native.Mathlib.Omega.{arith}
 use borrow.Author.Tests.{lt-ltb, le-ltb}
 use borrow.Rule.Slice.PartMut.{putMid}
 use lib.ListN.{length, take, drop, length-append, length-take, length-drop, drop-of-length-le}
 use lib.Seq.{take-take, take-all, drop-drop, length-take-le}
-use Rattle.reader.specs.Promises.{bit, laid, Laid}
+use Rattle.kernel.specs.Kernel.{bit}
+use Rattle.equivalence.specs.Lent.{written, laid}
+use Rattle.reader.specs.Laying.{Laid}
 use Rattle.reader.proofs.Laying.{laid-none, laid-more}
 use Rattle.bracket.specs.Transcript.{State, goes, ends}
-use Rattle.bracket.specs.Fills.{lineRoom, Place, midway, over, due, pieceOf, placeAfter, Fill, ended, short, takes}
-use Rattle.bracket.specs.Steps.{stateOf, placeBy, placeOf, stepOf, Sound, Lent, Stepping, Kept, closedAt, Lined, Filling}
+use Rattle.bracket.specs.Fills.{lineRoom, Position, midway, over, due, pieceOf, positionAfter, Fill, ended, short, takes}
+use Rattle.bracket.specs.Standings.{stateOf, positionBy, positionOf, Sound, Kept, Filling}
+use Rattle.bracket.specs.InnerSteps.{stepOf, Lent, Stepping, closedAt, Lined}
 use Rattle.bracket.specs.declared.run.Standing.{Standing}
 use Rattle.bracket.specs.declared.run.Stepped.{Stepped}
 use Rattle.bracket.proofs.Fills.{after-midway, after-over, left, step-less}
@@ -38,33 +41,33 @@ piece-known true piece x = refl
 piece-known false piece x = refl
 
 module _ (text piece : List ℕ) where
-  place-open : (b : Bool) (at : ℕ) (x : State) → x .at ≡ at → bit b ≤ at → at < length text → placeBy b at x ≡ placeAfter text (stepOf b piece x)
-  unfolding placeAfter
-  place-open false at x e g h = refl
-  place-open true zero x e g h = absurd (omega arith)
-  place-open true (suc at) x e g h = sym (after-midway text piece x (omega arith))
+  position-open : (b : Bool) (at : ℕ) (x : State) → x .at ≡ at → bit b ≤ at → at < length text → positionBy b at x ≡ positionAfter text (stepOf b piece x)
+  unfolding positionAfter
+  position-open false at x e g h = refl
+  position-open true zero x e g h = absurd (omega arith)
+  position-open true (suc at) x e g h = sym (after-midway text piece x (omega arith))
 
-  place-over : (b : Bool) (x : State) → length text ≤ x .at → over ≡ placeAfter text (stepOf b piece x)
-  unfolding placeAfter
-  place-over false x h = refl
-  place-over true x h = sym (after-over text piece x h)
+  position-over : (b : Bool) (x : State) → length text ≤ x .at → over ≡ positionAfter text (stepOf b piece x)
+  unfolding positionAfter
+  position-over false x h = refl
+  position-over true x h = sym (after-over text piece x h)
 
 -- a line: a step, after which the run is over at the end of the text
 pub line-taken : (text : List ℕ) (s : Standing) (arities room lent arities′ room′ out : List ℕ) (r : Stepped)
-    → Stepping text (s .at) (due text (placeOf s arities room)) lent arities′ room′ out r → Kept s arities room (r .standing) arities′ room′
+    → Stepping text (s .at) (due text (positionOf s arities room)) lent arities′ room′ out r → Kept s arities room (r .standing) arities′ room′
     → (s′ : Standing) → s′ ≡ closedAt (r .standing) (length text) → Lined text s arities room lent arities′ room′ out (record { standing = s′; wrote = r .wrote })
 line-taken text s arities room lent arities′ room′ out r q k s′ e =
     let t = r .standing in
     let x = stateOf t arities′ room′ in
-    let laid : Laid lent 0 (pieceOf (due text (placeOf s arities room))) out (r .wrote) = rw (q .value, piece-known (t .goes) (q .piece) x) (q .laid) in
+    let laid : Laid lent 0 (pieceOf (due text (positionOf s arities room))) out (r .wrote) = rw (q .value, piece-known (t .goes) (q .piece) x) (q .laid) in
     elim (decLt (t .at) (length text)) [
       | yes h ↦
           rw (e ∙ sym (closed-open t (length text) h))
-          (record { place = rw (q .value) (place-open text (q .piece) (t .goes) (t .at) x refl (omega (arith, q .past)) h); laid = laid; sound = q .sound; kept = k })
+          (record { position = rw (q .value) (position-open text (q .piece) (t .goes) (t .at) x refl (omega (arith, q .past)) h); laid = laid; sound = q .sound; kept = k })
       | no h ↦
           rw (e ∙ sym (closed-over t (length text) (omega arith)))
           (record {
-            place = rw (q .value) (place-over text (q .piece) (t .goes) x (omega arith));
+            position = rw (q .value) (position-over text (q .piece) (t .goes) x (omega arith));
             laid = laid;
             sound = omega (arith, q .sound);
             kept =
@@ -75,13 +78,13 @@ line-taken text s arities room lent arities′ room′ out r q k s′ e =
 -- bytes laid at the start of a part that reaches to the end, which was lent and is back
 laid-within : (lent : List ℕ) (put : ℕ) (new part : List ℕ) (end : ℕ) → put ≤ length lent → Laid (take (length lent - put) (drop put lent)) 0 new part end
     → Laid lent put new (putMid put (length lent - put) lent part) (put + end)
-unfolding laid
+unfolding laid written
 laid-within lent put new part end h p =
     let n = length lent - put in
     let rest : take n (drop put lent) ≡ drop put lent = take-all n (drop put lent) (rw length-drop (omega arith)) in
     let none : drop n (drop put lent) ≡ [] = drop-of-length-le (drop put lent) {i = n} (rw length-drop (omega arith)) in
-    let bytes : part ≡ new ++ drop (put + length new) lent = p .bytes ∙ rw (rest, zero-add (length new), drop-drop (length new) put lent) in
-    let e : putMid put n lent part ≡ take put lent ++ (new ++ drop (put + length new) lent) =
+    let bytes : part ≡ new ++ drop (length new) (drop put lent) = p .bytes ∙ rw rest in
+    let e : putMid put n lent part ≡ take put lent ++ (new ++ drop (length new) (drop put lent)) =
     rw (none, append-nil part, bytes) in
     record {
       place = omega (arith, p .place);
@@ -114,7 +117,7 @@ kept-more {s} {arities} {room} {s′} {arities′} {room′} {s″} {arities″}
 pub record Gathered (text : List ℕ) (s : Standing) (arities room lent : List ℕ) (s′ : Standing) (arities′ room′ out : List ℕ) (put : ℕ) : Type 0 where
   pub bytes : List ℕ
   pub laid : Laid lent 0 bytes out put
-  pub joins : (more : List ℕ) (q : Place) → Fill text (length lent - put) (placeOf s′ arities′ room′) more q → Fill text (length lent) (placeOf s arities room) (bytes ++ more) q
+  pub joins : (more : List ℕ) (q : Position) → Fill text (length lent - put) (positionOf s′ arities′ room′) more q → Fill text (length lent) (positionOf s arities room) (bytes ++ more) q
   pub sound : Sound text s′
   pub kept : Kept s arities room s′ arities′ room′
   pub same-arities : length arities′ ≡ length arities
@@ -138,7 +141,7 @@ module _ (text : List ℕ) (s : Standing) (arities room lent : List ℕ) (s′ :
       → Lined text s′ arities′ room′ (take (length out - put) (drop put out)) arities″ room″ part r → length arities″ ≡ length arities′ → length room″ ≡ length room′
       → Gathered text s arities room lent (r .standing) arities″ room″ (putMid put (length out - put) out part) (put + r .wrote)
   gathered-more h arities″ room″ part r l ea er =
-      let p = placeOf s′ arities′ room′ in
+      let p = positionOf s′ arities′ room′ in
       let piece = pieceOf (due text p) in
       let e : length lent - (put + r .wrote) ≡ length lent - put - length piece = omega (arith, l .laid .place) in
       record {
@@ -148,7 +151,7 @@ module _ (text : List ℕ) (s : Standing) (arities room lent : List ℕ) (s′ :
             (laid-within out put piece part (r .wrote) (omega (arith, g .laid .within, g .laid .long)) (l .laid));
         joins =
             λ more q f.
-            rw append-assoc (g .joins (piece ++ more) q (takes (omega (arith, g .laid .long)) (rw (e, l .place) at f)));
+            rw append-assoc (g .joins (piece ++ more) q (takes (omega (arith, g .laid .long)) (rw (e, l .position) at f)));
         sound = l .sound;
         kept = kept-more (g .kept) (l .kept);
         same-arities = ea ∙ g .same-arities;
@@ -164,7 +167,7 @@ module _ (text : List ℕ) (s : Standing) (arities room lent : List ℕ) (s′ :
   gathered-over e =
       record {
         bytes = g .bytes;
-        fill = rw append-nil at (g .joins [] (placeOf s′ arities′ room′) (rw e ended));
+        fill = rw append-nil at (g .joins [] (positionOf s′ arities′ room′) (rw e ended));
         laid = g .laid;
         sound = g .sound;
         kept = g .kept;
@@ -174,7 +177,7 @@ module _ (text : List ℕ) (s : Standing) (arities room lent : List ℕ) (s′ :
   gathered-short h =
       record {
         bytes = g .bytes;
-        fill = rw append-nil at (g .joins [] (placeOf s′ arities′ room′) (short (omega (arith, g .laid .long))));
+        fill = rw append-nil at (g .joins [] (positionOf s′ arities′ room′) (short (omega (arith, g .laid .long))));
         laid = g .laid;
         sound = g .sound;
         kept = g .kept;
@@ -190,15 +193,15 @@ module _ (text : List ℕ) (s : Standing) (arities room lent : List ℕ) (s′ :
       }
 
 -- a run that goes on is not at its end
-going-left : (text : List ℕ) (b : Bool) (at : ℕ) (x : State) → b ≡ true → 0 < left text (placeBy b at x)
+going-left : (text : List ℕ) (b : Bool) (at : ℕ) (x : State) → b ≡ true → 0 < left text (positionBy b at x)
 going-left text true zero x e = omega arith
 going-left text true (suc at) x e = omega arith
 going-left text false at x e = let z : _≡_ {A = ℕ} 0 1 = cc in absurd (omega arith)
 
-pub goes-left : (text : List ℕ) (s : Standing) (arities room : List ℕ) → s .goes ≡ true → 0 < left text (placeOf s arities room)
+pub goes-left : (text : List ℕ) (s : Standing) (arities room : List ℕ) → s .goes ≡ true → 0 < left text (positionOf s arities room)
 goes-left text s arities room e = going-left text (s .goes) (s .at) (stateOf s arities room) e
 
 -- each line gets nearer to the end
 pub line-less : (text : List ℕ) (s : Standing) (arities room lent arities′ room′ out : List ℕ) (r : Stepped) → s .goes ≡ true
-    → Lined text s arities room lent arities′ room′ out r → left text (placeOf (r .standing) arities′ room′) < left text (placeOf s arities room)
-line-less text s arities room lent arities′ room′ out r e l = rw (l .place) (step-less text (placeOf s arities room) (goes-left text s arities room e))
+    → Lined text s arities room lent arities′ room′ out r → left text (positionOf (r .standing) arities′ room′) < left text (positionOf s arities room)
+line-less text s arities room lent arities′ room′ out r e l = rw (l .position) (step-less text (positionOf s arities room) (goes-left text s arities room e))

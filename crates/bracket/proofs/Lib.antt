@@ -5,6 +5,4 @@ pub mod Examples
 pub mod Fills
 pub mod Forward
 pub mod Gathering
-pub mod Numerals
-pub mod Spacing
 pub mod Stepping

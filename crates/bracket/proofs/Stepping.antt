@@ -19,12 +19,15 @@ use Rattle.equivalence.specs.declared.Check.the-variants.{Passed, Failed}
 use Rattle.algebra.specs.Algebra.{Algebra, algebraOf}
 use Rattle.reader.specs.Reading.{ascii, begins}
 use Rattle.reader.specs.Lines.{sizeLine, tested, afterSize, sized, operation, request}
-use Rattle.bracket.specs.Answers.{refusedLine}
+use Rattle.writer.specs.Lines.{refusedLine}
 use Rattle.bracket.specs.Transcript.{State, goes, ends, textLimit, afterLine, afterRequest, firstStep, operationStep, requestStep, step}
-use Rattle.reader.specs.Promises.{bit, NumberRead, Laid, passing, progressOf, operationProgress, OperationRead, requestOf, goesOn, Requested}
-use Rattle.bracket.specs.Promises.{lineFor}
+use Rattle.kernel.specs.Kernel.{bit}
+use Rattle.reader.specs.InnerPromises.{NumberRead, passing, progressOf, operationProgress, OperationRead, requestOf, goesOn, Requested}
+use Rattle.reader.specs.Laying.{Laid}
+use Rattle.bracket.specs.InnerPromises.{lineFor}
 use Rattle.bracket.specs.Fills.{due}
-use Rattle.bracket.specs.Steps.{stateOf, placeBy, placeOf, stepOf, unread, Sound, Lent, Stepping, Kept}
+use Rattle.bracket.specs.Standings.{stateOf, positionBy, positionOf, unread, Sound, Kept}
+use Rattle.bracket.specs.InnerSteps.{stepOf, Lent, Stepping}
 use Rattle.reader.specs.declared.lines.OperationLine.{OperationLine}
 use Rattle.reader.specs.declared.reading.Number.{Number}
 use Rattle.reader.specs.declared.requests.Asked.{Asked}
@@ -214,38 +217,38 @@ module _ (text : List ℕ) (s : State) where
     unfolding step
     other-request h = simp (step, e, ← eb, h)
 
-placed-midway : (text : List ℕ) (at : ℕ) (x : State) → 0 < at → due text (placeBy true at x) ≡ step text x
+placed-midway : (text : List ℕ) (at : ℕ) (x : State) → 0 < at → due text (positionBy true at x) ≡ step text x
 unfolding due
 placed-midway text zero x h = absurd (omega arith)
 placed-midway text (suc at) x h = refl
 
 -- the step that is due where a run stands
 module _ (text : List ℕ) (s : Standing) (arities room : List ℕ) (g : s .goes ≡ true) where
-  due-first : s .at ≡ 0 → due text (placeOf s arities room) ≡ firstStep text
+  due-first : s .at ≡ 0 → due text (positionOf s arities room) ≡ firstStep text
   unfolding due
   due-first e = rw (g, e)
 
-  due-step : 0 < s .at → due text (placeOf s arities room) ≡ step text (stateOf s arities room)
+  due-step : 0 < s .at → due text (positionOf s arities room) ≡ step text (stateOf s arities room)
   unfolding due
   due-step h = rw g (placed-midway text (s .at) (stateOf s arities room) h)
 
   module _ (lent arities′ room′ out : List ℕ) (r : Stepped) where
     pub step-first : s .at ≡ 0 → ((a b : List ℕ) → Stepping text 0 (firstStep text) lent a b out r)
-        → Stepping text (s .at) (due text (placeOf s arities room)) lent arities′ room′ out r
+        → Stepping text (s .at) (due text (positionOf s arities room)) lent arities′ room′ out r
     step-first e q = rw (due-first e, e) (q arities′ room′)
 
     module _ (h : s .at ≡ 0 → ⊥) where
       pub step-asked : s .asked ≡ true → Stepping text (s .at) (requestStep text (stateOf s arities room)) lent arities′ room′ out r
-          → Stepping text (s .at) (due text (placeOf s arities room)) lent arities′ room′ out r
+          → Stepping text (s .at) (due text (positionOf s arities room)) lent arities′ room′ out r
       step-asked e q = rw (due-step (omega arith) ∙ asked-request text (stateOf s arities room) e) q
 
       module _ (e : s .asked ≡ false) (b : Bool) (eb : b ≡ begins text (s .at) (ascii "[op")) where
         pub step-operation : b ≡ true → Stepping text (s .at) (operationStep text (stateOf s arities room)) lent arities′ room′ out r
-            → Stepping text (s .at) (due text (placeOf s arities room)) lent arities′ room′ out r
+            → Stepping text (s .at) (due text (positionOf s arities room)) lent arities′ room′ out r
         step-operation k q = rw (due-step (omega arith) ∙ word-operation text (stateOf s arities room) e b eb k) q
 
         pub step-request : b ≡ false → Stepping text (s .at) (requestStep text (stateOf s arities room)) lent arities′ room′ out r
-            → Stepping text (s .at) (due text (placeOf s arities room)) lent arities′ room′ out r
+            → Stepping text (s .at) (due text (positionOf s arities room)) lent arities′ room′ out r
         step-request k q = rw (due-step (omega arith) ∙ other-request text (stateOf s arities room) e b eb k) q
 
 -- the first line leaves the lent slices

@@ -1,53 +1,20 @@
--- What the desk writes: one line for each request, and one for a refusal that ends the run.
-use Prim.Native.Nat.{ℕ, _-_, _*_}
-use mathlib.Core.Bool.{true, false}
+-- What a request is answered with: one line, with the values of the answer or its reason.
+use Prim.Native.Nat.{ℕ}
 use mathlib.Core.List.{List, [], _∷_, _++_, map}
-use lib.Dec.{eqb}
 use lib.ListN.{replicate}
 use Rattle.equivalence.specs.Lists.{upTo}
 use Rattle.equivalence.specs.Lent.{stretch}
-use Rattle.equivalence.specs.Outcome.{Outcome, refusal, writtenOutcome}
-use Rattle.equivalence.specs.declared.Refusal.{Refusal}
+use Rattle.equivalence.specs.Outcome.{writtenOutcome}
 use Rattle.equivalence.specs.declared.Written.{Written}
 use Rattle.algebra.specs.Algebra.{Algebra}
+use Rattle.theory.specs.Decompose.{factorSpace}
 use Rattle.congruence.specs.Calls.{generateCall, containedCall, separateCall, decomposeCall}
 use Rattle.congruence.specs.Outcome.{generatedOutcome, decomposedOutcome}
 use Rattle.congruence.specs.declared.Generated.{Generated}
 use Rattle.congruence.specs.declared.Decomposed.{Decomposed}
 use Rattle.reader.specs.Reading.{ascii}
-use Rattle.reader.specs.Numbers.{decimal}
 use Rattle.reader.specs.Lines.{Request, generate, contained, separate, decompose}
-
--- numbers, each after a space
-unfoldable pub spaced : List ℕ → List ℕ
-spaced [] = []
-spaced (x ∷ rest) = ascii " " ++ decimal x ++ spaced rest
-
--- numbers in a bracket, parted by one space
-unfoldable pub bracketed : List ℕ → List ℕ
-bracketed [] = ascii "[]"
-bracketed (x ∷ rest) = ascii "[" ++ decimal x ++ spaced rest ++ ascii "]"
-
--- lists of numbers, each in a bracket after a space
-unfoldable pub spacedBrackets : List (List ℕ) → List ℕ
-spacedBrackets [] = []
-spacedBrackets (m ∷ rest) = ascii " " ++ bracketed m ++ spacedBrackets rest
-
--- a line: its word, what follows it, `]` and byte 10
-unfoldable pub line : List ℕ → List ℕ → List ℕ
-line word rest = word ++ rest ++ ascii "]\n"
-
--- the numbers in a refusal's line: the reason, and behind 11 its two elements
-unfoldable pub refusedNumbers : Outcome → List ℕ
-refusedNumbers o = elim (eqb (o .reason) 11) [ true ↦ o .reason ∷ o .first ∷ o .second ∷ [] | false ↦ o .reason ∷ [] ]
-
--- the line for an outcome: the one that is given for success, else `[refused 8]` or `[refused 11 0 2]`
-unfoldable pub outcomeLine : Outcome → List ℕ → List ℕ
-outcomeLine o done = elim (eqb (o .reason) 0) [ true ↦ done | false ↦ line (ascii "[refused") (spaced (refusedNumbers o)) ]
-
--- the line for a refusal that no service gave
-unfoldable pub refusedLine : Refusal → List ℕ
-refusedLine r = outcomeLine (refusal r) []
+use Rattle.writer.specs.Lines.{spaced, spacedBrackets, line, outcomeLine}
 
 -- `[map 0 0 2 3]`
 unfoldable pub mapLine : Written → List ℕ → List ℕ
@@ -68,4 +35,4 @@ unfoldable pub answer : Algebra → Request → List ℕ
 answer a (generate ps) = let r = generateCall a ps (replicate (a .size) 0) in generatedLine (r .0) (r .1)
 answer a (contained m) = let r = containedCall a m (replicate (a .size) 0) in mapLine (r .0) (r .1)
 answer a (separate v w) = let r = separateCall a v w (replicate (a .size) 0) in mapLine (r .0) (r .1)
-answer a decompose = let r = decomposeCall a (replicate ((a .size - 1) * a .size) 0) in factorsLine (a .size) (r .0) (r .1)
+answer a decompose = let r = decomposeCall a (replicate (factorSpace (a .size)) 0) in factorsLine (a .size) (r .0) (r .1)

@@ -1,5 +1,6 @@
 pub mod Answers
 pub mod Transcript
 pub mod Fills
-pub mod Promises
-pub mod Steps
+pub mod Standings
+pub mod InnerPromises
+pub mod InnerSteps

@@ -1,18 +1,18 @@
 // The answers to requests: what a service answers, written as a line.
-use crate::writing::write_factors;
-use crate::writing::write_generated;
-use crate::writing::write_irreducible;
-use crate::writing::write_map;
-use crate::writing::write_refused;
 use congruence::Decomposed;
 use congruence::Generated;
 use equivalence::Written;
 use reader::requests::Asked;
+use writer::write_factors;
+use writer::write_generated;
+use writer::write_irreducible;
+use writer::write_map;
+use writer::write_refused;
 ghost use Rattle.algebra.specs.Algebra.{algebraOf};
 ghost use Rattle.reader.specs.Lines.{generate, contained, separate, decompose};
 ghost use Rattle.bracket.specs.Answers.{generatedLine, mapLine, factorsLine, answer};
-ghost use Rattle.reader.specs.Promises.{Laid};
-ghost use Rattle.bracket.specs.Promises.{lineFor, LineFits, MapFits, FactorsFit, ZeroFactors, Zeros};
+ghost use Rattle.reader.specs.Laying.{Laid};
+ghost use Rattle.bracket.specs.InnerPromises.{lineFor, LineFits, MapFits, FactorsFit, ZeroFactors, Zeros};
 
 // The line for Generate's answer, which wrote the map.
 fn write_generate(answer: Generated, map: &[u8], out: &mut [u8]) -> usize

@@ -1,6 +1,5 @@
-// Bracket text: writer, the answer to each line, and a run in fills; `reader` reads.
+// Bracket text: what each line is answered with, and a run in fills; `reader` reads, `writer` writes.
 
 mod answers;
 pub mod run;
 mod steps;
-mod writing;

@@ -2,7 +2,8 @@
 use crate::steps::next_step;
 ghost use mathlib.Core.Bool.{true};
 ghost use mathlib.Core.Path.{_≡_};
-ghost use Rattle.bracket.specs.Steps.{Sound, Lent, Lined, Filling, Filled, closedAt, unread as unreadAs, canFill};
+ghost use Rattle.bracket.specs.Standings.{Sound, Filling, FillPromise, unread as unreadAs, canFill};
+ghost use Rattle.bracket.specs.InnerSteps.{Lent, Lined, closedAt};
 
 // The room that a line may want.
 const LINE_ROOM: usize = 16384;
@@ -154,7 +155,7 @@ pub fn fill(
     room: &mut [u8],
     out: &mut [u8],
 ) -> Stepped
-    ensures { λ r. ⌜ Filled (now (text .entry)) standing (now (arities .entry)) (now (room .entry)) (now (out .entry)) (now (arities .exit)) (now (room .exit)) (now (out .exit)) r ⌝ }
+    ensures { λ r. ⌜ FillPromise (now (text .entry)) standing (now (arities .entry)) (now (room .entry)) (now (out .entry)) (now (arities .exit)) (now (room .exit)) (now (out .exit)) r ⌝ }
 {
     if !can_fill(text.len(), standing, arities.len(), room.len(), out.len()) {
         return Stepped {

@@ -3,12 +3,12 @@ use crate::answers::answer;
 use crate::run::Standing;
 use crate::run::Stepped;
 use crate::run::unread;
-use crate::writing::write_refused;
 use reader::lines::read_operation;
 use reader::lines::read_size;
 use reader::reading::begins_with;
 use reader::requests::goes_on;
 use reader::requests::read_request;
+use writer::write_refused;
 ghost use mathlib.Core.Bool.{true};
 ghost use mathlib.Core.Path.{_≡_};
 ghost use mathlib.Core.List.{List};
@@ -16,7 +16,8 @@ ghost use Prim.Native.Nat.{ℕ, _+_, _≤_, _<_};
 ghost use lib.ListN.{length};
 ghost use Rattle.bracket.specs.Transcript.{firstStep, operationStep, requestStep};
 ghost use Rattle.bracket.specs.Fills.{due};
-ghost use Rattle.bracket.specs.Steps.{Sound, Lent, Stepping, Kept, stateOf, placeOf};
+ghost use Rattle.bracket.specs.Standings.{Sound, Kept, stateOf, positionOf};
+ghost use Rattle.bracket.specs.InnerSteps.{Lent, Stepping};
 
 // The longest text that is read.
 const TEXT_LIMIT: usize = 65536;
@@ -170,7 +171,7 @@ pub fn next_step(
     requires { ⌜ Sound (now text) standing ⌝ }
     requires { ⌜ Lent (now text) (now arities) (now room) (now out) ⌝ }
     requires { ⌜ standing .goes ≡ true ⌝ }
-    ensures { λ r. ⌜ Stepping (now (text .entry)) (standing .at) (due (now (text .entry)) (placeOf standing (now (arities .entry)) (now (room .entry)))) (now (out .entry)) (now (arities .exit)) (now (room .exit)) (now (out .exit)) r ⌝ }
+    ensures { λ r. ⌜ Stepping (now (text .entry)) (standing .at) (due (now (text .entry)) (positionOf standing (now (arities .entry)) (now (room .entry)))) (now (out .entry)) (now (arities .exit)) (now (room .exit)) (now (out .exit)) r ⌝ }
     ensures kept { λ r. ⌜ Kept standing (now (arities .entry)) (now (room .entry)) (r .standing) (now (arities .exit)) (now (room .exit)) ⌝ }
 {
     if standing.at == 0 {

@@ -8,8 +8,9 @@ use lib.ListN.{length, take, drop, length-append, length-drop}
 use lib.Seq.{drop-drop, drop-append-seam}
 use Rattle.reader.proofs.Laying.{laid-part}
 use Rattle.bracket.specs.Transcript.{output, transcript}
-use Rattle.bracket.specs.Fills.{Place, fresh, over, due}
-use Rattle.bracket.specs.Steps.{placeOf, unread, Sound, Lent, Filling, Filled}
+use Rattle.bracket.specs.Fills.{Position, fresh, over, due}
+use Rattle.bracket.specs.Standings.{positionOf, unread, Sound, Filling, FillPromise}
+use Rattle.bracket.specs.InnerSteps.{Lent}
 use Rattle.bracket.proofs.Calling.{sound-able}
 use Rattle.bracket.proofs.Fills.{remaining, fill-remaining, left, fill-less}
 use Rattle.bracket.proofs.Gathering.{goes-left}
@@ -22,8 +23,8 @@ pub record Running (text : List ℕ) (s : Standing) (arities room out : List ℕ
   pub sound : Sound text s
   pub enough : Enough text arities room out
   pub within : written ≤ length (transcript text)
-  pub rest : drop written (transcript text) ≡ remaining text (placeOf s arities room)
-  pub bounded : written + 32768 * left text (placeOf s arities room) ≤ 32768 * (length text + 2)
+  pub rest : drop written (transcript text) ≡ remaining text (positionOf s arities room)
+  pub bounded : written + 32768 * left text (positionOf s arities room) ≤ 32768 * (length text + 2)
 
 -- what follows a part
 drop-part : (whole part rest : List ℕ) (written : ℕ) → drop written whole ≡ part ++ rest → drop (written + length part) whole ≡ rest
@@ -36,7 +37,7 @@ running-begins text arities room out s e w = rw e (record { sound = omega arith;
 
 -- a fill of a run that goes on
 module _ (text : List ℕ) (s : Standing) (arities room out : List ℕ) (written : ℕ) (w : Running text s arities room out written) (g : s .goes ≡ true)
-    (arities′ room′ out′ : List ℕ) (r : Stepped) (f : Filled text s arities room out arities′ room′ out′ r) where
+    (arities′ room′ out′ : List ℕ) (r : Stepped) (f : FillPromise text s arities room out arities′ room′ out′ r) where
   filling : Filling text s arities room out arities′ room′ out′ r
   filling =
       f .fills
@@ -46,11 +47,11 @@ module _ (text : List ℕ) (s : Standing) (arities room out : List ℕ) (written
   part-laid : take (r .wrote - 0) (drop 0 out′) ≡ filling .bytes
   part-laid = laid-part (filling .laid)
 
-  to-come : drop written (transcript text) ≡ filling .bytes ++ remaining text (placeOf (r .standing) arities′ room′)
+  to-come : drop written (transcript text) ≡ filling .bytes ++ remaining text (positionOf (r .standing) arities′ room′)
   to-come = w .rest ∙ fill-remaining text (filling .fill)
 
-  to-follow : drop (written + length (filling .bytes)) (transcript text) ≡ remaining text (placeOf (r .standing) arities′ room′)
-  to-follow = drop-part (transcript text) (filling .bytes) (remaining text (placeOf (r .standing) arities′ room′)) written to-come
+  to-follow : drop (written + length (filling .bytes)) (transcript text) ≡ remaining text (positionOf (r .standing) arities′ room′)
+  to-follow = drop-part (transcript text) (filling .bytes) (remaining text (positionOf (r .standing) arities′ room′)) written to-come
 
   -- what it laid comes next
   pub part-next : Next (transcript text) written (take (r .wrote - 0) (drop 0 out′))
@@ -62,7 +63,7 @@ module _ (text : List ℕ) (s : Standing) (arities room out : List ℕ) (written
   part-within = omega (arith, filling .laid .within, filling .laid .long)
 
   -- each fill gets nearer to the end of the run
-  pub fill-nearer : left text (placeOf (r .standing) arities′ room′) < left text (placeOf s arities room)
+  pub fill-nearer : left text (positionOf (r .standing) arities′ room′) < left text (positionOf s arities room)
   fill-nearer = fill-less text (omega (arith, w .enough .long)) (goes-left text s arities room g) (filling .fill)
 
   few : length (filling .bytes) ≤ 32768
@@ -77,8 +78,8 @@ module _ (text : List ℕ) (s : Standing) (arities room out : List ℕ) (written
       → Running text (r .standing) arities′ room′ out′ n
   running-on ea er n en =
       let e : n ≡ written + length (filling .bytes) = en ∙ ap (λ (x : List ℕ). written + length x) part-laid in
-      let t : length (transcript text) - written ≡ length (filling .bytes) + length (remaining text (placeOf (r .standing) arities′ room′)) =
-      sym (length-drop written (transcript text)) ∙ ap length to-come ∙ length-append (filling .bytes) (remaining text (placeOf (r .standing) arities′ room′)) in
+      let t : length (transcript text) - written ≡ length (filling .bytes) + length (remaining text (positionOf (r .standing) arities′ room′)) =
+      sym (length-drop written (transcript text)) ∙ ap length to-come ∙ length-append (filling .bytes) (remaining text (positionOf (r .standing) arities′ room′)) in
       record {
         sound = filling .sound;
         enough =

@@ -19,7 +19,7 @@ use Rattle.algebra.specs.Algebra.{algebraOf}
 use Rattle.reader.specs.Reading.{ascii, found, fault, _>>_, done, begins}
 use Rattle.reader.specs.Tables.{table}
 use Rattle.reader.specs.Lines.{close, tested, arity, lastTable, operationTests, cellTest, withOperation, afterTable, afterArity, operation}
-use Rattle.reader.specs.Promises.{readOf, NumberRead, Roomy, Stored, tableProgress, TableRead, operationProgress, OperationRead}
+use Rattle.reader.specs.InnerPromises.{readOf, NumberRead, Roomy, Stored, tableProgress, TableRead, operationProgress, OperationRead}
 use Rattle.reader.specs.declared.lines.OperationLine.{OperationLine}
 use Rattle.reader.specs.declared.reading.Number.{Number}
 use Rattle.reader.specs.declared.reading.Spot.{Spot}

@@ -9,7 +9,7 @@ use borrow.Author.Tests.{lt-ltb, le-ltb, le-leb, lt-leb, eq-eqb, ne-eqb}
 use lib.ListN.{length}
 use Rattle.reader.specs.Reading.{found, fault, byteAt}
 use Rattle.reader.specs.Numbers.{digitAt, number}
-use Rattle.reader.specs.Promises.{NumberRead}
+use Rattle.reader.specs.InnerPromises.{NumberRead}
 use Rattle.reader.proofs.Readers.{within-text}
 
 module _ (text : List ℕ) (at : ℕ) where

@@ -16,7 +16,7 @@ use Rattle.equivalence.specs.declared.Refusal.the-variants.{Operations, Arity, 
 use Rattle.equivalence.specs.declared.Check.{Check}
 use Rattle.equivalence.specs.declared.Check.the-variants.{Passed, Failed}
 use Rattle.reader.specs.Lines.{operationTests}
-use Rattle.reader.specs.Promises.{passing}
+use Rattle.reader.specs.InnerPromises.{passing}
 
 -- a table has at most 64 × 64 × 64 cells
 pub power-small : (n s : ℕ) → n ≤ 64 → s ≤ 3 → n ^ s ≤ 262144

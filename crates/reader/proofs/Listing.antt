@@ -8,7 +8,8 @@ use borrow.Author.Tests.{eq-eqb, ne-eqb}
 use lib.ListN.{length}
 use Rattle.reader.specs.Reading.{ascii, Read, found, fault, Reader, byteAt, onward, _>>=_, done, begins}
 use Rattle.reader.specs.Tables.{itemsUpTo, items}
-use Rattle.reader.specs.Promises.{readOf, Laid, Reached, Roomy, Stored}
+use Rattle.reader.specs.InnerPromises.{readOf, Reached, Roomy, Stored}
+use Rattle.reader.specs.Laying.{Laid}
 use Rattle.reader.specs.declared.reading.Spot.{Spot}
 use Rattle.reader.proofs.Laying.{laid-none, laid-more}
 use Rattle.reader.proofs.Readers.{within-text, then-found, then-fault, opened-body, opened-other}

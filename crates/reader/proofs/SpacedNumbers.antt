@@ -12,7 +12,7 @@ use Rattle.equivalence.specs.Lists.{every}
 use Rattle.reader.specs.Reading.{ascii, Read, found, fault, Reader, byteAt, _>>=_, _>>_, done, failed, mark, begins}
 use Rattle.reader.specs.Numbers.{number}
 use Rattle.reader.specs.Lines.{close, spacedNumber, sizeLine, arity}
-use Rattle.reader.specs.Promises.{readOf, NumberRead}
+use Rattle.reader.specs.InnerPromises.{readOf, NumberRead}
 use Rattle.reader.specs.declared.reading.Number.{Number}
 use Rattle.reader.proofs.Readers.{within-text, then-found, then-fault, marked, unmarked, mark-found, mark-fault, opened-body, opened-other}
 use Rattle.reader.proofs.Words.{and-left, and-right, begins-within}

@@ -10,7 +10,7 @@ use lib.ListN.{length, set}
 use Rattle.reader.specs.Reading.{Read, found, fault, Reader, byteAt, onward, _>>=_, _>>_, done, mark}
 use Rattle.reader.specs.Numbers.{number}
 use Rattle.reader.specs.Tables.{cell, parted, bracket, table}
-use Rattle.reader.specs.Promises.{readOf, NumberRead, Roomy, Stored}
+use Rattle.reader.specs.InnerPromises.{readOf, NumberRead, Roomy, Stored}
 use Rattle.reader.specs.declared.reading.Number.{Number}
 use Rattle.reader.specs.declared.reading.Spot.{Spot}
 use Rattle.reader.proofs.Laying.{laid-none, laid-one, laid-more}

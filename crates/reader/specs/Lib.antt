@@ -2,4 +2,5 @@ pub mod Reading
 pub mod Numbers
 pub mod Tables
 pub mod Lines
-pub mod Promises
+pub mod Laying
+pub mod InnerPromises

@@ -1,7 +1,7 @@
 -- Numbers: 0 to 255 in base ten without leading zeros.
-use Prim.Native.Nat.{ℕ, _+_, _-_, _*_, _/_, _%_}
+use Prim.Native.Nat.{ℕ, _+_, _-_, _*_}
 use mathlib.Core.Bool.{true, false, _&&_}
-use mathlib.Core.List.{List, [], _∷_}
+use mathlib.Core.List.{List}
 use lib.Dec.{eqb, leb, ltb}
 use Rattle.reader.specs.Reading.{Reader, found, fault, byteAt}
 
@@ -28,14 +28,3 @@ number = λ text at. elim (ltb 9 (digitAt text at)) [
     ]
   ]
 ]
-
--- the bytes of a number
-unfoldable pub decimal : ℕ → List ℕ
-decimal v =
-    elim (ltb v 10) [
-      | true ↦ (48 + v) ∷ []
-      | false ↦ elim (ltb v 100) [
-        | true ↦ (48 + v / 10) ∷ (48 + v % 10) ∷ []
-        | false ↦ (48 + v / 100) ∷ (48 + v / 10 % 10) ∷ (48 + v % 10) ∷ []
-      ]
-    ]

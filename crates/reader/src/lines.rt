@@ -11,7 +11,7 @@ ghost use lib.Dec.{ltb};
 ghost use Rattle.equivalence.specs.Lists.{every};
 ghost use Rattle.equivalence.specs.Refusal.{lowest};
 ghost use Rattle.reader.specs.Lines.{spacedNumber, sizeLine, arity, operationTests};
-ghost use Rattle.reader.specs.Promises.{passing, NumberRead, Roomy, TableRead, OperationRead};
+ghost use Rattle.reader.specs.InnerPromises.{passing, NumberRead, Roomy, TableRead, OperationRead};
 
 // What an operation line came to: its arity, the place after it, and how many cells there are with its own; or a refusal.
 pub struct OperationLine {

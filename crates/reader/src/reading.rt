@@ -5,7 +5,7 @@ ghost use lib.ListN.{length};
 ghost use Rattle.reader.specs.Reading.{byteAt, begins};
 ghost use Rattle.reader.specs.Numbers.{digitAt, number};
 ghost use Rattle.reader.specs.Tables.{cell, table, parted, items};
-ghost use Rattle.reader.specs.Promises.{NumberRead, Roomy, Stored};
+ghost use Rattle.reader.specs.InnerPromises.{NumberRead, Roomy, Stored};
 
 // A number that was read, and the place after it; where `ok` is false, nothing.
 pub struct Number {

@@ -2,7 +2,7 @@
 use mathlib.Core.Path.{_≡_, refl}
 use borrow.Author.Needs.{needs}
 use lib.ListN.{length}
-use Rattle.bracket.specs.Steps.{placeOf}
+use Rattle.bracket.specs.Standings.{positionOf}
 use Rattle.bracket.proofs.Fills.{left}
 use Rattle.desk.proofs.Running.{Running, running-begins, part-next, part-within, count-fits, fill-nearer, running-on, running-ends}
 use Rattle.desk.proofs.run.Statement.{statement}
@@ -13,7 +13,7 @@ Inv-loop text arities₀ room₀ out₀ standing₀ written₀ arities room out 
     Running text standing arities room out written × ((length arities ≡ length arities₀) × (length room ≡ length room₀))
 
 abbrev μ-loop : tie.MeasureT-loop
-μ-loop text arities₀ room₀ out₀ standing₀ written₀ arities room out standing written = left text (placeOf standing arities room)
+μ-loop text arities₀ room₀ out₀ standing₀ written₀ arities room out standing written = left text (positionOf standing arities room)
 
 unread-requires : tie.Need-unread-requires Inv-loop μ-loop
 unread-requires c κs = search needs

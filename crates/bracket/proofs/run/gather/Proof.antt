@@ -4,7 +4,7 @@ use native.Mathlib.Omega.{arith}
 use lib.ListN.{length}
 use Rattle.bracket.proofs.Fills.{left}
 use Rattle.bracket.proofs.Gathering.{Gathered, gathered-none, gathered-more, gathered-over, gathered-short, gathered-fits, gathered-lent, line-less}
-use Rattle.bracket.specs.Steps.{placeOf}
+use Rattle.bracket.specs.Standings.{positionOf}
 use borrow.Author.Needs.{needs}
 use Rattle.bracket.proofs.run.gather.Statement.{statement}
 use Rattle.bracket.proofs.run.gather.Tie as tie
@@ -14,7 +14,7 @@ Inv-loop text arities₀ room₀ out₀ standing₀ put₀ arities room out stan
     Gathered text standing₀ arities₀ room₀ out₀ standing arities room out put
 
 abbrev μ-loop : tie.MeasureT-loop
-μ-loop text arities₀ room₀ out₀ standing₀ put₀ arities room out standing put = left text (placeOf standing arities room)
+μ-loop text arities₀ room₀ out₀ standing₀ put₀ arities room out standing put = left text (positionOf standing arities room)
 
 loop-holds : tie.Need-loop-holds Inv-loop μ-loop
 loop-holds c = search gathered-none

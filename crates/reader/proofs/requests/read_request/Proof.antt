@@ -1,5 +1,5 @@
 -- `requests::read_request` meets its contract, by the laws of Asking.
-use Rattle.reader.specs.Promises.{goesOn}
+use Rattle.reader.specs.InnerPromises.{goesOn}
 use native.Mathlib.Omega.{arith}
 use mathlib.Core.Path.{sym, _∙_}
 use Rattle.equivalence.specs.Lists.{every}

@@ -1,0 +1,112 @@
+-- What inner readers promise: what they came to, where they stand, and what they laid in the lent bytes.
+use Prim.Native.Nat.{ℕ, _+_, _≤_}
+use mathlib.Core.Bool.{Bool, true, false}
+use mathlib.Core.List.{List, [], _∷_, _++_}
+use mathlib.Core.Path.{_≡_}
+use lib.ListN.{length, take}
+use Rattle.kernel.specs.Kernel.{bit}
+use Rattle.reader.specs.Reading.{Read, found, fault}
+use Rattle.reader.specs.Laying.{Laid}
+use Rattle.equivalence.specs.declared.Check.{Check}
+use Rattle.equivalence.specs.declared.Check.the-variants.{Passed, Failed}
+use Rattle.algebra.specs.Algebra.{algebraOf}
+use Rattle.reader.specs.Lines.{Progress, defined, refused, lastTable, afterTable, operation, Request, generate, contained, separate, decompose}
+use Rattle.reader.specs.declared.lines.OperationLine.{OperationLine}
+use Rattle.reader.specs.declared.reading.Number.{Number}
+use Rattle.reader.specs.declared.reading.Spot.{Spot}
+use Rattle.reader.specs.declared.requests.Asked.{Asked}
+use Rattle.reader.specs.declared.requests.Asked.the-variants.{Generate, Contained, Separate, Decompose, Nothing}
+use Rattle.reader.specs.declared.requests.RequestLine.{RequestLine}
+
+-- a value and the place after it, or a fault, as a flag tells
+abbrev pub readOf : {A : Type 0} → Bool → A → ℕ → Read A
+readOf true a next = found a next
+readOf false a next = fault
+
+-- a reader that began at `at` came to a place in the text that is no less
+pub record Reached (text : List ℕ) (at next : ℕ) : Type 0 where
+  pub within : next ≤ length text
+  pub past : at ≤ next
+
+-- a reader of a number came to what `d` says, and took a byte at least
+pub record NumberRead (text : List ℕ) (at : ℕ) (d : Read ℕ) (r : Number) : Type 0 where
+  pub value : d ≡ readOf (r .ok) (r .value) (r .next)
+  pub within : r .next ≤ length text
+  pub past : at + bit (r .ok) ≤ r .next
+
+-- the storage has room from `put` on for as many bytes as the text has from `at` on
+pub record Roomy (text : List ℕ) (at : ℕ) (cells : List ℕ) (put : ℕ) : Type 0 where
+  pub within : at ≤ length text
+  pub room : put + length text ≤ length cells + at
+
+-- a reader of lists came to what `d` says, and laid the list, or before a fault some list, in the storage from `put` on
+pub record Stored (text : List ℕ) (at : ℕ) (lent : List ℕ) (put : ℕ) (d : Read (List ℕ)) (after : List ℕ) (r : Spot) : Type 0 where
+  pub new : List ℕ
+  pub value : d ≡ readOf (r .ok) new (r .at)
+  pub laid : Laid lent put new after (r .put)
+  pub reached : Reached text at (r .at)
+  pub paced : r .put + at ≤ put + r .at
+
+-- 1 where the tests pass, else 0
+abbrev pub passing : Check → ℕ
+passing Passed = 1
+passing (Failed r) = 0
+
+-- what an operation line came to, behind operations of these arities
+abbrev pub progressOf : ℕ → List ℕ → List ℕ → ℕ → ℕ → ℕ → Check → Progress
+progressOf n arities room s cells next Passed = defined (algebraOf n (arities ++ (s ∷ [])) (take cells room)) next
+progressOf n arities room s cells next (Failed r) = refused r
+
+-- the table of an operation line, behind these arities and so many cells of the storage
+unfoldable pub tableProgress : List ℕ → ℕ → ℕ → ℕ → List ℕ → ℕ → List ℕ → Progress
+tableProgress text at s n lent put arities = afterTable (algebraOf n arities (take put lent)) s (lastTable n s text at)
+
+-- the table was read as that says, and stands in the storage behind the cells before, which stay as they are
+pub record TableRead (text : List ℕ) (at s n : ℕ) (lent : List ℕ) (put : ℕ) (after : List ℕ) (r : OperationLine) : Type 0 where
+  pub value : (arities : List ℕ) → tableProgress text at s n lent put arities ≡ progressOf n arities after (r .arity) (r .cells) (r .next) (r .check)
+  pub reached : Reached text at (r .next)
+  pub paced : r .cells + at ≤ put + r .next
+  pub behind : put ≤ r .cells
+  pub before : take put after ≡ take put lent
+
+-- an operation line, behind these arities and so many cells of the storage
+unfoldable pub operationProgress : List ℕ → ℕ → ℕ → List ℕ → ℕ → List ℕ → Progress
+operationProgress text at n lent put arities = operation (algebraOf n arities (take put lent)) text at
+
+-- the line was read as that says, behind so many operations; the cells before stay as they are
+pub record OperationRead (text : List ℕ) (at n operations : ℕ) (lent : List ℕ) (put : ℕ) (after : List ℕ) (r : OperationLine) : Type 0 where
+  pub value : (arities : List ℕ) → length arities ≡ operations
+      → operationProgress text at n lent put arities ≡ progressOf n arities after (r .arity) (r .cells) (r .next) (r .check)
+  pub reached : Reached text at (r .next)
+  pub paced : r .cells + at ≤ put + r .next
+  pub behind : put ≤ r .cells
+  pub before : take put after ≡ take put lent
+
+-- the request that was read, where these numbers were stored
+abbrev pub requestOf : List ℕ → ℕ → Asked → Read Request
+requestOf xs next Generate = found (generate xs) next
+requestOf xs next Contained = found (contained xs) next
+requestOf xs next (Separate v w) = found (separate v w) next
+requestOf xs next Decompose = found decompose next
+requestOf xs next Nothing = fault
+
+-- something was asked, so that the run goes on
+abbrev pub goesOn : Asked → Bool
+goesOn Generate = true
+goesOn Contained = true
+goesOn (Separate v w) = true
+goesOn Decompose = true
+goesOn Nothing = false
+
+-- a request came to what `d` says, and its numbers stand in the storage from `put` on
+pub record Requested (text : List ℕ) (at : ℕ) (lent : List ℕ) (put : ℕ) (d : Read Request) (after : List ℕ) (r : RequestLine) : Type 0 where
+  pub new : List ℕ
+  pub value : d ≡ requestOf new (r .next) (r .asked)
+  pub laid : Laid lent put new after (r .end)
+  pub reached : Reached text at (r .next)
+
+-- the same of a request that stores nothing
+pub record RequestRead (text : List ℕ) (at put : ℕ) (d : Read Request) (r : RequestLine) : Type 0 where
+  pub value : d ≡ requestOf [] (r .next) (r .asked)
+  pub end : r .end ≡ put
+  pub reached : Reached text at (r .next)

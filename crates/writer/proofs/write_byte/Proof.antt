@@ -1,0 +1,20 @@
+-- `write_byte` meets its contract, by the laws of Laying.
+use Rattle.reader.proofs.Laying.{laid-one}
+use borrow.Author.Needs.{needs}
+use Rattle.writer.proofs.write_byte.Statement.{statement}
+use Rattle.writer.proofs.write_byte.Tie as tie
+
+slice-write-out : tie.Need-slice-write-out
+slice-write-out c = search needs
+
+add-result : tie.Need-add-result
+add-result c = search needs
+
+same-length : tie.Need-same-length
+same-length c = search needs
+
+returns : tie.Need-returns
+returns c = search laid-one
+
+pub write-byte-spec : {M : Type 1} → statement M
+write-byte-spec = tie.close (tie.spec slice-write-out add-result same-length returns)
