@@ -19,7 +19,7 @@ use Rattle.equivalence.proofs.Tests.{T?, or-left, or-right, eq→eqb, pick}
 use Rattle.algebra.specs.Accepted.{Accepted}
 use Rattle.algebra.specs.Algebra.{Algebra, algebraOf, cellCount}
 use Rattle.algebra.proofs.Accepted.{WellFormed, every-at, accepted-wellFormed, wellFormed-accepted}
-use Rattle.reader.specs.Reading.{ascii, Read, found, fault, Reader, onward, _>>=_, _>>_, done, mark, begins}
+use Rattle.reader.specs.Reading.{ascii, Read, found, fault, Reader, onward, _>>=_, _>>_, done, mark, gap, begins}
 use Rattle.reader.specs.Numbers.{number}
 use Rattle.reader.specs.Tables.{cell, parted, bracket, table}
 use Rattle.reader.specs.Lines.{Progress, defined, refused, close, sizeLine, tested, afterSize, sized, arity, lastTable, operationTests, cellTest, withOperation, afterTable, afterArity, operation, Request, request}
@@ -70,8 +70,8 @@ parted-long item w p (suc zero) = λ text at. longer (item text at) (p text at)
     longer (found xs next) h = rw one-mul h
     longer fault h = tt
 parted-long item w p (suc (suc k)) =
-    then-finds (Long w) (Long (suc (suc k) * w)) item (λ xs. _>>_ (mark " ") (_>>=_ (parted item (suc k)) (λ ys. done (xs ++ ys)))) p
-    (λ xs h. after-any (Long (suc (suc k) * w)) (mark " ") (λ _. _>>=_ (parted item (suc k)) (λ ys. done (xs ++ ys)))
+    then-finds (Long w) (Long (suc (suc k) * w)) item (λ xs. _>>_ gap (_>>=_ (parted item (suc k)) (λ ys. done (xs ++ ys)))) p
+    (λ xs h. after-any (Long (suc (suc k) * w)) gap (λ _. _>>=_ (parted item (suc k)) (λ ys. done (xs ++ ys)))
     (λ _. then-finds (Long (suc k * w)) (Long (suc (suc k) * w)) (parted item (suc k)) (λ ys. done (xs ++ ys)) (parted-long item w p (suc k))
     (λ ys l text at. length-append xs ys ∙ omega (arith, h, l, suc-mul (suc k) w))))
 

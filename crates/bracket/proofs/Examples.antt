@@ -12,7 +12,7 @@ use Rattle.algebra.specs.Congruence.{respects, isCongruence, congruences}
 use Rattle.congruence.specs.Calls.{generateCall, containedCall, separateCall, decomposed, factorBytes, decomposeCall}
 use Rattle.theory.specs.Decompose.{added, gathered, pruned, listed, reducible, commonPair}
 use Rattle.theory.specs.Extremal.{holdsAll, above, generated, contained, separated}
-use Rattle.reader.specs.Reading.{ascii, onward, _>>=_, mark, begins, opened}
+use Rattle.reader.specs.Reading.{ascii, onward, _>>=_, mark, gap, branch, behind, begins, opened}
 use Rattle.reader.specs.Numbers.{digitAt, number}
 use Rattle.reader.specs.Tables.{cell, parted, bracket, table, pair, itemsUpTo, items}
 use Rattle.reader.specs.Lines.{close, spacedNumber, sizeLine, tested, afterSize, sized, arity, lastTable, operationTests, cellTest, withOperation, afterTable, afterArity, operation, listing, generating, containing, twoNumbers, request}
@@ -75,5 +75,5 @@ pub record Examples : Type 0 where
       × Gives "[size 2]\r\n" "[refused 14]\n"
 
 pub examples : Examples
-unfolding ascii onward _>>=_ mark begins opened digitAt number digits decimal gapBytes cell parted bracket table pair itemsUpTo items close spacedNumber sizeLine tested afterSize sized arity lastTable operationTests cellTest withOperation afterTable afterArity operation listing generating containing twoNumbers request spaced bracketed spacedBrackets line refusedNumbers outcomeLine success refusal writtenOutcome generatedOutcome decomposedOutcome refusedLine mapLine generatedLine factorsLine answer afterLine afterRequest firstStep operationStep requestStep step output run transcript isMap holds inside roots blocks blockOf mapOf identity whole same isIdentity meet meetAll maps best join upTo every any keep first concat stretch pairs notLaterOn notLater firstHeld numberOf lowest sizeTest mapTest spaceTest answered written lentAfter serve algebraTests cellCount operationsOf operations arguments place value respects isCongruence congruences pairsTest elementsTest equalTest generateCall containedCall separateCall decomposed factorBytes decomposeCall added gathered pruned listed reducible commonPair holdsAll above generated contained separated
+unfolding ascii onward _>>=_ mark gap branch behind begins opened digitAt number digits decimal gapBytes cell parted bracket table pair itemsUpTo items close spacedNumber sizeLine tested afterSize sized arity lastTable operationTests cellTest withOperation afterTable afterArity operation listing generating containing twoNumbers request spaced bracketed spacedBrackets line refusedNumbers outcomeLine success refusal writtenOutcome generatedOutcome decomposedOutcome refusedLine mapLine generatedLine factorsLine answer afterLine afterRequest firstStep operationStep requestStep step output run transcript isMap holds inside roots blocks blockOf mapOf identity whole same isIdentity meet meetAll maps best join upTo every any keep first concat stretch pairs notLaterOn notLater firstHeld numberOf lowest sizeTest mapTest spaceTest answered written lentAfter serve algebraTests cellCount operationsOf operations arguments place value respects isCongruence congruences pairsTest elementsTest equalTest generateCall containedCall separateCall decomposed factorBytes decomposeCall added gathered pruned listed reducible commonPair holdsAll above generated contained separated
 examples = record { worked = refl; bare = (refl, refl); ended = (refl, refl, refl, refl, refl); numbers = (refl, refl, refl, refl, refl, refl); early = (refl, refl, refl, refl); late = (refl, refl, refl, refl, refl); nested = refl; order = refl; goes = refl; faulty = (refl, refl, refl, refl, refl, refl, refl) }

@@ -11,7 +11,7 @@ use Rattle.equivalence.specs.Refusal.{lowest}
 use Rattle.equivalence.specs.declared.Check.{Check}
 use Rattle.equivalence.specs.declared.Check.the-variants.{Passed, Failed}
 use Rattle.algebra.specs.Algebra.{Algebra}
-use Rattle.reader.specs.Reading.{ascii, Read, found, fault, Reader, byteAt, onward, _>>=_, _>>_, done, failed, mark, begins, opened}
+use Rattle.reader.specs.Reading.{ascii, Read, found, fault, Reader, byteAt, onward, _>>=_, _>>_, done, failed, mark, gap, branch, behind, begins, opened}
 use Rattle.reader.specs.Numbers.{digitAt, threeAt, number}
 use Rattle.reader.specs.Tables.{cell, parted, bracket, table, pair, itemsUpTo, items}
 use Rattle.reader.specs.Lines.{Progress, defined, refused, close, spacedNumber, tested, arity, lastTable, cellTest, operationTests, withOperation, afterTable, afterArity, operation, Request, generate, contained, separate, decompose, listing, generating, containing, twoNumbers, request}
@@ -58,6 +58,16 @@ opened-forward word body other k l p q text at =
     choice-past k at (begins text at word) (body text (at + length word)) (other text at)
     (past-later k (length word) 0 at (at + length word) (body text (at + length word)) (omega arith) (omega arith) (p text (at + length word))) (q text at)
 
+behind-past : {A B : Type 0} (at : ℕ) (r : Read A) (body : ℕ → Read B) (other : Read B) → Past 0 at r → ((next : ℕ) → Past 0 next (body next)) → Past 0 at other
+    → Past 0 at (branch body other r)
+unfolding branch
+behind-past at (found a next) body other p q o = past-later 0 0 0 at next (body next) p (omega arith) (q next)
+behind-past at fault body other p q o = o
+
+behind-forward : {A B : Type 0} (first : Reader A) (body other : Reader B) → Forward 0 first → Forward 0 body → Forward 0 other → Forward 0 (behind first body other)
+unfolding behind
+behind-forward first body other p q o text at = behind-past at (first text at) (body text) (other text at) (p text at) (q text) (o text at)
+
 le-self-add : (at k : ℕ) → at + 0 ≤ at + k
 le-self-add at k = omega arith
 
@@ -79,13 +89,21 @@ cell-forward = both-forward number (λ v. done (v ∷ [])) number-forward (λ v.
 marked-forward : {A : Type 0} (c : Char) (next : Reader A) → Forward 0 next → Forward 0 (_>>_ (mark c) next)
 marked-forward c next p = both-forward (mark c) (λ _. next) (mark-forward c) (λ _. p)
 
+-- a gap, and then a reader
+gap-forward : Forward 0 gap
+unfolding gap
+gap-forward = mark-forward " "
+
+gapped-forward : {A : Type 0} (next : Reader A) → Forward 0 next → Forward 0 (_>>_ gap next)
+gapped-forward next p = both-forward gap (λ _. next) gap-forward (λ _. p)
+
 parted-forward : (item : Reader (List ℕ)) → Forward 0 item → (k : ℕ) → Forward 0 (parted item k)
 unfolding parted
 parted-forward item p zero = λ text at. tt
 parted-forward item p (suc zero) = p
 parted-forward item p (suc (suc k)) =
-    both-forward item (λ xs. _>>_ (mark " ") (_>>=_ (parted item (suc k)) (λ ys. done (xs ++ ys)))) p
-    (λ xs. marked-forward " " (_>>=_ (parted item (suc k)) (λ ys. done (xs ++ ys)))
+    both-forward item (λ xs. _>>_ gap (_>>=_ (parted item (suc k)) (λ ys. done (xs ++ ys)))) p
+    (λ xs. gapped-forward (_>>=_ (parted item (suc k)) (λ ys. done (xs ++ ys)))
     (both-forward (parted item (suc k)) (λ ys. done (xs ++ ys)) (parted-forward item p (suc k)) (λ ys. done-forward (xs ++ ys))))
 
 bracket-forward : (item : Reader (List ℕ)) → Forward 0 item → (k : ℕ) → Forward 0 (bracket item k)
@@ -107,7 +125,7 @@ items-up-to-forward : (item : Reader (List ℕ)) → Forward 0 item → (k : ℕ
 unfolding itemsUpTo
 items-up-to-forward item p zero = done-forward {A = List ℕ} []
 items-up-to-forward item p (suc k) =
-    opened-forward (ascii " ") (_>>=_ item (λ xs. _>>=_ (itemsUpTo k item) (λ ys. done (xs ++ ys)))) (done []) 0 (omega arith)
+    behind-forward gap (_>>=_ item (λ xs. _>>=_ (itemsUpTo k item) (λ ys. done (xs ++ ys)))) (done []) gap-forward
     (both-forward item (λ xs. _>>=_ (itemsUpTo k item) (λ ys. done (xs ++ ys))) p
     (λ xs. both-forward (itemsUpTo k item) (λ ys. done (xs ++ ys)) (items-up-to-forward item p k) (λ ys. done-forward (xs ++ ys))))
     (done-forward {A = List ℕ} [])
@@ -127,12 +145,12 @@ closed-forward next p = both-forward close (λ _. next) close-forward (λ _. p)
 
 spaced-number-forward : Forward 0 spacedNumber
 unfolding spacedNumber
-spaced-number-forward = marked-forward " " number number-forward
+spaced-number-forward = gapped-forward number number-forward
 
 arity-forward : Forward 0 arity
 unfolding arity
 arity-forward =
-    both-forward spacedNumber (λ s. _>>_ (mark " ") (done s)) spaced-number-forward (λ s. marked-forward " " (done s) (done-forward s))
+    both-forward spacedNumber (λ s. _>>_ gap (done s)) spaced-number-forward (λ s. gapped-forward (done s) (done-forward s))
 
 last-table-forward : (n s : ℕ) → Forward 0 (lastTable n s)
 unfolding lastTable

@@ -16,7 +16,8 @@ use Rattle.bracket.proofs.Fills.{remaining, fill-remaining, left, fill-less}
 use Rattle.bracket.proofs.Gathering.{goes-left}
 use Rattle.bracket.specs.declared.run.Standing.{Standing}
 use Rattle.bracket.specs.declared.run.Stepped.{Stepped}
-use Rattle.desk.specs.Writing.{Next, Enough}
+use Rattle.desk.specs.Writing.{Next}
+use Rattle.desk.specs.InnerRoom.{Enough}
 
 -- a run over the text of which `written` bytes are written out
 pub record Running (text : List ℕ) (s : Standing) (arities room out : List ℕ) (written : ℕ) : Type 0 where

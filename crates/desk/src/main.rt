@@ -3,7 +3,8 @@ ghost use mathlib.Core.Path.{_≡_};
 ghost use Prim.Native.Nat.{_+_, _^_, _<_};
 ghost use lib.ListN.{length};
 ghost use Rattle.bracket.specs.Transcript.{transcript};
-ghost use Rattle.desk.specs.Writing.{Next, Enough};
+ghost use Rattle.desk.specs.Writing.{Next};
+ghost use Rattle.desk.specs.InnerRoom.{Enough};
 
 // One byte more than the longest text, so that a longer input shows.
 fn text_space() -> [u8; 65537]

@@ -1,18 +1,17 @@
--- Any count of items, each after a space, read into storage one by one.
+-- Any count of items, each after a gap, read into storage one by one.
 use Prim.Native.Nat.{ℕ, zero, suc, _+_, _≤_}
 use mathlib.Core.Bool.{Bool, true, false}
 use mathlib.Core.List.{List, [], _++_, append-assoc, append-nil}
 use mathlib.Core.Path.{_≡_, refl, ap, sym, _∙_}
 use native.Mathlib.Omega.{arith}
-use borrow.Author.Tests.{eq-eqb, ne-eqb}
 use lib.ListN.{length}
-use Rattle.reader.specs.Reading.{ascii, Read, found, fault, Reader, byteAt, onward, _>>=_, done, begins}
+use Rattle.reader.specs.Reading.{Read, found, fault, Reader, onward, _>>=_, done, gap}
 use Rattle.reader.specs.Tables.{itemsUpTo, items}
-use Rattle.reader.specs.InnerPromises.{readOf, Reached, Roomy, Stored}
+use Rattle.reader.specs.InnerPromises.{readOf, GapRead, Reached, Roomy, Stored}
 use Rattle.reader.specs.Laying.{Laid}
 use Rattle.reader.specs.declared.reading.Spot.{Spot}
 use Rattle.reader.proofs.Laying.{laid-none, laid-more}
-use Rattle.reader.proofs.Readers.{within-text, then-found, then-fault, opened-body, opened-other}
+use Rattle.reader.proofs.Readers.{then-found, then-fault, behind-found, behind-fault}
 use Rattle.reader.proofs.Storing.{spot}
 
 -- a list in front of what a reader found
@@ -30,27 +29,23 @@ before-twice xs ys (found zs next) = ap (λ (l : List ℕ). found l next) (sym (
 before-twice xs ys fault = refl
 
 module _ (item : Reader (List ℕ)) (text : List ℕ) (at : ℕ) where
-  -- no space, no item more
-  items-end : (k : ℕ) → (byteAt text at ≡ 32 → ⊥) → itemsUpTo k item text at ≡ found [] at
-  unfolding itemsUpTo begins ascii
+  -- no gap, no item more
+  items-end : (k : ℕ) → gap text at ≡ fault → itemsUpTo k item text at ≡ found [] at
+  unfolding itemsUpTo
   items-end zero h = refl
-  items-end (suc k) h =
-      opened-other (ascii " ") (_>>=_ item (λ xs. _>>=_ (itemsUpTo k item) (λ ys. done (xs ++ ys)))) (done []) text at
-      (simp (ne-eqb (byteAt text at) 32 h))
+  items-end (suc k) h = behind-fault gap (_>>=_ item (λ xs. _>>=_ (itemsUpTo k item) (λ ys. done (xs ++ ys)))) (done []) text at h
 
-  module _ (h : byteAt text at ≡ 32) (k : ℕ) where
-    items-next : itemsUpTo (suc k) item text at ≡ _>>=_ item (λ xs. _>>=_ (itemsUpTo k item) (λ ys. done (xs ++ ys))) text (at + 1)
-    unfolding itemsUpTo begins ascii
-    items-next =
-        opened-body (ascii " ") (_>>=_ item (λ xs. _>>=_ (itemsUpTo k item) (λ ys. done (xs ++ ys)))) (done []) text at
-        (simp (eq-eqb (byteAt text at) 32 h))
+  module _ (end : ℕ) (h : gap text at ≡ found tt end) (k : ℕ) where
+    items-next : itemsUpTo (suc k) item text at ≡ _>>=_ item (λ xs. _>>=_ (itemsUpTo k item) (λ ys. done (xs ++ ys))) text end
+    unfolding itemsUpTo
+    items-next = behind-found gap (_>>=_ item (λ xs. _>>=_ (itemsUpTo k item) (λ ys. done (xs ++ ys)))) (done []) text at tt end h
 
-    items-fault : item text (at + 1) ≡ fault → itemsUpTo (suc k) item text at ≡ fault
-    items-fault e = items-next ∙ then-fault item (λ xs. _>>=_ (itemsUpTo k item) (λ ys. done (xs ++ ys))) text (at + 1) e
+    items-fault : item text end ≡ fault → itemsUpTo (suc k) item text at ≡ fault
+    items-fault e = items-next ∙ then-fault item (λ xs. _>>=_ (itemsUpTo k item) (λ ys. done (xs ++ ys))) text end e
 
-    items-more : (xs : List ℕ) (next : ℕ) → item text (at + 1) ≡ found xs next → itemsUpTo (suc k) item text at ≡ before xs (itemsUpTo k item text next)
+    items-more : (xs : List ℕ) (next : ℕ) → item text end ≡ found xs next → itemsUpTo (suc k) item text at ≡ before xs (itemsUpTo k item text next)
     unfolding _>>=_
-    items-more xs next e = items-next ∙ then-found item (λ xs. _>>=_ (itemsUpTo k item) (λ ys. done (xs ++ ys))) text (at + 1) xs next e
+    items-more xs next e = items-next ∙ then-found item (λ xs. _>>=_ (itemsUpTo k item) (λ ys. done (xs ++ ys))) text end xs next e
 
 -- some items are read, from `at` to `next`, and stored, from `put` to `so-far`; `fuel` bounds how many may follow
 pub record Listed (text : List ℕ) (at : ℕ) (lent : List ℕ) (put : ℕ) (item : Reader (List ℕ)) (cells : List ℕ) (next so-far : ℕ) : Type 0 where
@@ -76,27 +71,27 @@ module _ (text : List ℕ) (at : ℕ) (lent : List ℕ) (put : ℕ) (item : Read
         paced = omega arith;
       }
 
-  module _ (cells : List ℕ) (next so-far : ℕ) (l : Listed text at lent put item cells next so-far) (b : ℕ) (eb : b ≡ byteAt text next) where
-    pub listed-all : (b ≡ 32 → ⊥) → Stored text at lent put (items item text at) cells (spot true next so-far)
+  module _ (cells : List ℕ) (next so-far : ℕ) (l : Listed text at lent put item cells next so-far) (end : ℕ) (g : GapRead text next end) where
+    pub listed-all : end ≡ next → Stored text at lent put (items item text at) cells (spot true next so-far)
     unfolding onward
     listed-all h =
         record {
           new = l .new;
           value =
-              l .value ∙ ap (before (l .new)) (items-end item text next (l .fuel) (λ g. h (eb ∙ g)))
+              l .value ∙ ap (before (l .new)) (items-end item text next (l .fuel) (g .none h))
               ∙ ap (λ (x : List ℕ). found x next) (append-nil (l .new));
           laid = l .laid;
           reached = l .reached;
           paced = l .paced;
         }
 
-    module _ (h : b ≡ 32) (after : List ℕ) (r : Spot) (s : Stored text (next + 1) cells so-far (item text (next + 1)) after r) where
+    module _ (h : end ≡ next → ⊥) (after : List ℕ) (r : Spot) (s : Stored text end cells so-far (item text end) after r) where
       -- an item is left to read, so the fuel is not used up
       fuel-left : (k : ℕ) × (l .fuel ≡ suc k)
       fuel-left = go (l .fuel) (l .enough)
         where
           go : (f : ℕ) → length text ≤ f + next → (k : ℕ) × (f ≡ suc k)
-          go zero e = absurd (omega (arith, within-text text next (omega arith)))
+          go zero e = absurd (omega (arith, h, g .reached))
           go (suc k) e = (k, refl)
 
       pub listed-fault : r .ok ≡ false → Stored text at lent put (items item text at) after (spot false (r .at) (r .put))
@@ -108,10 +103,10 @@ module _ (text : List ℕ) (at : ℕ) (lent : List ℕ) (put : ℕ) (item : Read
                 l .value
                 ∙ ap (before (l .new))
                 (ap (λ (k : ℕ). itemsUpTo k item text next) (fuel-left .1)
-                ∙ items-fault item text next (sym eb ∙ h) (fuel-left .0) (s .value ∙ ap (λ (o : Bool). readOf o (s .new) (r .at)) e));
+                ∙ items-fault item text next end (g .some h) (fuel-left .0) (s .value ∙ ap (λ (o : Bool). readOf o (s .new) (r .at)) e));
             laid = laid-more lent put (l .new) cells so-far (s .new) after (r .put) (l .laid) (s .laid);
-            reached = omega (arith, s .reached, l .reached);
-            paced = omega (arith, s .paced, l .paced);
+            reached = omega (arith, s .reached, l .reached, g .reached);
+            paced = omega (arith, s .paced, l .paced, g .reached);
           }
 
       pub listed-more : r .ok ≡ true → Listed text at lent put item after (r .at) (r .put)
@@ -119,14 +114,14 @@ module _ (text : List ℕ) (at : ℕ) (lent : List ℕ) (put : ℕ) (item : Read
           record {
             new = l .new ++ s .new;
             fuel = fuel-left .0;
-            enough = omega (arith, l .enough, fuel-left .1, s .reached .past);
+            enough = omega (arith, l .enough, fuel-left .1, s .reached .past, h, g .reached);
             value =
                 l .value
                 ∙ ap (before (l .new))
                 (ap (λ (k : ℕ). itemsUpTo k item text next) (fuel-left .1)
-                ∙ items-more item text next (sym eb ∙ h) (fuel-left .0) (s .new) (r .at) (s .value ∙ ap (λ (o : Bool). readOf o (s .new) (r .at)) e))
+                ∙ items-more item text next end (g .some h) (fuel-left .0) (s .new) (r .at) (s .value ∙ ap (λ (o : Bool). readOf o (s .new) (r .at)) e))
                 ∙ before-twice (l .new) (s .new) (itemsUpTo (fuel-left .0) item text (r .at));
             laid = laid-more lent put (l .new) cells so-far (s .new) after (r .put) (l .laid) (s .laid);
-            reached = omega (arith, s .reached, l .reached);
-            paced = omega (arith, s .paced, l .paced);
+            reached = omega (arith, s .reached, l .reached, g .reached);
+            paced = omega (arith, s .paced, l .paced, g .reached);
           }

@@ -1,14 +1,15 @@
 -- Readers one after another: what the first finds decides what the second is asked.
-use Prim.Native.Nat.{ℕ, _+_, _<_}
+use Prim.Native.Nat.{ℕ, _+_, _≤_, _<_}
 use Prim.Native.Char.{Char, code}
 use mathlib.Core.Bool.{true, false}
 use mathlib.Core.List.{List}
-use mathlib.Core.Path.{_≡_}
+use mathlib.Core.Path.{_≡_, refl, sym, _∙_}
 use native.Mathlib.Decide.{decLt}
 use native.Mathlib.Omega.{arith}
 use borrow.Author.Tests.{eq-eqb, ne-eqb}
 use lib.ListN.{length, List·getD-eq-default}
-use Rattle.reader.specs.Reading.{Reader, found, fault, byteAt, onward, _>>=_, _>>_, mark, begins, opened}
+use Rattle.reader.specs.Reading.{Reader, found, fault, byteAt, onward, _>>=_, _>>_, mark, gap, branch, behind, begins, opened}
+use Rattle.reader.specs.InnerPromises.{GapRead}
 
 -- past the end no byte but 0 stands
 pub within-text : (text : List ℕ) (at : ℕ) → 0 < byteAt text at → at < length text
@@ -42,6 +43,39 @@ module _ (c : Char) (text : List ℕ) (at : ℕ) where
 
   pub unmarked : {B : Type 0} (next : Reader B) → (byteAt text at ≡ code c → ⊥) → _>>_ (mark c) next text at ≡ fault
   unmarked next e = then-fault (mark c) (λ _. next) text at (mark-fault e)
+
+module _ {A B : Type 0} (first : Reader A) (body other : Reader B) (text : List ℕ) (at : ℕ) where
+  pub behind-found : (a : A) (after : ℕ) → first text at ≡ found a after → behind first body other text at ≡ body text after
+  unfolding behind branch
+  behind-found a after e = rw e
+
+  pub behind-fault : first text at ≡ fault → behind first body other text at ≡ other text at
+  unfolding behind branch
+  behind-fault e = rw e
+
+-- what stands between two items is one byte
+module _ (text : List ℕ) (at b : ℕ) (eb : b ≡ byteAt text at) where
+  pub gap-here : b ≡ 32 → GapRead text at (at + 1)
+  unfolding gap
+  gap-here h =
+      record {
+        none = λ e. absurd (omega arith);
+        some = λ _. mark-found " " text at (sym eb ∙ h);
+        reached = record { within = omega (arith, within-text text at (omega arith)); past = omega arith };
+      }
+
+  pub no-gap : at ≤ length text → (b ≡ 32 → ⊥) → GapRead text at at
+  unfolding gap
+  no-gap w h =
+      record { none = λ _. mark-fault " " text at (λ g. h (eb ∙ g)); some = λ n. absurd (n refl); reached = record { within = w; past = omega arith } }
+
+-- a gap and then more
+module _ {B : Type 0} (next : Reader B) (text : List ℕ) (at end : ℕ) (g : GapRead text at end) where
+  pub gapped : (end ≡ at → ⊥) → _>>_ gap next text at ≡ next text end
+  gapped h = then-found gap (λ _. next) text at tt end (g .some h)
+
+  pub ungapped : end ≡ at → _>>_ gap next text at ≡ fault
+  ungapped h = then-fault gap (λ _. next) text at (g .none h)
 
 module _ {A : Type 0} (word : List ℕ) (body other : Reader A) (text : List ℕ) (at : ℕ) where
   pub opened-body : begins text at word ≡ true → opened word body other text at ≡ body text (at + length word)

@@ -1,4 +1,4 @@
--- Numbers after spaces, the end of a line, the size line and the arity of an operation line.
+-- Numbers after gaps, the end of a line, the size line and the arity of an operation line.
 use Prim.Native.Nat.{ℕ, _+_, _≤_}
 use mathlib.Core.Bool.{Bool, true, false, not, _&&_}
 use mathlib.Core.List.{List}
@@ -9,12 +9,12 @@ use borrow.Author.Tests.{not-true, not-false, eqb-true, eq-eqb}
 use lib.Dec.{eqb}
 use lib.ListN.{length}
 use Rattle.equivalence.specs.Lists.{every}
-use Rattle.reader.specs.Reading.{ascii, Read, found, fault, Reader, byteAt, _>>=_, _>>_, done, failed, mark, begins}
+use Rattle.reader.specs.Reading.{ascii, Read, found, fault, Reader, byteAt, _>>=_, _>>_, done, failed, mark, gap, begins}
 use Rattle.reader.specs.Numbers.{number}
 use Rattle.reader.specs.Lines.{close, spacedNumber, sizeLine, arity}
-use Rattle.reader.specs.InnerPromises.{readOf, NumberRead}
+use Rattle.reader.specs.InnerPromises.{readOf, GapRead, NumberRead}
 use Rattle.reader.specs.declared.reading.Number.{Number}
-use Rattle.reader.proofs.Readers.{within-text, then-found, then-fault, marked, unmarked, mark-found, mark-fault, opened-body, opened-other}
+use Rattle.reader.proofs.Readers.{then-found, then-fault, marked, unmarked, mark-found, mark-fault, opened-body, opened-other, gapped, ungapped}
 use Rattle.reader.proofs.Words.{and-left, and-right, begins-within}
 
 -- no number
@@ -46,15 +46,14 @@ module _ (text : List ℕ) (at : ℕ) where
             let z : _≡_ {A = ℕ} 0 1 = cc in omega arith)
       ]
 
-  module _ (b : ℕ) (eb : b ≡ byteAt text at) where
-    pub spaced-none : at ≤ length text → (b ≡ 32 → ⊥) → NumberRead text at (spacedNumber text at) (none at)
+  module _ (end : ℕ) (g : GapRead text at end) where
+    pub spaced-none : at ≤ length text → end ≡ at → NumberRead text at (spacedNumber text at) (none at)
     unfolding spacedNumber
-    spaced-none w h = no-number text at (spacedNumber text at) w (unmarked " " text at number (λ g. h (eb ∙ g)))
+    spaced-none w h = no-number text at (spacedNumber text at) w (ungapped number text at end g h)
 
-    pub spaced-some : b ≡ 32 → (r : Number) → NumberRead text (at + 1) (number text (at + 1)) r → NumberRead text at (spacedNumber text at) r
+    pub spaced-some : (end ≡ at → ⊥) → (r : Number) → NumberRead text end (number text end) r → NumberRead text at (spacedNumber text at) r
     unfolding spacedNumber
-    spaced-some h r n =
-        record { value = marked " " text at number (sym eb ∙ h) ∙ n .value; within = n .within; past = omega (arith, n .past) }
+    spaced-some h r n = record { value = gapped number text at end g h ∙ n .value; within = n .within; past = omega (arith, n .past, g .reached) }
 
 -- a number that was found, or was not
 pub found-number : {text : List ℕ} {at : ℕ} {d : Read ℕ} {r : Number} → NumberRead text at d r → not (r .ok) ≡ false → d ≡ found (r .value) (r .next)
@@ -117,24 +116,24 @@ module _ (text : List ℕ) (at : ℕ) (s : Number) (r : NumberRead text at (spac
   arity-missing e =
       record {
         value =
-            then-fault spacedNumber (λ s. _>>_ (mark " ") (done s)) text at (missing-number r e)
+            then-fault spacedNumber (λ s. _>>_ gap (done s)) text at (missing-number r e)
             ∙ ap (λ (b : Bool). readOf b (s .value) (s .next)) (sym (not-true (s .ok) e));
         within = r .within;
         past = r .past;
       }
 
-  module _ (e : not (s .ok) ≡ false) (b : ℕ) (eb : b ≡ byteAt text (s .next)) where
-    arity-found : arity text at ≡ _>>_ (mark " ") (done (s .value)) text (s .next)
+  module _ (e : not (s .ok) ≡ false) (end : ℕ) (g : GapRead text (s .next) end) where
+    arity-found : arity text at ≡ _>>_ gap (done (s .value)) text (s .next)
     unfolding arity
-    arity-found = then-found spacedNumber (λ s. _>>_ (mark " ") (done s)) text at (s .value) (s .next) (found-number r e)
+    arity-found = then-found spacedNumber (λ s. _>>_ gap (done s)) text at (s .value) (s .next) (found-number r e)
 
-    pub arity-unparted : at ≤ length text → (b ≡ 32 → ⊥) → NumberRead text at (arity text at) (none at)
-    arity-unparted w h = no-number text at (arity text at) w (arity-found ∙ unmarked " " text (s .next) (done (s .value)) (λ g. h (eb ∙ g)))
+    pub arity-unparted : at ≤ length text → end ≡ s .next → NumberRead text at (arity text at) (none at)
+    arity-unparted w h = no-number text at (arity text at) w (arity-found ∙ ungapped (done (s .value)) text (s .next) end g h)
 
-    pub arity-read : b ≡ 32 → NumberRead text at (arity text at) (record { ok = true; value = s .value; next = s .next + 1 })
+    pub arity-read : (end ≡ s .next → ⊥) → NumberRead text at (arity text at) (record { ok = true; value = s .value; next = end })
     arity-read h =
         record {
-          value = arity-found ∙ marked " " text (s .next) (done (s .value)) (sym eb ∙ h);
-          within = omega (arith, within-text text (s .next) (omega arith));
-          past = omega (arith, r .past);
+          value = arity-found ∙ gapped (done (s .value)) text (s .next) end g h;
+          within = g .reached .within;
+          past = omega (arith, r .past, g .reached);
         }

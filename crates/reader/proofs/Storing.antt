@@ -7,14 +7,14 @@ use native.Mathlib.Nat.{suc-mul}
 use native.Mathlib.Numerals.{sub-one}
 use native.Mathlib.Omega.{arith}
 use lib.ListN.{length, set}
-use Rattle.reader.specs.Reading.{Read, found, fault, Reader, byteAt, onward, _>>=_, _>>_, done, mark}
+use Rattle.reader.specs.Reading.{Read, found, fault, Reader, byteAt, onward, _>>=_, _>>_, done, mark, gap}
 use Rattle.reader.specs.Numbers.{number}
 use Rattle.reader.specs.Tables.{cell, parted, bracket, table}
-use Rattle.reader.specs.InnerPromises.{readOf, NumberRead, Roomy, Stored}
+use Rattle.reader.specs.InnerPromises.{readOf, GapRead, NumberRead, Roomy, Stored}
 use Rattle.reader.specs.declared.reading.Number.{Number}
 use Rattle.reader.specs.declared.reading.Spot.{Spot}
 use Rattle.reader.proofs.Laying.{laid-none, laid-one, laid-more}
-use Rattle.reader.proofs.Readers.{within-text, then-found, then-fault, marked, unmarked}
+use Rattle.reader.proofs.Readers.{within-text, then-found, then-fault, marked, unmarked, gapped, ungapped}
 
 -- a part less
 pub part-less : (k w : ℕ) → 0 < k → (k - 1) * w + w ≡ k * w
@@ -60,15 +60,15 @@ module _ (text : List ℕ) (at : ℕ) (lent : List ℕ) (put : ℕ) (w : Roomy t
         paced = omega arith;
       }
 
--- items parted by one space
+-- items parted by gaps
 module _ (item : Reader (List ℕ)) (text : List ℕ) (at : ℕ) where
   parted-one : (left : ℕ) → left ≡ 1 → parted item left text at ≡ item text at
   unfolding parted
   parted-one left e = rw e
 
-  -- more than one: an item, a space, and the others
+  -- more than one: an item, a gap, and the others
   parted-next : (left : ℕ) → 0 < left → (left ≡ 1 → ⊥)
-      → parted item left text at ≡ _>>=_ item (λ xs. _>>_ (mark " ") (_>>=_ (parted item (left - 1)) (λ ys. done (xs ++ ys)))) text at
+      → parted item left text at ≡ _>>=_ item (λ xs. _>>_ gap (_>>=_ (parted item (left - 1)) (λ ys. done (xs ++ ys)))) text at
   unfolding parted
   parted-next zero p h = absurd (omega arith)
   parted-next (suc zero) p h = absurd (h refl)
@@ -79,7 +79,7 @@ module _ (item : Reader (List ℕ)) (text : List ℕ) (at : ℕ) where
   parted-fault zero p e = absurd (omega arith)
   parted-fault (suc zero) p e = e
   parted-fault (suc (suc k)) p e =
-      then-fault item (λ xs. _>>_ (mark " ") (_>>=_ (parted item (suc k)) (λ ys. done (xs ++ ys)))) text at e
+      then-fault item (λ xs. _>>_ gap (_>>=_ (parted item (suc k)) (λ ys. done (xs ++ ys)))) text at e
 
 -- what a second list adds to a first
 onto : (xs ys : List ℕ) (ok : Bool) (end : ℕ) (r : Read (List ℕ)) → r ≡ readOf ok ys end → onward (λ zs next. found (xs ++ zs) next) r ≡ readOf ok (xs ++ ys) end
@@ -104,30 +104,30 @@ module _ (text : List ℕ) (at : ℕ) (lent : List ℕ) (put : ℕ) (item : Read
         paced = s .paced;
       }
 
-  module _ (p : 0 < left) (h : left ≡ 1 → ⊥) (e : r .ok ≡ true) (b : ℕ) (eb : b ≡ byteAt text (r .at)) where
-    first : parted item left text at ≡ _>>_ (mark " ") (_>>=_ (parted item (left - 1)) (λ ys. done (s .new ++ ys))) text (r .at)
+  module _ (p : 0 < left) (h : left ≡ 1 → ⊥) (e : r .ok ≡ true) (end : ℕ) (g : GapRead text (r .at) end) where
+    first : parted item left text at ≡ _>>_ gap (_>>=_ (parted item (left - 1)) (λ ys. done (s .new ++ ys))) text (r .at)
     first =
         parted-next item text at left p h
-        ∙ then-found item (λ xs. _>>_ (mark " ") (_>>=_ (parted item (left - 1)) (λ ys. done (xs ++ ys)))) text at (s .new) (r .at)
+        ∙ then-found item (λ xs. _>>_ gap (_>>=_ (parted item (left - 1)) (λ ys. done (xs ++ ys)))) text at (s .new) (r .at)
         (s .value ∙ ap (λ (b : Bool). readOf b (s .new) (r .at)) e)
 
-    pub rows-unparted : (b ≡ 32 → ⊥) → Stored text at lent put (parted item left text at) after (spot false (r .at) (r .put))
+    pub rows-unparted : end ≡ r .at → Stored text at lent put (parted item left text at) after (spot false (r .at) (r .put))
     rows-unparted n =
         stored-fault text at at lent put (item text at) (parted item left text at) after r (omega arith) s
-        (first ∙ unmarked " " text (r .at) (_>>=_ (parted item (left - 1)) (λ ys. done (s .new ++ ys))) (λ g. n (eb ∙ g)))
+        (first ∙ ungapped (_>>=_ (parted item (left - 1)) (λ ys. done (s .new ++ ys))) text (r .at) end g n)
 
-    pub rows-more : b ≡ 32 → (last : List ℕ) (q : Spot) → Stored text (r .at + 1) after (r .put) (parted item (left - 1) text (r .at + 1)) last q
+    pub rows-more : (end ≡ r .at → ⊥) → (last : List ℕ) (q : Spot) → Stored text end after (r .put) (parted item (left - 1) text end) last q
         → Stored text at lent put (parted item left text at) last q
     unfolding _>>=_
     rows-more y last q z =
         record {
           new = s .new ++ z .new;
           value =
-              first ∙ marked " " text (r .at) (_>>=_ (parted item (left - 1)) (λ ys. done (s .new ++ ys))) (sym eb ∙ y)
-              ∙ onto (s .new) (z .new) (q .ok) (q .at) (parted item (left - 1) text (r .at + 1)) (z .value);
+              first ∙ gapped (_>>=_ (parted item (left - 1)) (λ ys. done (s .new ++ ys))) text (r .at) end g y
+              ∙ onto (s .new) (z .new) (q .ok) (q .at) (parted item (left - 1) text end) (z .value);
           laid = laid-more lent put (s .new) after (r .put) (z .new) last (q .put) (s .laid) (z .laid);
-          reached = record { within = z .reached .within; past = omega (arith, z .reached .past, s .reached .past) };
-          paced = omega (arith, z .paced, s .paced);
+          reached = record { within = z .reached .within; past = omega (arith, z .reached .past, s .reached .past, g .reached) };
+          paced = omega (arith, z .paced, s .paced, g .reached);
         }
 
 -- a bracket: its opening byte, the items, its closing byte

@@ -5,7 +5,7 @@ use mathlib.Core.List.{List, [], _∷_, _++_}
 use mathlib.Core.Path.{_≡_}
 use lib.ListN.{length, take}
 use Rattle.kernel.specs.Kernel.{bit}
-use Rattle.reader.specs.Reading.{Read, found, fault}
+use Rattle.reader.specs.Reading.{Read, found, fault, gap}
 use Rattle.reader.specs.Laying.{Laid}
 use Rattle.equivalence.specs.declared.Check.{Check}
 use Rattle.equivalence.specs.declared.Check.the-variants.{Passed, Failed}
@@ -27,6 +27,12 @@ readOf false a next = fault
 pub record Reached (text : List ℕ) (at next : ℕ) : Type 0 where
   pub within : next ≤ length text
   pub past : at ≤ next
+
+-- what stands between two items was looked for: it ends here, or where it began, if there is none
+pub record GapRead (text : List ℕ) (at end : ℕ) : Type 0 where
+  pub none : end ≡ at → gap text at ≡ fault
+  pub some : (end ≡ at → ⊥) → gap text at ≡ found tt end
+  pub reached : Reached text at end
 
 -- a reader of a number came to what `d` says, and took a byte at least
 pub record NumberRead (text : List ℕ) (at : ℕ) (d : Read ℕ) (r : Number) : Type 0 where

@@ -11,7 +11,7 @@ use Rattle.equivalence.specs.declared.Refusal.the-variants.{Operations, Arity, 
 use Rattle.equivalence.specs.declared.Check.{Check}
 use Rattle.equivalence.specs.declared.Check.the-variants.{Passed, Failed}
 use Rattle.algebra.specs.Algebra.{Algebra, algebraOf}
-use Rattle.reader.specs.Reading.{ascii, Read, found, fault, Reader, _>>=_, _>>_, done, failed, mark, opened}
+use Rattle.reader.specs.Reading.{ascii, Read, found, fault, Reader, _>>=_, _>>_, done, failed, mark, gap, opened}
 use Rattle.reader.specs.Numbers.{number}
 use Rattle.reader.specs.Tables.{cell, table, pair, items}
 
@@ -21,10 +21,10 @@ close = do
   mark "]"
   mark "\n"
 
--- a number after a space
+-- a number after a gap
 unfoldable pub spacedNumber : Reader ℕ
 spacedNumber = do
-  mark " "
+  gap
   number
 
 -- the size line: `[size 4]`
@@ -50,11 +50,11 @@ afterSize (found n at) = tested (lowest (sizeTest n ∷ [])) (defined (algebraOf
 unfoldable pub sized : List ℕ → Progress
 sized text = afterSize (sizeLine text 0)
 
--- the arity of an operation line and the space after it, behind `[op`
+-- the arity of an operation line and the gap after it, behind `[op`
 unfoldable pub arity : Reader ℕ
 arity = do
   s ← spacedNumber
-  mark " "
+  gap
   done s
 
 -- the table of an operation line, to the line's end
@@ -88,7 +88,7 @@ unfoldable pub afterTable : Algebra → ℕ → Read (List ℕ) → Progress
 afterTable a s fault = refused Text
 afterTable a s (found cells at) = tested (lowest (cellTest (a .size) cells ∷ [])) (defined (withOperation a s cells) at)
 
--- the arity and the space after it are read: 14, then 2, 3 or 4, then the table
+-- the arity and the gap after it are read: 14, then 2, 3 or 4, then the table
 unfoldable pub afterArity : Algebra → List ℕ → Read ℕ → Progress
 afterArity a text fault = refused Text
 afterArity a text (found s at) =
@@ -105,7 +105,7 @@ pub data Request : Type 0 where
   separate : ℕ → ℕ → Request
   decompose : Request
 
--- the rest of a line behind its word: any count of items, each after a space
+-- the rest of a line behind its word: any count of items, each after a gap
 unfoldable pub listing : Reader (List ℕ) → Reader (List ℕ)
 listing item = do
   xs ← items item

@@ -50,6 +50,19 @@ failed = λ text at. fault
 unfoldable pub mark : Char → Reader (Unit {0})
 mark c = λ text at. elim (eqb (byteAt text at) (code c)) [ true ↦ found tt (at + 1) | false ↦ fault ]
 
+-- what stands between two items: one space
+unfoldable pub gap : Reader (Unit {0})
+gap = mark " "
+
+-- goes on from the place behind what was found; where nothing was found, something else
+unfoldable pub branch : {A B : Type 0} → (ℕ → Read B) → Read B → Read A → Read B
+branch next other (found a at) = next at
+branch next other fault = other
+
+-- one reader behind what a first one finds, and where that finds nothing another in its place
+unfoldable pub behind : {A B : Type 0} → Reader A → Reader B → Reader B → Reader B
+behind first body other = λ text at. branch (body text) (other text at) (first text at)
+
 -- the bytes of a word stand from a place on
 unfoldable pub begins : List ℕ → ℕ → List ℕ → Bool
 begins text at [] = true

@@ -1,8 +1,8 @@
--- Items, brackets and tables. Items in a bracket are parted by one space, with none inside the ends.
+-- Items, brackets and tables. Items in a bracket are parted by a gap, with none inside the ends.
 use Prim.Native.Nat.{ℕ, zero, suc}
 use mathlib.Core.List.{List, [], _∷_, _++_}
 use lib.ListN.{length}
-use Rattle.reader.specs.Reading.{ascii, Reader, _>>=_, _>>_, done, failed, mark, opened}
+use Rattle.reader.specs.Reading.{Reader, _>>=_, _>>_, done, failed, mark, gap, behind}
 use Rattle.reader.specs.Numbers.{number}
 
 -- a number, as a list of one
@@ -11,13 +11,13 @@ cell = do
   v ← number
   done (v ∷ [])
 
--- k items parted by one space
+-- k items parted by gaps
 unfoldable pub parted : Reader (List ℕ) → ℕ → Reader (List ℕ)
 parted item zero = failed
 parted item (suc zero) = item
 parted item (suc (suc k)) = do
   xs ← item
-  mark " "
+  gap
   ys ← parted item (suc k)
   done (xs ++ ys)
 
@@ -38,11 +38,11 @@ table n (suc s) = bracket (table n s) n
 unfoldable pub pair : Reader (List ℕ)
 pair = bracket cell 2
 
--- at most k items, as many as there are, each after a space
+-- at most k items, as many as there are, each after a gap
 unfoldable pub itemsUpTo : ℕ → Reader (List ℕ) → Reader (List ℕ)
 itemsUpTo zero item = done []
-itemsUpTo (suc k) item = opened (ascii " ") (do xs ← item; ys ← itemsUpTo k item; done (xs ++ ys)) (done [])
+itemsUpTo (suc k) item = behind gap (do xs ← item; ys ← itemsUpTo k item; done (xs ++ ys)) (done [])
 
--- any count of items, each after a space: a text has no more items than bytes
+-- any count of items, each after a gap: a text has no more items than bytes
 unfoldable pub items : Reader (List ℕ) → Reader (List ℕ)
 items item = λ text at. itemsUpTo (length text) item text at

@@ -1,7 +1,7 @@
 // Reading the lines of an algebra: its size line and its operation lines.
 use crate::reading::Number;
 use crate::reading::begins_with;
-use crate::reading::byte_at;
+use crate::reading::gap_end;
 use crate::reading::read_number;
 use crate::reading::read_table;
 ghost use mathlib.Core.Path.{_≡_};
@@ -21,19 +21,20 @@ pub struct OperationLine {
     pub cells: usize,
 }
 
-// A number after a space.
+// A number after a gap.
 pub fn read_spaced_number(text: &[u8], at: usize) -> Number
     requires { ⌜ at ≤ length (now text) ⌝ }
     ensures { λ r. ⌜ NumberRead (now (text .entry)) at (spacedNumber (now (text .entry)) at) r ⌝ }
 {
-    if byte_at(text, at) != b' ' {
+    let after = gap_end(text, at);
+    if after == at {
         return Number {
             ok: false,
             value: 0,
             next: at,
         };
     }
-    read_number(text, at + 1)
+    read_number(text, after)
 }
 
 // The size line: `[size 4]`.
@@ -64,17 +65,18 @@ pub fn read_size(text: &[u8], at: usize) -> Number
     }
 }
 
-// The arity of an operation line and the space after it.
+// The arity of an operation line and the gap after it.
 fn read_arity(text: &[u8], at: usize) -> Number
     requires { ⌜ at ≤ length (now text) ⌝ }
     ensures { λ r. ⌜ NumberRead (now (text .entry)) at (arity (now (text .entry)) at) r ⌝ }
 {
     let s = read_spaced_number(text, at);
-    let after = s.next;
+    let next = s.next;
     if !s.ok {
         return s;
     }
-    if byte_at(text, after) != b' ' {
+    let after = gap_end(text, next);
+    if after == next {
         return Number {
             ok: false,
             value: 0,
@@ -84,7 +86,7 @@ fn read_arity(text: &[u8], at: usize) -> Number
     Number {
         ok: true,
         value: s.value,
-        next: after + 1,
+        next: after,
     }
 }
 

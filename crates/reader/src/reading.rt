@@ -5,7 +5,7 @@ ghost use lib.ListN.{length};
 ghost use Rattle.reader.specs.Reading.{byteAt, begins};
 ghost use Rattle.reader.specs.Numbers.{digitAt, number};
 ghost use Rattle.reader.specs.Tables.{cell, table, parted, items};
-ghost use Rattle.reader.specs.InnerPromises.{NumberRead, Roomy, Stored};
+ghost use Rattle.reader.specs.InnerPromises.{GapRead, NumberRead, Roomy, Stored};
 
 // A number that was read, and the place after it; where `ok` is false, nothing.
 pub struct Number {
@@ -55,6 +55,17 @@ pub fn begins_with(text: &[u8], at: usize, word: &[u8]) -> bool
         i += 1;
     }
     true
+}
+
+// The place behind what stands between two items; the place itself where no such thing stands.
+pub fn gap_end(text: &[u8], at: usize) -> usize
+    requires { ⌜ at ≤ length (now text) ⌝ }
+    ensures { λ r. ⌜ GapRead (now (text .entry)) at r ⌝ }
+{
+    if byte_at(text, at) != b' ' {
+        return at;
+    }
+    at + 1
 }
 
 // A number from 0 to 255 without leading zeros.
@@ -160,7 +171,7 @@ pub fn read_table(text: &[u8], at: usize, arity: u8, n: u8, cells: &mut [u8], pu
     }
 }
 
-// So many tables of the arity below, parted by one space.
+// So many tables of the arity below, parted by gaps.
 fn read_rows(
     text: &[u8],
     at: usize,
@@ -191,17 +202,18 @@ fn read_rows(
             put: so_far,
         };
     }
-    if byte_at(text, next) != b' ' {
+    let after = gap_end(text, next);
+    if after == next {
         return Spot {
             ok: false,
             at: next,
             put: so_far,
         };
     }
-    read_rows(text, next + 1, arity, n, left - 1, cells, so_far)
+    read_rows(text, after, arity, n, left - 1, cells, so_far)
 }
 
-// Any count of tables of an arity, each after a space.
+// Any count of tables of an arity, each after a gap.
 pub fn read_items(text: &[u8], at: usize, arity: u8, n: u8, cells: &mut [u8], put: usize) -> Spot
     requires { ⌜ Roomy (now text) at (now cells) put ⌝ }
     requires { ⌜ 0 < n ⌝ }
@@ -209,8 +221,9 @@ pub fn read_items(text: &[u8], at: usize, arity: u8, n: u8, cells: &mut [u8], pu
 {
     let mut next = at;
     let mut so_far = put;
-    while byte_at(text, next) == b' ' {
-        let item = read_table(text, next + 1, arity, n, cells, so_far);
+    let mut after = gap_end(text, next);
+    while after != next {
+        let item = read_table(text, after, arity, n, cells, so_far);
         next = item.at;
         so_far = item.put;
         if !item.ok {
@@ -220,6 +233,7 @@ pub fn read_items(text: &[u8], at: usize, arity: u8, n: u8, cells: &mut [u8], pu
                 put: so_far,
             };
         }
+        after = gap_end(text, next);
     }
     Spot {
         ok: true,

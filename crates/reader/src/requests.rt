@@ -40,7 +40,7 @@ pub fn goes_on(asked: Asked) -> bool
     }
 }
 
-// Any count of tables of an arity, each after a space, to the line's end.
+// Any count of tables of an arity, each after a gap, to the line's end.
 fn read_listing(text: &[u8], at: usize, arity: u8, n: u8, room: &mut [u8], put: usize) -> Spot
     requires { ⌜ Roomy (now text) at (now room) put ⌝ }
     requires { ⌜ 0 < n ⌝ }

@@ -10,19 +10,14 @@ read-spaced-number-requires c κs = search needs
 returns : tie.Need-returns
 returns c = search arity-missing
 
-byte-at-requires : tie.Need-byte-at-requires
-byte-at-requires c κs = search needs
+gap-end-requires : tie.Need-gap-end-requires
+gap-end-requires c κs = search needs
 
 returns-2 : tie.Need-returns-2
 returns-2 c = search arity-unparted
-
-add-t7 : tie.Need-add-t7
-add-t7 c = search needs
 
 returns-3 : tie.Need-returns-3
 returns-3 c = search arity-read
 
 pub read-arity-spec : {M : Type 1} → statement M
-read-arity-spec =
-    tie.close
-    (tie.spec read-spaced-number-requires returns byte-at-requires returns-2 add-t7 returns-3)
+read-arity-spec = tie.close (tie.spec read-spaced-number-requires returns gap-end-requires returns-2 returns-3)

@@ -16,6 +16,7 @@ use Rattle.reader.proofs.reading.read_table.Reads as read-table
 use Rattle.reader.proofs.reading.read_table.Kinds as read-table-kinds
 use Rattle.reader.proofs.reading.+read_rows+read_table.Lts-read_table as read-table-lts
 use Rattle.reader.proofs.reading.byte_at.Reads as byte-at-reads
+use Rattle.reader.proofs.reading.gap_end.Reads as gap-end-reads
 use Rattle.reader.proofs.reading.read_cell.Reads as read-cell-reads
 use Rattle.reader.proofs.reading.+read_rows+read_table.{statement}
 use Rattle.reader.proofs.reading.+read_rows+read_table.Tie.{close}
@@ -44,8 +45,8 @@ read-table-below t =
 read-rows-sub-read-table : (t : ℕ) → read-rows-lts.Need-sub-read-table (
   read-table-below t,
   read-table.Post,
-  byte-at-reads.Asked,
-  byte-at-reads.Learnt,
+  gap-end-reads.Asked,
+  gap-end-reads.Learnt,
   read-rows-below t,
   read-rows.Post,
 ) (read-rows-at t) read-rows.Post
@@ -54,8 +55,8 @@ read-rows-sub-read-table t c = search needs
 read-rows-read-table-requires : (t : ℕ) → read-rows-lts.Need-read-table-requires (
   read-table-below t,
   read-table.Post,
-  byte-at-reads.Asked,
-  byte-at-reads.Learnt,
+  gap-end-reads.Asked,
+  gap-end-reads.Learnt,
   read-rows-below t,
   read-rows.Post,
 ) (read-rows-at t) read-rows.Post
@@ -66,8 +67,8 @@ read-rows-read-table-requires t c κs =
 read-rows-same-length : (t : ℕ) → read-rows-lts.Need-same-length (
   read-table-below t,
   read-table.Post,
-  byte-at-reads.Asked,
-  byte-at-reads.Learnt,
+  gap-end-reads.Asked,
+  gap-end-reads.Learnt,
   read-rows-below t,
   read-rows.Post,
 ) (read-rows-at t) read-rows.Post
@@ -76,8 +77,8 @@ read-rows-same-length t c = search needs
 read-rows-returns : (t : ℕ) → read-rows-lts.Need-returns (
   read-table-below t,
   read-table.Post,
-  byte-at-reads.Asked,
-  byte-at-reads.Learnt,
+  gap-end-reads.Asked,
+  gap-end-reads.Learnt,
   read-rows-below t,
   read-rows.Post,
 ) (read-rows-at t) read-rows.Post
@@ -86,8 +87,8 @@ read-rows-returns t c = search (rows-fault, not-true)
 read-rows-same-length-2 : (t : ℕ) → read-rows-lts.Need-same-length-2 (
   read-table-below t,
   read-table.Post,
-  byte-at-reads.Asked,
-  byte-at-reads.Learnt,
+  gap-end-reads.Asked,
+  gap-end-reads.Learnt,
   read-rows-below t,
   read-rows.Post,
 ) (read-rows-at t) read-rows.Post
@@ -96,28 +97,28 @@ read-rows-same-length-2 t c = search needs
 read-rows-returns-2 : (t : ℕ) → read-rows-lts.Need-returns-2 (
   read-table-below t,
   read-table.Post,
-  byte-at-reads.Asked,
-  byte-at-reads.Learnt,
+  gap-end-reads.Asked,
+  gap-end-reads.Learnt,
   read-rows-below t,
   read-rows.Post,
 ) (read-rows-at t) read-rows.Post
 read-rows-returns-2 t c = search (rows-last, not-false)
 
-read-rows-byte-at-requires : (t : ℕ) → read-rows-lts.Need-byte-at-requires (
+read-rows-gap-end-requires : (t : ℕ) → read-rows-lts.Need-gap-end-requires (
   read-table-below t,
   read-table.Post,
-  byte-at-reads.Asked,
-  byte-at-reads.Learnt,
+  gap-end-reads.Asked,
+  gap-end-reads.Learnt,
   read-rows-below t,
   read-rows.Post,
 ) (read-rows-at t) read-rows.Post
-read-rows-byte-at-requires t c κs = search needs
+read-rows-gap-end-requires t c κs = search needs
 
 read-rows-same-length-3 : (t : ℕ) → read-rows-lts.Need-same-length-3 (
   read-table-below t,
   read-table.Post,
-  byte-at-reads.Asked,
-  byte-at-reads.Learnt,
+  gap-end-reads.Asked,
+  gap-end-reads.Learnt,
   read-rows-below t,
   read-rows.Post,
 ) (read-rows-at t) read-rows.Post
@@ -126,28 +127,18 @@ read-rows-same-length-3 t c = search needs
 read-rows-returns-3 : (t : ℕ) → read-rows-lts.Need-returns-3 (
   read-table-below t,
   read-table.Post,
-  byte-at-reads.Asked,
-  byte-at-reads.Learnt,
+  gap-end-reads.Asked,
+  gap-end-reads.Learnt,
   read-rows-below t,
   read-rows.Post,
 ) (read-rows-at t) read-rows.Post
 read-rows-returns-3 t c = search (rows-unparted, not-false)
 
-read-rows-add-read-rows : (t : ℕ) → read-rows-lts.Need-add-read-rows (
-  read-table-below t,
-  read-table.Post,
-  byte-at-reads.Asked,
-  byte-at-reads.Learnt,
-  read-rows-below t,
-  read-rows.Post,
-) (read-rows-at t) read-rows.Post
-read-rows-add-read-rows t c = search needs
-
 read-rows-sub-read-rows : (t : ℕ) → read-rows-lts.Need-sub-read-rows (
   read-table-below t,
   read-table.Post,
-  byte-at-reads.Asked,
-  byte-at-reads.Learnt,
+  gap-end-reads.Asked,
+  gap-end-reads.Learnt,
   read-rows-below t,
   read-rows.Post,
 ) (read-rows-at t) read-rows.Post
@@ -156,21 +147,18 @@ read-rows-sub-read-rows t c = search needs
 read-rows-read-rows-requires : (t : ℕ) → read-rows-lts.Need-read-rows-requires (
   read-table-below t,
   read-table.Post,
-  byte-at-reads.Asked,
-  byte-at-reads.Learnt,
+  gap-end-reads.Asked,
+  gap-end-reads.Learnt,
   read-rows-below t,
   read-rows.Post,
 ) (read-rows-at t) read-rows.Post
-read-rows-read-rows-requires t c κs =
-    let k = c .before .before .before .before .before .before .before .before in
-    let l = within-text (now (k .before .before .before .before .args .text)) (k .read-table .result .at) (omega arith) in
-    omega arith
+read-rows-read-rows-requires t c κs = omega arith
 
 read-rows-same-length-4 : (t : ℕ) → read-rows-lts.Need-same-length-4 (
   read-table-below t,
   read-table.Post,
-  byte-at-reads.Asked,
-  byte-at-reads.Learnt,
+  gap-end-reads.Asked,
+  gap-end-reads.Learnt,
   read-rows-below t,
   read-rows.Post,
 ) (read-rows-at t) read-rows.Post
@@ -179,8 +167,8 @@ read-rows-same-length-4 t c = search needs
 read-rows-returns-4 : (t : ℕ) → read-rows-lts.Need-returns-4 (
   read-table-below t,
   read-table.Post,
-  byte-at-reads.Asked,
-  byte-at-reads.Learnt,
+  gap-end-reads.Asked,
+  gap-end-reads.Learnt,
   read-rows-below t,
   read-rows.Post,
 ) (read-rows-at t) read-rows.Post
@@ -343,8 +331,8 @@ pub +read-rows+read-table-spec : {M : Type 1} → statement M
 +read-rows+read-table-spec = close μ-read-rows μ-read-table (λ t. read-rows-lts.spec (
   read-table-below t,
   read-table.Post,
-  byte-at-reads.Asked,
-  byte-at-reads.Learnt,
+  gap-end-reads.Asked,
+  gap-end-reads.Learnt,
   read-rows-below t,
   read-rows.Post,
 )
@@ -356,10 +344,9 @@ pub +read-rows+read-table-spec : {M : Type 1} → statement M
     (read-rows-returns t)
     (read-rows-same-length-2 t)
     (read-rows-returns-2 t)
-    (read-rows-byte-at-requires t)
+    (read-rows-gap-end-requires t)
     (read-rows-same-length-3 t)
     (read-rows-returns-3 t)
-    (read-rows-add-read-rows t)
     (read-rows-sub-read-rows t)
     (read-rows-read-rows-requires t)
     (read-rows-same-length-4 t)

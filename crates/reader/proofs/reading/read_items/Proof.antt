@@ -1,36 +1,30 @@
--- `reading::read_items` meets its contract, by the laws of Listing and Readers.
-use denote.Ref.{now}
+-- `reading::read_items` meets its contract, by the laws of Listing.
 use Prim.Native.Nat.{_-_}
 use borrow.Author.Needs.{needs}
 use borrow.Author.Tests.{not-true, not-false}
 use native.Mathlib.Omega.{arith}
 use lib.ListN.{length}
 use Rattle.reader.specs.Tables.{table}
+use Rattle.reader.specs.InnerPromises.{GapRead}
 use Rattle.reader.proofs.Listing.{Listed, listed-none, listed-fault, listed-more, listed-all}
-use Rattle.reader.proofs.Readers.{within-text}
 use Rattle.reader.proofs.reading.read_items.Statement.{statement}
 use Rattle.reader.proofs.reading.read_items.Tie as tie
 
 abbrev Inv-loop : tie.InvT-loop
-Inv-loop text at arity n cells₀ put next₀ so-far₀ cells next so-far = Listed text at cells₀ put (table n arity) cells next so-far
+Inv-loop text at arity n cells₀ put next₀ so-far₀ after₀ cells next so-far after =
+    Listed text at cells₀ put (table n arity) cells next so-far × GapRead text next after
 
 abbrev μ-loop : tie.MeasureT-loop
-μ-loop text at arity n cells₀ put next₀ so-far₀ cells next so-far = length text - next
+μ-loop text at arity n cells₀ put next₀ so-far₀ after₀ cells next so-far after = length text - next
+
+gap-end-requires : tie.Need-gap-end-requires Inv-loop μ-loop
+gap-end-requires c κs = search needs
 
 loop-holds : tie.Need-loop-holds Inv-loop μ-loop
-loop-holds c = search listed-none
-
-byte-at-requires : tie.Need-byte-at-requires Inv-loop μ-loop
-byte-at-requires c κs = search needs
-
-add-read-table : tie.Need-add-read-table Inv-loop μ-loop
-add-read-table c = search needs
+loop-holds c = (search listed-none, search needs)
 
 read-table-requires : tie.Need-read-table-requires Inv-loop μ-loop
-read-table-requires c κs =
-    let k = c .before .before .before in
-    let l = within-text (now (k .before .before .before .args .text)) (k .loop .next) (omega arith) in
-    omega arith
+read-table-requires c κs = omega arith
 
 same-length : tie.Need-same-length Inv-loop μ-loop
 same-length c = search needs
@@ -38,11 +32,14 @@ same-length c = search needs
 returns : tie.Need-returns Inv-loop μ-loop
 returns c = search (listed-fault, not-true)
 
+gap-end-requires-2 : tie.Need-gap-end-requires-2 Inv-loop μ-loop
+gap-end-requires-2 c κs = search needs
+
 loop-less : tie.Need-loop-less Inv-loop μ-loop
 loop-less c = search needs
 
 loop-again : tie.Need-loop-again Inv-loop μ-loop
-loop-again c = search (listed-more, not-false)
+loop-again c = (search (listed-more, not-false), search needs)
 
 same-length-2 : tie.Need-same-length-2 Inv-loop μ-loop
 same-length-2 c = search needs
@@ -56,12 +53,12 @@ read-items-spec =
     (tie.spec
     Inv-loop
     μ-loop
+    gap-end-requires
     loop-holds
-    byte-at-requires
-    add-read-table
     read-table-requires
     same-length
     returns
+    gap-end-requires-2
     loop-less
     loop-again
     same-length-2
