@@ -8,20 +8,22 @@ use Rattle.algebra.specs.Algebra.{Algebra}
 use Rattle.theory.specs.Decompose.{factorSpace}
 use Rattle.congruence.specs.declared.Decomposed.{Decomposed}
 use Rattle.congruence.specs.declared.Decomposed.the-variants.{Factors}
-use Rattle.reader.specs.Lines.{generate, contained, separate, decompose}
+use Rattle.reader.specs.Reading.{Read, found, fault}
+use Rattle.reader.specs.Lines.{Request}
+use Rattle.reader.specs.InnerPromises.{requestOf}
 use Rattle.reader.specs.declared.requests.Asked.{Asked}
-use Rattle.reader.specs.declared.requests.Asked.the-variants.{Generate, Contained, Separate, Decompose, Nothing}
 use Rattle.writer.specs.Lines.{refusedLine}
 use Rattle.bracket.specs.Answers.{answer}
 use Rattle.bracket.specs.Fills.{lineRoom}
 
+-- what is written for a request line, as it was read
+abbrev pub lineOf : Algebra → Read Request → List ℕ
+lineOf a (found q next) = answer a q
+lineOf a fault = refusedLine Text
+
 -- what is written for a request, where these numbers were stored
 abbrev pub lineFor : Algebra → List ℕ → Asked → List ℕ
-lineFor a xs Generate = answer a (generate xs)
-lineFor a xs Contained = answer a (contained xs)
-lineFor a xs (Separate v w) = answer a (separate v w)
-lineFor a xs Decompose = answer a decompose
-lineFor a xs Nothing = refusedLine Text
+lineFor a xs asked = lineOf a (requestOf xs 0 asked)
 
 -- an algebra of n elements, and room for its longest line
 pub record LineFits (n : ℕ) (out : List ℕ) : Type 0 where

@@ -96,13 +96,14 @@ requestOf xs next (Separate v w) = found (separate v w) next
 requestOf xs next Decompose = found decompose next
 requestOf xs next Nothing = fault
 
+-- whether a reader found anything
+abbrev pub isFound : {A : Type 0} → Read A → Bool
+isFound (found a next) = true
+isFound fault = false
+
 -- something was asked, so that the run goes on
 abbrev pub goesOn : Asked → Bool
-goesOn Generate = true
-goesOn Contained = true
-goesOn (Separate v w) = true
-goesOn Decompose = true
-goesOn Nothing = false
+goesOn asked = isFound (requestOf [] 0 asked)
 
 -- a request came to what `d` says, and its numbers stand in the storage from `put` on
 pub record Requested (text : List ℕ) (at : ℕ) (lent : List ℕ) (put : ℕ) (d : Read Request) (after : List ℕ) (r : RequestLine) : Type 0 where

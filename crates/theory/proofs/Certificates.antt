@@ -1,6 +1,4 @@
 -- Certify says yes to just the lists that document 01 describes, and to whatever Decompose lists.
--- first, so that a wrong definition is refused by an example that it makes false
-use Rattle.theory.proofs.Examples.{Examples}
 use Prim.Native.Nat.{ℕ, _<_}
 use mathlib.Core.Bool.{Bool, not, _&&_, _||_}
 use mathlib.Core.List.{List, map, List·Memᴰ as Member}
