@@ -14,7 +14,7 @@ use Rattle.kernel.specs.Kernel.{bit}
 use Rattle.equivalence.specs.Lent.{written, laid}
 use Rattle.reader.specs.Laying.{Laid}
 use Rattle.reader.proofs.Laying.{laid-none, laid-more}
-use Rattle.bracket.specs.Transcript.{State, goes, ends}
+use Rattle.bracket.specs.Transcript.{State, goes}
 use Rattle.bracket.specs.Fills.{lineRoom, Position, midway, over, due, pieceOf, positionAfter, Fill, ended, short, takes}
 use Rattle.bracket.specs.Standings.{stateOf, positionBy, positionOf, Sound, Kept, Filling}
 use Rattle.bracket.specs.InnerSteps.{stepOf, Lent, Stepping, closedAt, Lined}

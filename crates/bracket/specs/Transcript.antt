@@ -1,7 +1,7 @@
 -- The whole output as a function of the whole input.
 use Prim.Native.Nat.{ℕ, zero, suc, _+_}
 use mathlib.Core.Bool.{Bool, true, false, not, _&&_}
-use mathlib.Core.List.{List, [], _∷_, _++_}
+use mathlib.Core.List.{List, [], _++_}
 use lib.Dec.{leb, ltb}
 use lib.ListN.{length}
 use Rattle.equivalence.specs.declared.Refusal.the-variants.{Text}

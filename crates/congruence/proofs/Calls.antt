@@ -1,8 +1,8 @@
 -- The calls of Decompose and Quotient on an accepted algebra with room enough: what they answer and write, and demand 3 over them together.
 -- first, so that a wrong definition is refused by an example that it makes false
 use Rattle.congruence.proofs.Examples.{examples}
-use Prim.Native.Nat.{ℕ, _-_, _*_, _≤_, _<_}
-use mathlib.Core.List.{List, [], _∷_, _++_}
+use Prim.Native.Nat.{ℕ, _-_, _≤_, _<_}
+use mathlib.Core.List.{List, []}
 use mathlib.Core.Path.{_≡_, sym, ap, subst, _∙_}
 use native.Mathlib.Omega.{arith}
 use lib.Dec.{T}
@@ -11,7 +11,7 @@ use lib.Seq.{take-at}
 use Rattle.equivalence.specs.Equivalence.{Map, isMap, blocks}
 use Rattle.equivalence.specs.Lists.{concat}
 use Rattle.equivalence.specs.Lent.{stretch, written}
-use Rattle.equivalence.specs.Refusal.{lowest, mapTest, spaceTest}
+use Rattle.equivalence.specs.Refusal.{lowest, mapTest}
 use Rattle.equivalence.proofs.Refusals.{lowest-none, lowest-next, lowest-append, serve-passed, space-passed}
 use Rattle.equivalence.proofs.Stretches.{stretch-concat}
 use Rattle.equivalence.proofs.Tests.{T?}

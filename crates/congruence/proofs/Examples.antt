@@ -1,6 +1,6 @@
 -- Document 01's examples, and the small inputs of its reasons, computed from the definitions of the calls.
-use mathlib.Core.Path.{_≡_, refl}
-use Rattle.equivalence.specs.Equivalence.{isMap, holds, inside, roots, blocks, blockOf, mapOf, identity, whole, same, isIdentity, meet, meetAll, maps, best}
+use mathlib.Core.Path.{refl}
+use Rattle.equivalence.specs.Equivalence.{isMap, holds, inside, roots, blocks, mapOf, identity, whole, same, isIdentity, meet, meetAll, maps, best}
 use Rattle.equivalence.specs.Lists.{upTo, every, any, keep, first, concat}
 use Rattle.equivalence.specs.Order.{pairs, notLaterOn, notLater, firstHeld}
 use Rattle.equivalence.specs.Outcome.{success, refusal, writtenOutcome}
@@ -9,7 +9,6 @@ use Rattle.equivalence.specs.Lent.{written, lentAfter}
 use Rattle.algebra.specs.Accepted.{algebraTests}
 use Rattle.algebra.specs.Algebra.{cellCount, operationsOf, operations, arguments, place, value}
 use Rattle.algebra.specs.Congruence.{respects, isCongruence, congruences}
-use Rattle.division.specs.Quotient.{quotientTable, quotientCells}
 use Rattle.theory.specs.Decompose.{added, gathered, pruned, listed, reducible, commonPair}
 use Rattle.theory.specs.Extremal.{holdsAll, above, generated, contained, separated}
 use Rattle.congruence.specs.Calls.{congruenceTest, generateCall, containedCall, separateCall, quotientCall, decomposed, factorBytes, decomposeCall}

@@ -1,53 +1,51 @@
 -- Demand 2 over the calls: an answer that is no refusal shows that the tests passed and what was written; and Certify says yes to Decompose's list.
-use Prim.Native.Nat.{ℕ, _+_, _-_, _*_, _/_, _%_, _≤_, _<_}
-use mathlib.Core.Bool.{true, not}
-use mathlib.Core.List.{List, [], _++_, append-nil}
+use Prim.Native.Nat.{ℕ, _+_, _-_, _*_, _/_, _%_, _<_}
+use mathlib.Core.Bool.{true}
+use mathlib.Core.List.{List, [], append-nil}
 use mathlib.Core.Path.{_≡_, refl, sym, ap, subst, _∙_}
 use native.Mathlib.Nat.{mul-div-cancel}
 use native.Mathlib.Omega.{arith}
 use lib.Arith.{digits-mod}
-use lib.Dec.{T, not-T}
+use lib.Dec.{T}
 use lib.ListN.{length, getD, take, drop}
 use lib.Seq.{take-at, drop-at}
-use Rattle.equivalence.specs.Calls.{twoMapsTests, twoMapsCheck, twoMapsCall, meetCall, joinCall}
+use Rattle.equivalence.specs.Calls.{twoMapsCheck, twoMapsCall, meetCall, joinCall}
 use Rattle.equivalence.specs.Equivalence.{Map, isMap, blocks, meet, join}
 use Rattle.equivalence.specs.Lists.{every, concat}
 use Rattle.equivalence.specs.Refusal.{Test, lowest, answered, serve}
 use Rattle.equivalence.specs.Lent.{written, lentAfter}
 use Rattle.equivalence.proofs.BlockNumbers.{blocks-le}
 use Rattle.equivalence.proofs.Lists.{every-of, member-index}
-use Rattle.equivalence.proofs.Maps.{of-isMap, isMap-of}
-use Rattle.equivalence.proofs.Refusals.{lowest-none, passed-append, of-passed}
-use Rattle.equivalence.proofs.Tests.{T?, true-is}
+use Rattle.equivalence.proofs.Maps.{of-isMap}
+use Rattle.equivalence.proofs.Refusals.{lowest-none}
+use Rattle.equivalence.proofs.Tests.{true-is}
 use Rattle.equivalence.specs.declared.Check.{Check}
 use Rattle.equivalence.specs.declared.Check.the-variants.{Passed, Failed}
 use Rattle.equivalence.specs.declared.Refusal.{Refusal}
 use Rattle.equivalence.specs.declared.Written.{Written}
 use Rattle.equivalence.specs.declared.Written.the-variants.{Done, Refused as WriteRefused}
-use Rattle.algebra.specs.Accepted.{algebraTests, Accepted}
+use Rattle.algebra.specs.Accepted.{Accepted}
 use Rattle.algebra.specs.Algebra.{Algebra, cellCount}
-use Rattle.algebra.specs.Congruence.{isCongruence, Congruence}
+use Rattle.algebra.specs.Congruence.{Congruence}
 use Rattle.algebra.proofs.Accepted.{accepted-wellFormed}
 use Rattle.division.specs.Quotient.{quotientCells, quotient}
 use Rattle.listing.specs.Listing.{listing}
 use Rattle.listing.proofs.Listings.{listing-concat, concat-length}
-use Rattle.listing.proofs.ListTests.{every-listing}
 use Rattle.theory.specs.Certify.{certified}
 use Rattle.theory.specs.Decompose.{reducible, listed}
 use Rattle.theory.specs.Extremal.{generated, contained, separated}
-use Rattle.theory.proofs.Factors.{listed-long, listed-law}
+use Rattle.theory.proofs.Factors.{listed-long}
 use Rattle.theory.proofs.Quotients.{quotientCells-length}
-use Rattle.congruence.specs.Calls.{congruenceTest, mapsTest, generateTests, generateCall, containedTests, containedCall, separateTests, separateCall, quotientSpace, quotientTests, quotientCall, decomposed, factorBytes, decomposeTests, decomposeCall, certifyTests, certifyCall}
+use Rattle.congruence.specs.Calls.{generateTests, generateCall, containedTests, containedCall, separateTests, separateCall, quotientTests, quotientCall, decomposed, factorBytes, decomposeTests, decomposeCall, certifyTests, certifyCall}
 use Rattle.congruence.specs.Demands.{LeastCongruence, GreatestCongruence, EarliestCongruence, MeetRight, JoinRight, QuotientAtMembers}
 use Rattle.congruence.specs.Meanings.{WroteMap, quotientIn, WroteQuotient, Meanings}
-use Rattle.congruence.proofs.Calls.{factors-reducible, quotient-answer, quotient-bytes, quotient-algebra, blocks-injective}
+use Rattle.congruence.proofs.Calls.{factors-reducible, quotient-algebra, blocks-injective}
 use Rattle.congruence.proofs.Decomposing.{factorBytes-yes}
 use Rattle.congruence.proofs.Demands.{meet-right, join-right, generated-least, contained-greatest, separated-right, quotient-at-members, listed-right, listed-certified-yes}
-use Rattle.congruence.proofs.Serving.{algebra-passed, of-generateTests, of-containedTests, of-separateTests, of-quotientTests, of-decomposeTests, maps-passed, certify-yes, of-congruenceTest}
+use Rattle.congruence.proofs.Serving.{algebra-passed, of-generateTests, of-containedTests, of-separateTests, of-quotientTests, of-decomposeTests, maps-passed, certify-yes}
 use Rattle.congruence.specs.declared.Generated.the-variants.{Merges, Refused as GenerateRefused}
 use Rattle.congruence.specs.declared.Divided.{Divided}
 use Rattle.congruence.specs.declared.Divided.the-variants.{Blocks, Refused as DivideRefused}
-use Rattle.congruence.specs.declared.Decomposed.{Decomposed}
 use Rattle.congruence.specs.declared.Decomposed.the-variants.{Factors, Refused as DecomposeRefused}
 use Rattle.congruence.specs.declared.Certified.the-variants.{Yes}
 

@@ -2,8 +2,8 @@
 -- reason among its tests, and only so; and a refusal leaves the lent bytes as they were.
 use Prim.Native.Nat.{ℕ}
 use mathlib.Core.Bool.{Bool, true, false}
-use mathlib.Core.List.{List, []}
-use mathlib.Core.Path.{_≡_, refl, sym, ap, _∙_}
+use mathlib.Core.List.{List}
+use mathlib.Core.Path.{_≡_, refl, ap, _∙_}
 use native.Mathlib.Omega.{arith}
 use lib.Dec.{T}
 use lib.ListN.{length}
@@ -23,15 +23,13 @@ use Rattle.equivalence.specs.declared.Written.the-variants.{Done, Refused as Wr
 use Rattle.algebra.specs.Accepted.{algebraTests}
 use Rattle.algebra.specs.Algebra.{Algebra}
 use Rattle.theory.specs.Certify.{certified}
-use Rattle.theory.specs.Decompose.{reducible, listed}
+use Rattle.theory.specs.Decompose.{reducible}
 use Rattle.congruence.specs.Calls.{congruenceTest, mapsIn, mapsTest, generateTests, generateCall, containedTests, containedCall, separateTests, separateCall, quotientTests, quotientCall, decomposed, factorBytes, decomposeTests, decomposeCall, certifyTests, certifyCall}
 use Rattle.congruence.specs.Reasons.{RefusalRight, Reasons}
 use Rattle.congruence.proofs.Decomposing.{decomposed-yes, decomposed-no, factorBytes-no}
 use Rattle.congruence.specs.declared.Generated.the-variants.{Merges, Refused as GenerateRefused}
 use Rattle.congruence.specs.declared.Divided.the-variants.{Blocks, Refused as DivideRefused}
-use Rattle.congruence.specs.declared.Decomposed.{Decomposed}
-use Rattle.congruence.specs.declared.Decomposed.the-variants.{Factors, Irreducible, Refused as DecomposeRefused}
-use Rattle.congruence.specs.declared.Certified.{Certified}
+use Rattle.congruence.specs.declared.Decomposed.the-variants.{Irreducible, Refused as DecomposeRefused}
 use Rattle.congruence.specs.declared.Certified.the-variants.{Yes, No, Refused as CertifyRefused}
 
 -- ---- the tests of each service rise

@@ -1,6 +1,6 @@
 -- The tests of the services: the algebra's and then each other one, where it applies and where it is passed over; and the answer with the lent
 -- bytes, where a test declines and where all pass.
-use Prim.Native.Nat.{ℕ, _-_, _*_, _≤_, _<_, _/_, _%_}
+use Prim.Native.Nat.{ℕ, _-_, _≤_, _<_, _/_, _%_}
 use mathlib.Core.Bool.{Bool, true, false, not, _||_}
 use mathlib.Core.List.{List, [], _∷_, _++_}
 use mathlib.Core.Logic.{inl, inr}
@@ -10,7 +10,7 @@ use native.Mathlib.Nat.{div-add-mod'}
 use native.Mathlib.Omega.{arith}
 use lib.Dec.{T, eqb, ltb, T-not, not-T, eqb→eq, ltb→lt, lt→ltb}
 use lib.ListN.{length, getD}
-use Rattle.equivalence.specs.Equivalence.{Map, isMap, blocks}
+use Rattle.equivalence.specs.Equivalence.{Map, isMap}
 use Rattle.equivalence.specs.Lists.{every}
 use Rattle.equivalence.specs.Refusal.{Test, lowest, mapTest, spaceTest, answered, serve, pairsTest, elementsTest, equalTest}
 use Rattle.equivalence.specs.Lent.{written}
@@ -18,7 +18,7 @@ use Rattle.equivalence.proofs.Maps.{isMap-of}
 use Rattle.equivalence.proofs.Refusals.{space-passed, lowest-next, lowest-here, of-passed, lowest-append, lowest-failed, passed-append, serve-passed, serve-failed, of-mapTest, space-refused, of-spaceTest}
 use Rattle.equivalence.proofs.Tests.{T?, pick-yes, pick-no, or-left, or-right, or-cases, eq→eqb, T-of, not-T-of}
 use Rattle.algebra.specs.Accepted.{algebraTests, Accepted}
-use Rattle.algebra.specs.Algebra.{Algebra, cellCount}
+use Rattle.algebra.specs.Algebra.{Algebra}
 use Rattle.algebra.specs.Congruence.{isCongruence}
 use Rattle.algebra.proofs.Accepted.{every-at, accepted-wellFormed}
 use Rattle.congruence.specs.Calls.{congruenceTest, mapsIn, mapsTest, generateTests, containedTests, separateTests, quotientSpace, quotientTests, decomposeTests, certifyTests, certifyCall}

@@ -8,9 +8,8 @@ use lib.ListN.{length, take, drop, length-append, length-drop}
 use lib.Seq.{drop-drop, drop-append-seam}
 use Rattle.reader.proofs.Laying.{laid-part}
 use Rattle.bracket.specs.Transcript.{output, transcript}
-use Rattle.bracket.specs.Fills.{Position, fresh, over, due}
+use Rattle.bracket.specs.Fills.{over, due}
 use Rattle.bracket.specs.Standings.{positionOf, unread, Sound, Filling, FillPromise}
-use Rattle.bracket.specs.InnerSteps.{Lent}
 use Rattle.bracket.proofs.Calling.{sound-able}
 use Rattle.bracket.proofs.Fills.{remaining, fill-remaining, left, fill-less}
 use Rattle.bracket.proofs.Gathering.{goes-left}

@@ -2,12 +2,11 @@
 -- block more adds, and that all of them make the table.
 use Prim.Native.Nat.{ℕ, zero, suc, _+_, _*_, _^_, _≤_, _<_}
 use mathlib.Core.Path.{_≡_, refl, sym, ap, _∙_}
-use mathlib.Core.List.{List, [], _∷_, _++_, map, append-assoc, append-nil, map-append}
+use mathlib.Core.List.{List, [], _∷_, _++_, map, append-nil, map-append}
 use native.Mathlib.Numerals.{add-one}
 use native.Mathlib.Nat.{pow-zero, pow-succ', suc-mul, mul-one, mul-le-mul-right}
 use native.Mathlib.Omega.{arith}
-use lib.ListN.{length, take, drop, set, length-append, length-take, length-drop, take-append-drop}
-use lib.Seq.{take-at, drop-at, drop-drop, length-take-le, set-split}
+use lib.ListN.{length, length-append}
 use Rattle.algebra.proofs.Powers.{power-one}
 use Rattle.equivalence.specs.Equivalence.{byte}
 use Rattle.equivalence.specs.Lists.{upTo, concat}

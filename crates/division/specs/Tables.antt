@@ -1,10 +1,9 @@
 -- The tables of a quotient as the walk over them writes them, from the first argument inwards.
 use Prim.Native.Nat.{ℕ, zero, suc, _+_, _*_, _^_, _≤_, _<_}
-use mathlib.Core.List.{List, [], _∷_, _++_, map}
-use lib.ListN.{length, getD, take, drop}
+use mathlib.Core.List.{List, [], _∷_, map}
+use lib.ListN.{length, getD, take}
 use Rattle.equivalence.specs.Lists.{upTo, concat}
 use Rattle.equivalence.specs.Equivalence.{byte}
-use Rattle.equivalence.specs.Lent.{written}
 use Rattle.algebra.specs.Algebra.{cellCount}
 
 -- g 0, g 1 and so on up to g (k - 1), one after the other

@@ -66,12 +66,6 @@ of-inside n a b t x y l k e =
     (of-below n (λ y. not (holds a x y) || holds b x y) (of-below n (λ x. every (λ y. not (holds a x y) || holds b x y) (upTo n)) t x l) y k)
     (holds-of a x y e))
 
-pub inside-refl : (n : ℕ) (a : Map) → T (inside n a a)
-inside-refl n a = inside-of n a a (λ x y l k e. e)
-
-pub inside-trans : (n : ℕ) (a b c : Map) → T (inside n a b) → T (inside n b c) → T (inside n a c)
-inside-trans n a b c s t = inside-of n a c (λ x y l k e. of-inside n b c t x y l k (of-inside n a b s x y l k e))
-
 pub low-inside : (n : ℕ) (a b : Map) → IsMap n a → IsMap n b → Inside n a b → (x : ℕ) → x < n → byte b x ≤ byte a x
 low-inside n a b p q h x l =
     let k : byte a x < n = omega (arith, p .low x l) in
@@ -81,9 +75,6 @@ pub map-ext : (n : ℕ) (a b : Map) → IsMap n a → IsMap n b → Inside n a b
 map-ext n a b p q h k =
     ext-getD 0 a b (p .long ∙ sym (q .long))
     (λ x l. let i : x < n = omega (arith, p .long) in le-antisymm (low-inside n b a q p k x i) (low-inside n a b p q h x i))
-
-pub inside-anti : (n : ℕ) (a b : Map) → IsMap n a → IsMap n b → T (inside n a b) → T (inside n b a) → a ≡ b
-inside-anti n a b p q s t = map-ext n a b p q (of-inside n a b s) (of-inside n b a t)
 
 pub record IsEquivalence (n : ℕ) (related : ℕ → ℕ → Bool) : Type 0 where
   pub same : (x : ℕ) → x < n → T (related x x)

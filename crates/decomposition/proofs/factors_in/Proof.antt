@@ -1,5 +1,5 @@
 -- `factors_in`: what was gathered is a list of maps in the storage, and what is left of it are the factors.
-use Prim.Native.Nat.{_-_, _*_, _≤_}
+use Prim.Native.Nat.{_-_, _≤_}
 use mathlib.Core.Path.{refl, subst}
 use native.Mathlib.Nat.{mul-le-mul-right}
 use native.Mathlib.Omega.{arith}
