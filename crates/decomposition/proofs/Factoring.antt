@@ -1,11 +1,12 @@
 -- Decompose of an accepted algebra: what was gathered is a list of maps in a slice, and what is left of it are the factors; for n = 1 nothing is gathered.
-use Prim.Native.Nat.{ℕ, _-_, _*_, _≤_, _<_}
+use Prim.Native.Nat.{ℕ, _+_, _-_, _*_, _≤_, _<_}
 use mathlib.Core.List.{List, []}
 use mathlib.Core.Path.{_≡_, refl, sym, ap, subst, _∙_}
 use native.Mathlib.Nat.{mul-le-mul-right}
 use native.Mathlib.Omega.{arith}
 use lib.Dec.{T}
-use lib.ListN.{length, getD, drop}
+use lib.ListN.{length, length-map, getD, take, drop}
+use lib.Seq.{length-take-le}
 use Rattle.equivalence.specs.Equivalence.{Map, blocks, whole}
 use Rattle.equivalence.specs.Lists.{concat}
 use Rattle.equivalence.specs.Lent.{stretch, written}
@@ -14,16 +15,36 @@ use Rattle.equivalence.proofs.Lists.{member-at, member-index}
 use Rattle.equivalence.proofs.Maps.{IsMap, isMap-of, whole-map}
 use Rattle.equivalence.proofs.Writing.{written-length}
 use Rattle.algebra.specs.Algebra.{Algebra}
-use Rattle.algebra.proofs.Accepted.{WellFormed}
+use Rattle.algebra.specs.Accepted.{Accepted}
+use Rattle.algebra.proofs.Accepted.{WellFormed, accepted-wellFormed}
 use Rattle.theory.specs.Decompose.{gathered, pruned, listed, factorSpace, reducible}
 use Rattle.listing.specs.Listing.{listing, MapsListed}
 use Rattle.theory.proofs.CommonPair.{commonPair-one}
 use Rattle.theory.proofs.Factors.{Gathered, gathered-law, listed-law, split}
 use Rattle.listing.proofs.Listings.{listing-at, listing-concat, concat-length}
-use Rattle.decomposition.specs.Factored.{Factored}
+use Rattle.decomposition.specs.Pruning.{chosen, Chosen, Needed}
+use Rattle.equivalence.specs.declared.Element.{Element}
+use Rattle.decomposition.specs.Gathering.{GatheredRight}
+use Rattle.decomposition.specs.declared.gather.Collected.{Collected}
+use Rattle.decomposition.specs.declared.gather.Collected.the-variants.{All, Joined}
+use Rattle.decomposition.specs.Factored.{Storage, FoundIn, Writable, foundWritten, Factored}
+use Rattle.decomposition.specs.declared.Found.{Found}
 use Rattle.decomposition.specs.declared.Found.the-variants.{Factors, Irreducible}
 
-module _ {a : Algebra} (c : WellFormed a) where
+-- a list that was found, by what the answer is
+module _ {r : Found} {k : ℕ} (e : r ≡ Factors k) (n : ℕ) (maps needed lent : List ℕ) where
+  pub list-writable : Writable n maps r needed lent → Chosen n maps k needed × (k * n ≤ length lent)
+  unfolding Writable
+  list-writable = subst (λ (z : Found). Writable n maps z needed lent) e
+
+  pub list-written : {after : List ℕ} → after ≡ written (concat (chosen n maps k needed)) lent → after ≡ foundWritten n maps r needed lent
+  unfolding foundWritten
+  list-written f = rw e f
+
+module _ (a : Algebra) (accepted : Accepted a) where
+  c : WellFormed a
+  c = accepted-wellFormed a accepted
+
   all : List Map
   all = gathered (a .size) a (whole (a .size))
 
@@ -42,17 +63,18 @@ module _ {a : Algebra} (c : WellFormed a) where
       omega (arith, gathered-all .short)
 
   -- what was gathered, as a list of maps in a slice
-  module _ {k : ℕ} {bytes : List ℕ} (lent : List ℕ) (number : k ≡ length (gathered (a .size) a (whole (a .size)))) (laid : bytes ≡ written (concat (gathered (a .size) a (whole (a .size)))) lent)
+  module _ {k : ℕ} {bytes : List ℕ} (lent : List ℕ) (number : k ≡ length (gathered (a .size) a (whole (a .size))))
+      (laid : bytes ≡ written (concat (gathered (a .size) a (whole (a .size)))) lent)
       (room : factorSpace (a .size) ≤ length lent) where
-    pub listing-all : listing (a .size) k bytes ≡ gathered (a .size) a (whole (a .size))
+    listing-all : listing (a .size) k bytes ≡ gathered (a .size) a (whole (a .size))
     unfolding written all
     listing-all = rw (number, laid) (listing-concat (a .size) all (drop (length (concat all)) lent) (λ i l. all-map i l .long))
 
-    pub gathered-few : k ≤ a .size - 1
+    gathered-few : k ≤ a .size - 1
     unfolding all
     gathered-few = omega (arith, few)
 
-    pub maps-listed : MapsListed (a .size) k bytes
+    maps-listed : MapsListed (a .size) k bytes
     unfolding all
     maps-listed =
         let enough : k * a .size ≤ length lent = omega (arith, room, mul-le-mul-right (a .size) gathered-few) in
@@ -67,15 +89,65 @@ module _ {a : Algebra} (c : WellFormed a) where
               (subst (λ (m : Map). IsMap (a .size) m) (sym (sym (listing-at (a .size) k bytes i l) ∙ ap (λ (ms : List Map). getD ms i []) listing-all)) (all-map i (omega arith)));
         }
 
-    pub kept-few : length (pruned (a .size) [] (listing (a .size) k bytes)) ≤ 63
-    unfolding listed
-    kept-few = rw listing-all (omega (arith, listed-law a c .few, c .most))
+    -- the factors: those of the list that are needed
+    module _ {r : ℕ} {needed : List ℕ} (h : Needed (a .size) k bytes r needed) where
+      left : chosen (a .size) bytes r needed ≡ listed a
+      unfolding listed
+      left = h .left ∙ ap (pruned (a .size) []) listing-all
 
-    -- the factors
-    pub found-factors : {r : ℕ} {after : List ℕ} (out : List ℕ) → T (reducible a) → r ≡ length (pruned (a .size) [] (listing (a .size) k bytes))
-        → after ≡ written (concat (pruned (a .size) [] (listing (a .size) k bytes))) out → Factored a (Factors r) out after
-    unfolding listed
-    found-factors out t e f = (t, rw (e, listing-all), rw (f, listing-all))
+      counted : r ≡ length (listed a)
+      counted = sym (length-map (take r needed) (stretch (a .size) bytes) ∙ length-take-le r needed (h .numbers .room)) ∙ ap length left
+
+      kept-few : r ≤ 63
+      kept-few = omega (arith, counted, listed-law a c .few, c .most)
+
+      found-listed : T (reducible a) → FoundIn a (Factors r) bytes needed
+      unfolding FoundIn
+      found-listed t = (t, counted, h .numbers, left)
+
+  -- storage for any algebra is enough for this one
+  module _ {maps suffixes met needed : List ℕ} (s : Storage maps suffixes met needed) where
+    pub storage-fits : (a .size ≤ length met) × (factorSpace (a .size) ≤ length maps)
+    storage-fits =
+        let most : a .size - 1 ≤ 63 = omega (arith, c .most) in
+        (omega (arith, s .meets, c .most), omega (arith, s .gathered, c .most, mul-le-mul-right (a .size) most))
+
+    module _ {r : Collected} {k : ℕ} (e : r ≡ All k) (after : List ℕ) (g : GatheredRight a r maps after) where
+      all-gathered : GatheredRight a (All k) maps after
+      all-gathered = subst (λ (z : Collected). GatheredRight a z maps after) e g
+
+      pub gathered-fits : MapsListed (a .size) k after × (k * a .size + a .size ≤ length suffixes) × (k ≤ length needed)
+      gathered-fits =
+          let h = gathered-few maps (all-gathered .1) (all-gathered .2) (storage-fits .1) in
+          let room : k * a .size ≤ 63 * a .size = mul-le-mul-right (a .size) (omega (arith, c .most)) in (
+            maps-listed maps (all-gathered .1) (all-gathered .2) (storage-fits .1),
+            omega (arith, s .ends, c .most),
+            omega (arith, s .numbers, c .most),
+          )
+
+      module _ {count : ℕ} (marks : List ℕ) (n : Needed (a .size) k after count marks) where
+        pub marked-few : count ≤ 63
+        marked-few = kept-few maps (all-gathered .1) (all-gathered .2) (storage-fits .1) n
+
+        pub marked-found : FoundIn a (Factors count) after marks
+        marked-found = found-listed maps (all-gathered .1) (all-gathered .2) (storage-fits .1) n (all-gathered .0)
+
+    pub joined-found : {r : Collected} {x y : Element} → r ≡ Joined x y → (after marks : List ℕ) → GatheredRight a r maps after → FoundIn a (Irreducible x y) after marks
+    unfolding FoundIn
+    joined-found e after marks g = subst (λ (z : Collected). GatheredRight a z maps after) e g
+
+  -- what was found, written
+  pub writable : (r : Found) (maps needed lent : List ℕ) → FoundIn a r maps needed → factorSpace (a .size) ≤ length lent → Writable (a .size) maps r needed lent
+  unfolding FoundIn Writable
+  writable (Factors k) maps needed lent f room =
+      let few : k ≤ a .size - 1 = omega (arith, f .1, listed-law a c .few) in (f .2, omega (arith, room, mul-le-mul-right (a .size) few))
+  writable (Irreducible x y) maps needed lent f room = tt
+
+  pub found-written : (r : Found) (maps needed lent : List ℕ) {after : List ℕ} → FoundIn a r maps needed → after ≡ foundWritten (a .size) maps r needed lent
+      → Factored a r lent after
+  unfolding FoundIn foundWritten
+  found-written (Factors k) maps needed lent f e = (f .0, f .1, e ∙ ap (λ (ms : List Map). written (concat ms) lent) (f .3))
+  found-written (Irreducible x y) maps needed lent f e = (f .0, f .1, e)
 
   -- 11 for n = 1: nothing is gathered
   pub found-one : a .size ≡ 1 → (out : List ℕ) → Factored a (Irreducible (record { 0 = 0 }) (record { 0 = 0 })) out out

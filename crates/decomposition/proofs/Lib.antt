@@ -1,3 +1,4 @@
 pub mod Gathering
 pub mod Pruning
+pub mod Writing
 pub mod Factoring

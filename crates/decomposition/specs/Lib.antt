@@ -1,3 +1,3 @@
 pub mod Gathering
-pub mod Turns
+pub mod Pruning
 pub mod Factored

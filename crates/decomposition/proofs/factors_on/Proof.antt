@@ -4,7 +4,9 @@ use Rattle.decomposition.proofs.factors_on.Statement.{statement}
 use Rattle.decomposition.proofs.factors_on.Tie as tie
 
 factors-in-requires : tie.Need-factors-in-requires
-factors-in-requires c κs = let p = c .before .before .before .before .before .before .before .pre in (p .0, (p .1 .0, (search needs, (search needs, (search needs, p .1 .1)))))
+factors-in-requires c κs =
+    let p = c .before .before .before .before .before .before .before .before .pre in
+    (p .0, (p .1 .0, (record { gathered = search needs; ends = search needs; meets = search needs; numbers = search needs }, p .1 .1)))
 
 same-length : tie.Need-same-length
 same-length c = search needs

@@ -1,17 +1,17 @@
--- `prune`: the meets of the suffixes, then every map in its turn.
+-- `mark_needed`: the meets of the suffixes, then every map in its turn.
 use native.Mathlib.Omega.{arith}
 use borrow.Author.Needs.{needs}
-use Rattle.decomposition.proofs.prune.prune.Statement.{statement}
-use Rattle.decomposition.proofs.prune.prune.Tie as tie
+use Rattle.decomposition.proofs.prune.mark_needed.Statement.{statement}
+use Rattle.decomposition.proofs.prune.mark_needed.Tie as tie
 
 suffix-meets-requires : tie.Need-suffix-meets-requires
 suffix-meets-requires c κs = search needs
 
-keep-needed-requires : tie.Need-keep-needed-requires
-keep-needed-requires c κs =
+mark-in-turn-requires : tie.Need-mark-in-turn-requires
+mark-in-turn-requires c κs =
     let p = c .before .before .before .before .before .before .before .before .before .before .before .before .before .before .pre in
     let w = c .before .before .before .before .before .before .before .suffix-meets in
-    (p .0, (w .ensures, (omega (arith, w .kept .1 .1 .1 .1 .0), (omega (arith, w .kept .1 .1 .1 .0), omega arith))))
+    (p .0, (w .ensures, (omega (arith, w .kept .1 .1 .1 .1 .0), (omega (arith, w .kept .1 .1 .1 .0), p .1 .1 .1))))
 
 same-length : tie.Need-same-length
 same-length c = search needs
@@ -25,12 +25,12 @@ same-length-3 c = search needs
 returns : tie.Need-returns
 returns c = search needs
 
-pub prune-spec : {M : Type 1} → statement M
-prune-spec =
+pub mark-needed-spec : {M : Type 1} → statement M
+mark-needed-spec =
     tie.close
     (tie.spec
     suffix-meets-requires
-    keep-needed-requires
+    mark-in-turn-requires
     same-length
     same-length-2
     same-length-3

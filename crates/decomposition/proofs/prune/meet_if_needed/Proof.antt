@@ -1,0 +1,36 @@
+-- `meet_if_needed`: the map is dropped, or met.
+use borrow.Author.Needs.{needs}
+use Rattle.decomposition.proofs.Pruning.{turn-drop, turn-keep}
+use Rattle.decomposition.proofs.prune.meet_if_needed.Statement.{statement}
+use Rattle.decomposition.proofs.prune.meet_if_needed.Tie as tie
+
+meets-in-identity-requires : tie.Need-meets-in-identity-requires
+meets-in-identity-requires c κs = search needs
+
+same-length : tie.Need-same-length
+same-length c = search needs
+
+returns : tie.Need-returns
+returns c = search turn-drop
+
+meet-with-requires : tie.Need-meet-with-requires
+meet-with-requires c κs =
+    let p = c .before .before .before .before .before .before .before .pre in
+    (p .0, (p .1 .0, (p .1 .1 .1 .0, (p .1 .1 .1 .1 .0, p .1 .1 .1 .1 .1 .1))))
+
+same-length-2 : tie.Need-same-length-2
+same-length-2 c = search needs
+
+returns-2 : tie.Need-returns-2
+returns-2 c = search turn-keep
+
+pub meet-if-needed-spec : {M : Type 1} → statement M
+meet-if-needed-spec =
+    tie.close
+    (tie.spec
+    meets-in-identity-requires
+    same-length
+    returns
+    meet-with-requires
+    same-length-2
+    returns-2)
