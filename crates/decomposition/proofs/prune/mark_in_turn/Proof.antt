@@ -10,7 +10,7 @@ use Rattle.decomposition.proofs.prune.mark_in_turn.Tie as tie
 
 abbrev Inv-loop : tie.InvT-loop
 Inv-loop n count maps suffixes met₀ needed₀ kept₀ i₀ at₀ met needed kept i at =
-    (length met ≡ length met₀) × (length needed ≡ length needed₀) × Pruning n count maps suffixes kept i at met needed
+    (length met ≡ length met₀) × Pruning n count maps suffixes kept i at met needed × (length needed ≡ length needed₀)
 
 abbrev μ-loop : tie.MeasureT-loop
 μ-loop n count maps suffixes met₀ needed₀ kept₀ i₀ at₀ met needed kept i at = count - i
@@ -19,38 +19,38 @@ whole-into-requires : tie.Need-whole-into-requires Inv-loop μ-loop
 whole-into-requires c κs = search needs
 
 loop-holds : tie.Need-loop-holds Inv-loop μ-loop
-loop-holds c = (refl, refl, search pruning-start)
+loop-holds c = (refl, search pruning-start, refl)
 
 add-next : tie.Need-add-next Inv-loop μ-loop
-add-next c = omega (arith, pruning-part (c .before .loop .inv .2) (c .loop-test .taken))
+add-next c = omega (arith, pruning-part (c .before .loop .inv .1) (c .loop-test .taken))
 
 cast-needed : tie.Need-cast-needed Inv-loop μ-loop
-cast-needed c = omega (arith, pruning-part (c .before .loop .inv .2) (c .loop-test .taken))
+cast-needed c = omega (arith, pruning-part (c .before .loop .inv .1) (c .loop-test .taken))
 
 slice-write-needed : tie.Need-slice-write-needed Inv-loop μ-loop
-slice-write-needed c = omega (arith, pruning-part (c .before .loop .inv .2) (c .loop-test .taken))
+slice-write-needed c = omega (arith, pruning-part (c .before .loop .inv .1) (c .loop-test .taken))
 
 sub-meet-if-needed : tie.Need-sub-meet-if-needed Inv-loop μ-loop
-sub-meet-if-needed c = omega (arith, pruning-part (c .before .loop .inv .2) (c .loop-test .taken))
+sub-meet-if-needed c = omega (arith, pruning-part (c .before .loop .inv .1) (c .loop-test .taken))
 
 part-meet-if-needed-start : tie.Need-part-meet-if-needed-start Inv-loop μ-loop
-part-meet-if-needed-start c = omega (arith, pruning-part (c .before .loop .inv .2) (c .loop-test .taken))
+part-meet-if-needed-start c = omega (arith, pruning-part (c .before .loop .inv .1) (c .loop-test .taken))
 
 part-meet-if-needed-end : tie.Need-part-meet-if-needed-end Inv-loop μ-loop
-part-meet-if-needed-end c = omega (arith, pruning-part (c .before .loop .inv .2) (c .loop-test .taken))
+part-meet-if-needed-end c = omega (arith, pruning-part (c .before .loop .inv .1) (c .loop-test .taken))
 
 sub-meet-if-needed-2 : tie.Need-sub-meet-if-needed-2 Inv-loop μ-loop
-sub-meet-if-needed-2 c = omega (arith, pruning-part (c .before .before .loop .inv .2) (c .before .loop-test .taken))
+sub-meet-if-needed-2 c = omega (arith, pruning-part (c .before .before .loop .inv .1) (c .before .loop-test .taken))
 
 part-meet-if-needed-start-2 : tie.Need-part-meet-if-needed-start-2 Inv-loop μ-loop
-part-meet-if-needed-start-2 c = omega (arith, pruning-part (c .before .before .loop .inv .2) (c .before .loop-test .taken))
+part-meet-if-needed-start-2 c = omega (arith, pruning-part (c .before .before .loop .inv .1) (c .before .loop-test .taken))
 
 part-meet-if-needed-end-2 : tie.Need-part-meet-if-needed-end-2 Inv-loop μ-loop
-part-meet-if-needed-end-2 c = omega (arith, pruning-part (c .before .before .loop .inv .2) (c .before .loop-test .taken))
+part-meet-if-needed-end-2 c = omega (arith, pruning-part (c .before .before .loop .inv .1) (c .before .loop-test .taken))
 
 meet-if-needed-requires : tie.Need-meet-if-needed-requires Inv-loop μ-loop
 meet-if-needed-requires c κs =
-    let p = c .before .before .before .before .loop .inv .2 in
+    let p = c .before .before .before .before .loop .inv .1 in
     let l = c .before .before .before .loop-test .taken in
     let f = pruning-fit p l in
     let g = pruning-canonical p l in
@@ -59,7 +59,7 @@ meet-if-needed-requires c κs =
 add-kept : tie.Need-add-kept Inv-loop μ-loop
 add-kept c =
     let test = c .before .before .before .before .before .before in
-    let p = test .before .loop .inv .2 in
+    let p = test .before .loop .inv .1 in
     omega (arith, pruning-more p (test .loop-test .taken) (c .before .before .meet-if-needed .ensures) .few, pruning-part p (test .loop-test .taken))
 
 add-i : tie.Need-add-i Inv-loop μ-loop
@@ -73,16 +73,16 @@ loop-again c =
     let w = c .before .before .meet-if-needed in
     let test = c .before .before .before .before .before .before in
     let l = test .before .loop in
-    (w .kept .1 .1 .1 .0 ∙ l .inv .0, length-set (l .needed) (l .kept) (l .i) ∙ l .inv .1, pruning-more (l .inv .2) (test .loop-test .taken) (w .ensures))
+    (w .kept .1 .1 .1 .0 ∙ l .inv .0, pruning-more (l .inv .1) (test .loop-test .taken) (w .ensures), length-set (l .needed) (l .kept) (l .i) ∙ l .inv .2)
 
 same-length : tie.Need-same-length Inv-loop μ-loop
 same-length c = search needs
 
 same-length-2 : tie.Need-same-length-2 Inv-loop μ-loop
-same-length-2 c = c .before .loop .inv .1
+same-length-2 c = c .before .loop .inv .2
 
 returns : tie.Need-returns Inv-loop μ-loop
-returns c = pruning-all (c .before .loop .inv .2) (c .loop-test .left)
+returns c = pruning-all (c .before .loop .inv .1) (c .loop-test .left)
 
 pub mark-in-turn-spec : {M : Type 1} → statement M
 mark-in-turn-spec =
