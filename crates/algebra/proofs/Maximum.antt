@@ -4,7 +4,7 @@ use mathlib.Core.List.{List}
 use native.Mathlib.Decide.{ℕ-discrete}
 use native.Mathlib.Omega.{arith}
 use lib.ListN.{getD}
-use Rattle.kernel.specs.Largest.{Larger, Largest}
+use Rattle.kernel.specs.InnerLargest.{Larger, Largest}
 
 pub largest-none : (s : List ℕ) → Largest 0 s 0
 largest-none s = record { above = λ j l. absurd (omega arith); least = λ k l h. l }

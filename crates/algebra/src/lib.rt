@@ -5,7 +5,7 @@ ghost use lib.ListN.{length, getD};
 ghost use Rattle.equivalence.specs.Refusal.{lowest};
 ghost use Rattle.algebra.specs.Algebra.{algebraIn, cellCount};
 ghost use Rattle.algebra.specs.Accepted.{algebraTests};
-ghost use Rattle.kernel.specs.Largest.{Larger, Largest};
+ghost use Rattle.kernel.specs.InnerLargest.{Larger, Largest};
 
 // The largest number of elements, of operations, of arguments and of cells.
 const MAX_SIZE: usize = 64;

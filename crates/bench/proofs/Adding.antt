@@ -8,7 +8,7 @@ use native.Mathlib.Omega.{arith}
 use lib.Dec.{T}
 use lib.ListN.{length, take}
 use Rattle.equivalence.specs.Equivalence.{Map, byte, isMap, identity, blocks}
-use Rattle.kernel.specs.Kernel.{Canonical}
+use Rattle.kernel.specs.InnerKernel.{Canonical}
 use Rattle.equivalence.specs.Refusal.{lowest}
 use Rattle.equivalence.specs.Lent.{written}
 use Rattle.equivalence.proofs.BlockNumbers.{blocks-le}
@@ -80,7 +80,7 @@ front-canonical n l t =
     let p = of-isMap n (take n l) t in
     record {
       below = λ x h. rw (front-byte n l x h) at (p .low x h);
-      root = λ x h.
+      named = λ x h.
           let k : byte l x < n = omega (arith, rw (front-byte n l x h) at (p .low x h)) in
           sym (front-byte n l (byte l x) k) ∙ (rw (front-byte n l x h) at (p .named x h));
     }

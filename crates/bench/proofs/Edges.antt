@@ -3,7 +3,7 @@ use Prim.Native.Nat.{ℕ}
 use mathlib.Core.Bool.{true, false}
 use mathlib.Core.List.{List, [], _∷_}
 use mathlib.Core.Path.{_≡_, refl}
-use Rattle.equivalence.specs.Equivalence.{Map, isMap, holds, inside, roots, blocks, mapOf, identity, maps, best}
+use Rattle.equivalence.specs.Equivalence.{Map, isMap, holds, inside, namesOf, blocks, mapOf, identity, maps, best}
 use Rattle.equivalence.specs.Lists.{upTo, every, keep, first, concat}
 use Rattle.equivalence.specs.Refusal.{lowest, sizeTest, answered, elementsTest}
 use Rattle.equivalence.specs.Lent.{written}
@@ -66,7 +66,7 @@ pub record Edges : Type 0 where
       × (lostAfter 8 clearedThen ≡ 1)
 
 pub edges : Edges
-unfolding upTo every first holds concat mapOf keep maps roots blocks best inside isMap identity isCongruence operations operationsOf cellCount arguments place value respects congruences holdsAll above extended lowest algebraTests sizeTest elementsTest answered written sheetTest benchTest tallyTest benched startCall mapByAdd lostByAdd placeTests handedTests addCall clearTests clearCall mapOn sheetWith zeroSheet eightOf zeroBench freshBench sheetOf withSheet withMap raisedBy blocksLost onSheet sheetAfter lostAfter
+unfolding upTo every first holds concat mapOf keep maps namesOf blocks best inside isMap identity isCongruence operations operationsOf cellCount arguments place value respects congruences holdsAll above extended lowest algebraTests sizeTest elementsTest answered written sheetTest benchTest tallyTest benched startCall mapByAdd lostByAdd placeTests handedTests addCall clearTests clearCall mapOn sheetWith zeroSheet eightOf zeroBench freshBench sheetOf withSheet withMap raisedBy blocksLost onSheet sheetAfter lostAfter
 edges =
     record {
       seven = refl;

@@ -10,7 +10,7 @@ use lib.Dec.{T}
 use lib.ListN.{length, drop, getD, length-set}
 use lib.Seq.{take-at, drop-at, getD-set-same, getD-set-other, set-out}
 use Rattle.equivalence.specs.Equivalence.{Map, byte, identity}
-use Rattle.kernel.specs.Kernel.{Filled}
+use Rattle.kernel.specs.InnerKernel.{Filled}
 use Rattle.equivalence.specs.Lists.{every}
 use Rattle.equivalence.specs.Lent.{written}
 use Rattle.equivalence.proofs.Lists.{every-of, of-every, member-at, member-index}

@@ -1,7 +1,7 @@
 -- Document 01's worked input with its output, and small texts for the points that are easily read otherwise, computed.
 use Prim.Native.String.{String}
 use mathlib.Core.Path.{_≡_, refl}
-use Rattle.equivalence.specs.Equivalence.{isMap, holds, inside, roots, blocks, blockOf, mapOf, identity, whole, same, isIdentity, meet, meetAll, maps, best, join}
+use Rattle.equivalence.specs.Equivalence.{isMap, holds, inside, namesOf, blocks, blockOf, mapOf, identity, whole, same, isIdentity, meet, meetAll, maps, best, join}
 use Rattle.equivalence.specs.Lists.{upTo, every, any, keep, first, concat}
 use Rattle.equivalence.specs.Lent.{stretch, written, lentAfter}
 use Rattle.equivalence.specs.Order.{pairs, notLaterOn, notLater, firstHeld}
@@ -75,5 +75,5 @@ pub record Examples : Type 0 where
       × Gives "[size 2]\r\n" "[refused 14]\n"
 
 pub examples : Examples
-unfolding ascii onward _>>=_ mark gap branch behind begins opened digitAt number digits decimal gapBytes cell parted bracket table pair itemsUpTo items close spacedNumber sizeLine tested afterSize sized arity lastTable operationTests cellTest withOperation afterTable afterArity operation listing generating containing twoNumbers request spaced bracketed spacedBrackets line refusedNumbers outcomeLine success refusal writtenOutcome generatedOutcome decomposedOutcome refusedLine mapLine generatedLine factorsLine answer afterLine afterRequest firstStep operationStep requestStep step output run transcript isMap holds inside roots blocks blockOf mapOf identity whole same isIdentity meet meetAll maps best join upTo every any keep first concat stretch pairs notLaterOn notLater firstHeld numberOf lowest sizeTest mapTest spaceTest answered written lentAfter serve algebraTests cellCount operationsOf operations arguments place value respects isCongruence congruences pairsTest elementsTest equalTest generateCall containedCall separateCall decomposed factorBytes decomposeCall added gathered pruned listed reducible commonPair holdsAll above generated contained separated
+unfolding ascii onward _>>=_ mark gap branch behind begins opened digitAt number digits decimal gapBytes cell parted bracket table pair itemsUpTo items close spacedNumber sizeLine tested afterSize sized arity lastTable operationTests cellTest withOperation afterTable afterArity operation listing generating containing twoNumbers request spaced bracketed spacedBrackets line refusedNumbers outcomeLine success refusal writtenOutcome generatedOutcome decomposedOutcome refusedLine mapLine generatedLine factorsLine answer afterLine afterRequest firstStep operationStep requestStep step output run transcript isMap holds inside namesOf blocks blockOf mapOf identity whole same isIdentity meet meetAll maps best join upTo every any keep first concat stretch pairs notLaterOn notLater firstHeld numberOf lowest sizeTest mapTest spaceTest answered written lentAfter serve algebraTests cellCount operationsOf operations arguments place value respects isCongruence congruences pairsTest elementsTest equalTest generateCall containedCall separateCall decomposed factorBytes decomposeCall added gathered pruned listed reducible commonPair holdsAll above generated contained separated
 examples = record { worked = refl; bare = (refl, refl); ended = (refl, refl, refl, refl, refl); numbers = (refl, refl, refl, refl, refl, refl); early = (refl, refl, refl, refl); late = (refl, refl, refl, refl, refl); nested = refl; order = refl; goes = refl; faulty = (refl, refl, refl, refl, refl, refl, refl) }

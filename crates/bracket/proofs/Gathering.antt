@@ -10,7 +10,7 @@ use borrow.Author.Tests.{lt-ltb, le-ltb}
 use borrow.Rule.Slice.PartMut.{putMid}
 use lib.ListN.{length, take, drop, length-append, length-take, length-drop, drop-of-length-le}
 use lib.Seq.{take-take, take-all, drop-drop, length-take-le}
-use Rattle.kernel.specs.Kernel.{bit}
+use Rattle.kernel.specs.InnerKernel.{bit}
 use Rattle.equivalence.specs.Lent.{written, laid}
 use Rattle.reader.specs.Laying.{Laid}
 use Rattle.reader.proofs.Laying.{laid-none, laid-more}

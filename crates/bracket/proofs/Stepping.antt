@@ -21,7 +21,7 @@ use Rattle.reader.specs.Reading.{ascii, begins}
 use Rattle.reader.specs.Lines.{sizeLine, tested, afterSize, sized, operation, request}
 use Rattle.writer.specs.Lines.{refusedLine}
 use Rattle.bracket.specs.Transcript.{State, goes, ends, textLimit, afterLine, afterRequest, firstStep, operationStep, requestStep, step}
-use Rattle.kernel.specs.Kernel.{bit}
+use Rattle.kernel.specs.InnerKernel.{bit}
 use Rattle.reader.specs.InnerPromises.{NumberRead, passing, progressOf, operationProgress, OperationRead, requestOf, goesOn, Requested}
 use Rattle.reader.specs.Laying.{Laid}
 use Rattle.bracket.specs.InnerPromises.{lineFor}

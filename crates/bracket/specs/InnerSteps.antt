@@ -8,7 +8,7 @@ use lib.ListN.{length}
 use Rattle.bracket.specs.Transcript.{State, Step, goes, ends}
 use Rattle.bracket.specs.Fills.{lineRoom, due, pieceOf, positionAfter}
 use Rattle.bracket.specs.Standings.{stateOf, positionOf, Sound, Kept}
-use Rattle.kernel.specs.Kernel.{bit}
+use Rattle.kernel.specs.InnerKernel.{bit}
 use Rattle.reader.specs.Laying.{Laid}
 use Rattle.bracket.specs.declared.run.Standing.{Standing}
 use Rattle.bracket.specs.declared.run.Stepped.{Stepped}

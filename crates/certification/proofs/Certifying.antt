@@ -6,7 +6,7 @@ use mathlib.Core.Path.{_≡_, sym, ap, _∙_}
 use native.Mathlib.Omega.{arith}
 use lib.ListN.{length, take, drop}
 use Rattle.equivalence.specs.Equivalence.{Map, byte, isMap, isIdentity, meetAll}
-use Rattle.kernel.specs.Kernel.{Canonical}
+use Rattle.kernel.specs.InnerKernel.{Canonical}
 use Rattle.equivalence.specs.Lists.{upTo, every, any, without}
 use Rattle.equivalence.specs.Lent.{stretch}
 use Rattle.equivalence.specs.Order.{pairs}
@@ -15,8 +15,8 @@ use Rattle.equivalence.proofs.Tests.{both, left, right, T-of, not-T-of, true-is
 use Rattle.algebra.specs.Algebra.{Algebra}
 use Rattle.algebra.specs.Congruence.{isCongruence}
 use Rattle.theory.specs.Certify.{isMaximalFor, certified}
-use Rattle.listing.specs.Listing.{SuffixMeets}
-use Rattle.listing.proofs.Listings.{Begins, begins-sym, begins-is, begins-take, begins-canonical, begins-isIdentity}
+use Rattle.maplist.specs.InnerMapLists.{SuffixMeets}
+use Rattle.maplist.proofs.MapLists.{Begins, begins-sym, begins-is, begins-take, begins-canonical, begins-isIdentity}
 use borrow.Author.Tests.{not-true, not-false}
 
 -- ---- the four conditions

@@ -11,7 +11,7 @@ use lib.Dec.{T-not, not-T}
 use lib.ListN.{length, take}
 use lib.Seq.{ext-getD, length-take-le}
 use Rattle.equivalence.specs.Equivalence.{Map, byte, holds, inside, whole, meet}
-use Rattle.kernel.specs.Kernel.{Canonical, Filled}
+use Rattle.kernel.specs.InnerKernel.{Canonical, Filled}
 use Rattle.equivalence.specs.Lists.{any}
 use Rattle.equivalence.specs.Order.{Pair, pairs}
 use Rattle.equivalence.specs.Lent.{written}
@@ -24,11 +24,11 @@ use Rattle.algebra.specs.Algebra.{Algebra}
 use Rattle.algebra.proofs.Accepted.{WellFormed}
 use Rattle.algebra.proofs.Congruences.{IsCongruence}
 use Rattle.theory.specs.Certify.{isMaximalFor}
-use Rattle.certification.specs.Closures.{Shrunk}
+use Rattle.certification.specs.InnerClosures.{Shrunk}
 use Rattle.theory.specs.Extremal.{extended}
 use Rattle.theory.proofs.Certificates.{of-isMaximalFor, any-isMaximalFor, maximalFor-of}
 use Rattle.theory.proofs.Above.{LeastJoining, extended-law}
-use Rattle.listing.proofs.Listings.{Begins, begins-is, begins-take, begins-written, begins-canonical}
+use Rattle.maplist.proofs.MapLists.{Begins, begins-is, begins-take, begins-written, begins-canonical}
 use Rattle.theory.proofs.Separation.{MaximalFor}
 
 -- ---- shrinking
@@ -103,9 +103,9 @@ shrunk-closure {a} {m} x y {met} {larger} {met′} o k e f g w =
 -- ---- the last meet
 
 module _ {a : Algebra} (w : WellFormed a) {m : Map} (q : IsCongruence a m) {was met : List ℕ} (start : Begins (a .size) was (whole (a .size))) (s : Shrunk a m (λ u v. u < a .size) was met) where
-  -- the closure with any pair is that with the first members of its blocks
-  closure-firsts : (u v : ℕ) → u < a .size → v < a .size → byte m u < byte m v → LeastJoining a m (u, v) (extended a m (byte m u) (byte m v))
-  closure-firsts u v l k o =
+  -- the closure with any pair is that with the smallest members of its blocks
+  closure-names : (u v : ℕ) → u < a .size → v < a .size → byte m u < byte m v → LeastJoining a m (u, v) (extended a m (byte m u) (byte m v))
+  closure-names u v l k o =
       let x : ℕ = byte m u in
       let y : ℕ = byte m v in
       let i : x < a .size = omega (arith, q .map .low u l) in
@@ -125,7 +125,7 @@ module _ {a : Algebra} (w : WellFormed a) {m : Map} (q : IsCongruence a m) {was 
   joined-by : (x y : ℕ) → x < a .size → y < a .size → Holds met x y → (u v : ℕ) → u < a .size → v < a .size → byte m u < byte m v → (c : Map) × LeastJoining a m (u, v) c × Holds c x y
   joined-by x y l k e u v i j o =
       let low : byte m v < a .size = omega (arith, q .map .low v j) in
-      (extended a m (byte m u) (byte m v), closure-firsts u v i j o, s .closures (byte m u) (byte m v) (omega arith) o low (q .map .named u i) (q .map .named v j) x y l k e)
+      (extended a m (byte m u) (byte m v), closure-names u v i j o, s .closures (byte m u) (byte m v) (omega arith) o low (q .map .named u i) (q .map .named v j) x y l k e)
 
   joined-maximal : (x y : ℕ) → x < a .size → y < a .size → Holds met x y → ¬ Holds m x y → MaximalFor a m x y
   joined-maximal x y l k e h =

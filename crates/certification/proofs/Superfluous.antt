@@ -11,26 +11,26 @@ use lib.Dec.{T, T-not, not-T}
 use lib.ListN.{length, take, drop, length-drop}
 use lib.Seq.{take-suc}
 use Rattle.equivalence.specs.Equivalence.{Map, byte, whole, isIdentity, meet, meetAll}
-use Rattle.kernel.specs.Kernel.{Canonical}
+use Rattle.kernel.specs.InnerKernel.{Canonical}
 use Rattle.equivalence.specs.Lists.{upTo, every, without}
 use Rattle.equivalence.specs.Lent.{stretch, written}
 use Rattle.equivalence.proofs.Lists.{below-of, of-below}
 use Rattle.equivalence.proofs.Maps.{whole-map}
 use Rattle.equivalence.proofs.Meets.{meet-map, meetAll-map}
 use Rattle.equivalence.proofs.Tests.{T-of, not-T-of, true-is, false-is}
-use Rattle.listing.specs.Listing.{listing, MapsListed, SuffixMeets}
-use Rattle.listing.proofs.Listings.{Begins, begins-sym, begins-is, begins-take, begins-written, begins-canonical, begins-meet, meetAll-append, meetAll-snoc, listing-length, listing-at, listed-map, listed-room, listed-begins, onwards, part-rest}
+use Rattle.maplist.specs.InnerMapLists.{mapList, MapsListed, SuffixMeets}
+use Rattle.maplist.proofs.MapLists.{Begins, begins-sym, begins-is, begins-take, begins-written, begins-canonical, begins-meet, meetAll-append, meetAll-snoc, mapList-length, mapList-at, listed-map, listed-room, listed-begins, onwards, part-rest}
 
 pub record Needed (n k : ℕ) (maps suffixes : List ℕ) (i at : ℕ) (met : List ℕ) : Type 0 where
   pub listed : MapsListed n k maps
-  pub meets : SuffixMeets n (listing n k maps) suffixes
+  pub meets : SuffixMeets n (mapList n k maps) suffixes
   pub behind : k * n + n ≤ length suffixes
   pub upto : i ≤ k
   pub place : at ≡ i * n
-  pub front : Begins n met (meetAll n (take i (listing n k maps)))
-  pub needed : (j : ℕ) → j < i → T (not (isIdentity n (meetAll n (without j (listing n k maps)))))
+  pub front : Begins n met (meetAll n (take i (mapList n k maps)))
+  pub needed : (j : ℕ) → j < i → T (not (isIdentity n (meetAll n (without j (mapList n k maps)))))
 
-pub needed-start : {n k : ℕ} {maps suffixes : List ℕ} (met : List ℕ) {met′ : List ℕ} → MapsListed n k maps → SuffixMeets n (listing n k maps) suffixes
+pub needed-start : {n k : ℕ} {maps suffixes : List ℕ} (met : List ℕ) {met′ : List ℕ} → MapsListed n k maps → SuffixMeets n (mapList n k maps) suffixes
     → k * n + n ≤ length suffixes → met′ ≡ written (whole n) met → Needed n k maps suffixes 0 0 met′
 unfolding meetAll
 needed-start {n} met p s b e =
@@ -46,11 +46,11 @@ needed-start {n} met p s b e =
 
 module _ {n k : ℕ} {maps suffixes : List ℕ} {i at : ℕ} {met : List ℕ} (t : Needed n k maps suffixes i at met) where
   pub needed-canonical : Canonical n (byte met)
-  needed-canonical = begins-canonical (t .front) (meetAll-map n (take i (listing n k maps)))
+  needed-canonical = begins-canonical (t .front) (meetAll-map n (take i (mapList n k maps)))
 
   -- all are needed
-  pub needed-all : k ≤ i → true ≡ every (λ j. not (isIdentity n (meetAll n (without j (listing n k maps))))) (upTo (length (listing n k maps)))
-  needed-all e = true-is _ (below-of (length (listing n k maps)) _ (λ j l. t .needed j (omega (arith, listing-length n k maps))))
+  pub needed-all : k ≤ i → true ≡ every (λ j. not (isIdentity n (meetAll n (without j (mapList n k maps))))) (upTo (length (mapList n k maps)))
+  needed-all e = true-is _ (below-of (length (mapList n k maps)) _ (λ j l. t .needed j (omega (arith, mapList-length n k maps))))
 
   module _ (l : i < k) where
     next : at + n ≡ suc i * n
@@ -59,11 +59,11 @@ module _ {n k : ℕ} {maps suffixes : List ℕ} {i at : ℕ} {met : List ℕ} (t
     this : Begins n (onwards at maps) (stretch n maps i)
     this = rw (part-rest at maps, t .place) (listed-begins (t .listed) i)
 
-    after : Begins n (onwards (at + n) suffixes) (meetAll n (drop (suc i) (listing n k maps)))
+    after : Begins n (onwards (at + n) suffixes) (meetAll n (drop (suc i) (mapList n k maps)))
     unfolding stretch
     after =
         rw (part-rest (at + n) suffixes, next)
-        (begins-is (begins-sym (begins-take (drop (suc i * n) suffixes))) (t .meets (suc i) (omega (arith, listing-length n k maps))))
+        (begins-is (begins-sym (begins-take (drop (suc i * n) suffixes))) (t .meets (suc i) (omega (arith, mapList-length n k maps))))
 
     -- the map, and the meet behind it, have room
     pub needed-part : (at + n ≤ length maps) × (at + n + n ≤ length suffixes)
@@ -79,24 +79,24 @@ module _ {n k : ℕ} {maps suffixes : List ℕ} {i at : ℕ} {met : List ℕ} (t
     needed-this = begins-canonical this (listed-map (t .listed) i l)
 
     pub needed-after : Canonical n (byte (onwards (at + n) suffixes))
-    needed-after = begins-canonical after (meetAll-map n (drop (suc i) (listing n k maps)))
+    needed-after = begins-canonical after (meetAll-map n (drop (suc i) (mapList n k maps)))
 
     -- those before the map and those behind it meet in the list without it
-    left-out : isIdentity n (meet n met (onwards (at + n) suffixes)) ≡ isIdentity n (meetAll n (without i (listing n k maps)))
-    left-out = ap (isIdentity n) (begins-meet (t .front) after ∙ sym (meetAll-append n (take i (listing n k maps)) (drop (suc i) (listing n k maps))))
+    left-out : isIdentity n (meet n met (onwards (at + n) suffixes)) ≡ isIdentity n (meetAll n (without i (mapList n k maps)))
+    left-out = ap (isIdentity n) (begins-meet (t .front) after ∙ sym (meetAll-append n (take i (mapList n k maps)) (drop (suc i) (mapList n k maps))))
 
     -- the map can be left out, and the answer is no
     pub needed-fails : {r : Bool} → r ≡ isIdentity n (meet n met (onwards (at + n) suffixes)) → r ≡ true
-        → false ≡ every (λ j. not (isIdentity n (meetAll n (without j (listing n k maps))))) (upTo (length (listing n k maps)))
+        → false ≡ every (λ j. not (isIdentity n (meetAll n (without j (mapList n k maps))))) (upTo (length (mapList n k maps)))
     needed-fails e f =
-        false-is _ (λ s. T-not (isIdentity n (meetAll n (without i (listing n k maps)))) (of-below (length (listing n k maps)) (λ j. not (isIdentity n (meetAll n (without j (listing n k maps))))) s i (omega (arith, listing-length n k maps))) (T-of (sym left-out ∙ sym e ∙ f)))
+        false-is _ (λ s. T-not (isIdentity n (meetAll n (without i (mapList n k maps)))) (of-below (length (mapList n k maps)) (λ j. not (isIdentity n (meetAll n (without j (mapList n k maps))))) s i (omega (arith, mapList-length n k maps))) (T-of (sym left-out ∙ sym e ∙ f)))
 
     -- it cannot, and is met
     pub needed-more : {r : Bool} {met′ : List ℕ} → r ≡ isIdentity n (meet n met (onwards (at + n) suffixes)) → r ≡ false → met′ ≡ written (meet n met (onwards at maps)) met
         → Needed n k maps suffixes (i + 1) (at + n) met′
     needed-more {r} {met′} e f g =
         let one : i + 1 ≡ suc i = omega arith in
-        let snoc : take (suc i) (listing n k maps) ≡ take i (listing n k maps) ++ (stretch n maps i ∷ []) = take-suc (listing n k maps) i [] (omega (arith, listing-length n k maps)) ∙ ap (λ (m : Map). take i (listing n k maps) ++ (m ∷ [])) (listing-at n k maps i l) in
+        let snoc : take (suc i) (mapList n k maps) ≡ take i (mapList n k maps) ++ (stretch n maps i ∷ []) = take-suc (mapList n k maps) i [] (omega (arith, mapList-length n k maps)) ∙ ap (λ (m : Map). take i (mapList n k maps) ++ (m ∷ [])) (mapList-at n k maps i l) in
         record {
           listed = t .listed;
           meets = t .meets;
@@ -104,9 +104,9 @@ module _ {n k : ℕ} {maps suffixes : List ℕ} {i at : ℕ} {met : List ℕ} (t
           upto = omega arith;
           place = rw one next;
           front = rw (one, snoc) (begins-is (begins-written (meet n met (onwards at maps)) met g (meet-map n met (onwards at maps)))
-              (begins-meet (t .front) this ∙ sym (meetAll-snoc n (take i (listing n k maps)) (stretch n maps i))));
+              (begins-meet (t .front) this ∙ sym (meetAll-snoc n (take i (mapList n k maps)) (stretch n maps i))));
           needed = λ j h. elim (ℕ-discrete j i) [
-            | yes is ↦ rw is (not-T (isIdentity n (meetAll n (without i (listing n k maps)))) (not-T-of (sym left-out ∙ sym e ∙ f)))
+            | yes is ↦ rw is (not-T (isIdentity n (meetAll n (without i (mapList n k maps)))) (not-T-of (sym left-out ∙ sym e ∙ f)))
             | no is ↦ t .needed j (omega arith)
           ];
         }

@@ -1,1 +1,1 @@
-pub mod Closures
+pub mod InnerClosures

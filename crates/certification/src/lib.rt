@@ -6,28 +6,28 @@ ghost use lib.Dec.{T};
 ghost use lib.ListN.{length};
 ghost use Rattle.equivalence.specs.Lists.{upTo, every, any, without};
 ghost use Rattle.equivalence.specs.Equivalence.{byte, isMap, isIdentity, meetAll};
-ghost use Rattle.kernel.specs.Kernel.{Canonical};
+ghost use Rattle.kernel.specs.InnerKernel.{Canonical};
 ghost use Rattle.equivalence.specs.Order.{pairs};
 ghost use Rattle.algebra.specs.Algebra.{algebraIn};
 ghost use Rattle.algebra.specs.Accepted.{Accepted};
 ghost use Rattle.algebra.specs.Congruence.{Congruence, isCongruence};
 ghost use Rattle.theory.specs.Certify.{isMaximalFor, certified};
-ghost use Rattle.certification.specs.Closures.{Shrunk};
-ghost use Rattle.listing.specs.Listing.{listing, MapsListed, SuffixMeets};
+ghost use Rattle.certification.specs.InnerClosures.{Shrunk};
+ghost use Rattle.maplist.specs.InnerMapLists.{mapList, MapsListed, SuffixMeets};
 use equivalence::blocks::copy;
 use equivalence::map::is_identity;
 use equivalence::map::is_inside;
 use extremal::extended_into;
-use listing::meet_with;
-use listing::meets_in_identity;
-use listing::suffix_meets;
-use listing::whole_into;
+use maplist::meet_with;
+use maplist::meets_in_identity;
+use maplist::suffix_meets;
+use maplist::whole_into;
 
 // Whether every map is a congruence.
 fn all_congruences(n: usize, arities: &[u8], cells: &[u8], count: usize, maps: &[u8]) -> bool
     requires { ⌜ Accepted (algebraIn n arities cells) ⌝ }
     requires { ⌜ MapsListed n count (now maps) ⌝ }
-    ensures { λ r. ⌜ r ≡ every (λ m. isMap n m && isCongruence (algebraIn n (arities .entry) (cells .entry)) m) (listing n count (now (maps .entry))) ⌝ }
+    ensures { λ r. ⌜ r ≡ every (λ m. isMap n m && isCongruence (algebraIn n (arities .entry) (cells .entry)) m) (mapList n count (now (maps .entry))) ⌝ }
 {
     let mut i = 0;
     let mut at = 0;
@@ -45,10 +45,10 @@ fn all_congruences(n: usize, arities: &[u8], cells: &[u8], count: usize, maps: &
 // Whether no map can be left out: whether those before it and those behind it never meet in the identity. `met` is working storage.
 fn none_superfluous(n: usize, count: usize, maps: &[u8], suffixes: &[u8], met: &mut [u8]) -> bool
     requires { ⌜ MapsListed n count (now maps) ⌝ }
-    requires { ⌜ SuffixMeets n (listing n count (now maps)) (now suffixes) ⌝ }
+    requires { ⌜ SuffixMeets n (mapList n count (now maps)) (now suffixes) ⌝ }
     requires { ⌜ count * n + n ≤ length (now suffixes) ⌝ }
     requires { ⌜ n ≤ length (now met) ⌝ }
-    ensures { λ r. ⌜ r ≡ every (λ i. not (isIdentity n (meetAll n (without i (listing n count (now (maps .entry))))))) (upTo (length (listing n count (now (maps .entry))))) ⌝ }
+    ensures { λ r. ⌜ r ≡ every (λ i. not (isIdentity n (meetAll n (without i (mapList n count (now (maps .entry))))))) (upTo (length (mapList n count (now (maps .entry))))) ⌝ }
 {
     whole_into(met, n);
     let mut i = 0;
@@ -65,7 +65,7 @@ fn none_superfluous(n: usize, count: usize, maps: &[u8], suffixes: &[u8], met: &
     true
 }
 
-// `met` becomes its meet with the closure of the map with x and y, where these are first members of two blocks.
+// `met` becomes its meet with the closure of the map with x and y, where these are smallest members of two blocks.
 fn meet_closure(
     n: usize,
     arities: &[u8],
@@ -139,9 +139,9 @@ fn all_maximal(
 ) -> bool
     requires { ⌜ Accepted (algebraIn n arities cells) ⌝ }
     requires { ⌜ MapsListed n count (now maps) ⌝ }
-    requires { ⌜ T (every (λ m. isMap n m && isCongruence (algebraIn n arities cells) m) (listing n count (now maps))) ⌝ }
+    requires { ⌜ T (every (λ m. isMap n m && isCongruence (algebraIn n arities cells) m) (mapList n count (now maps))) ⌝ }
     requires { ⌜ n ≤ length (now met) ⌝ }
-    ensures { λ r. ⌜ r ≡ every (λ m. any (isMaximalFor (algebraIn n (arities .entry) (cells .entry)) m) (pairs n)) (listing n count (now (maps .entry))) ⌝ }
+    ensures { λ r. ⌜ r ≡ every (λ m. any (isMaximalFor (algebraIn n (arities .entry) (cells .entry)) m) (pairs n)) (mapList n count (now (maps .entry))) ⌝ }
 {
     let mut i = 0;
     let mut at = 0;
@@ -170,7 +170,7 @@ fn certified_in(
     requires { ⌜ MapsListed n count (now maps) ⌝ }
     requires { ⌜ length (now suffixes) ≡ 4096 ⌝ }
     requires { ⌜ length (now met) ≡ 64 ⌝ }
-    ensures { λ r. ⌜ r ≡ certified (algebraIn n (arities .entry) (cells .entry)) (listing n count (now (maps .entry))) ⌝ }
+    ensures { λ r. ⌜ r ≡ certified (algebraIn n (arities .entry) (cells .entry)) (mapList n count (now (maps .entry))) ⌝ }
 {
     if !all_congruences(n, arities, cells, count, maps) {
         return false;
@@ -197,7 +197,7 @@ fn certified_on(
 ) -> bool
     requires { ⌜ Accepted (algebraIn n arities cells) ⌝ }
     requires { ⌜ MapsListed n count (now maps) ⌝ }
-    ensures { λ r. ⌜ r ≡ certified (algebraIn n (arities .entry) (cells .entry)) (listing n count (now (maps .entry))) ⌝ }
+    ensures { λ r. ⌜ r ≡ certified (algebraIn n (arities .entry) (cells .entry)) (mapList n count (now (maps .entry))) ⌝ }
 {
     certified_in(n, arities, cells, count, maps, suffixes, met)
 }
@@ -206,7 +206,7 @@ fn certified_on(
 pub fn is_certified(n: usize, arities: &[u8], cells: &[u8], count: usize, maps: &[u8]) -> bool
     requires { ⌜ Accepted (algebraIn n arities cells) ⌝ }
     requires { ⌜ MapsListed n count (now maps) ⌝ }
-    ensures { λ r. ⌜ r ≡ certified (algebraIn n (arities .entry) (cells .entry)) (listing n count (now (maps .entry))) ⌝ }
+    ensures { λ r. ⌜ r ≡ certified (algebraIn n (arities .entry) (cells .entry)) (mapList n count (now (maps .entry))) ⌝ }
 {
     let mut suffixes = [0u8; 4096];
     let mut met = [0u8; 64];

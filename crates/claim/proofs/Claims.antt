@@ -26,7 +26,7 @@ use Rattle.congruence.proofs.Demands.{listed-right}
 use Rattle.congruence.proofs.Decomposing.{decomposed-yes, decomposed-no}
 use Rattle.theory.proofs.Quotients.{quotientCells-length}
 use Rattle.congruence.proofs.Serving.{of-quotientTests, of-decomposeTests}
-use Rattle.division.specs.Quotient.{quotientCells}
+use Rattle.quotient.specs.Quotient.{quotientCells}
 use Rattle.claim.specs.Calls.{factorCount, eleven, lastCall, factorCalls, lentAt, lastAnswer, elevens, CallsMade, LentEnough, EveryLastCall11}
 use Rattle.equivalence.specs.declared.Refusal.{Refusal}
 use Rattle.equivalence.specs.declared.Check.{Check}

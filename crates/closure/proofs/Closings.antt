@@ -10,15 +10,15 @@ use native.Mathlib.Omega.{arith}
 use lib.ListN.{length, getD, set, length-append}
 use lib.Seq.{getD-set-same, getD-set-other}
 use Rattle.equivalence.specs.Equivalence.{byte}
-use Rattle.kernel.specs.Kernel.{Canonical, Within, relabel, Listed}
+use Rattle.kernel.specs.InnerKernel.{Canonical, Within, relabel, Listed}
 use Rattle.kernel.proofs.Kernels.{relabel-same, relabel-other}
 use Rattle.algebra.specs.Algebra.{Algebra}
-use Rattle.translation.specs.Translations.{result, Compatible}
+use Rattle.translation.specs.InnerTranslations.{result, Compatible}
 use Rattle.algebra.proofs.Accepted.{WellFormed}
 use Rattle.algebra.proofs.Congruences.{cells-below}
-use Rattle.closure.specs.Closing.{Begun, Retired}
-use Rattle.sweep.specs.Contexts.{All, ImagesIn, OperationsIn, Contexts, Joined, Unless}
-use Rattle.sweep.specs.Queue.{State, InQueue, Queued, Grown}
+use Rattle.closure.specs.InnerClosing.{Begun, Retired}
+use Rattle.sweep.specs.InnerContexts.{All, ImagesIn, OperationsIn, Contexts, TwoJoined, Unless}
+use Rattle.sweep.specs.InnerQueue.{QueueState, InQueue, Queued, Grown}
 use Rattle.sweep.proofs.Images.{all-map, all-below, below-all, all-append, images-kept, listed-below}
 use Rattle.kernel.proofs.Names.{name-back}
 use Rattle.sweep.proofs.Queues.{in-queue-kept}
@@ -72,23 +72,23 @@ alive-same : {n k : ℕ} {base queue queue′ : ℕ → ℕ} → ((i : ℕ) → 
 alive-same h x m = record { small = m .small; name = m .name; waiting = λ i l e. m .waiting i l (sym (h i l) ∙ e) }
 
 -- element number i of the queue has gone through the translations in use then, together with `to`
-pub record Dealt (a : Algebra) (base : ℕ → ℕ) (s : State) (i : ℕ) : Type 0 where
+pub record Dealt (a : Algebra) (base : ℕ → ℕ) (s : QueueState) (i : ℕ) : Type 0 where
   pub to : ℕ
   pub alive : Alive (a .size) base (s .queue) (i + 1) to
   pub same : s .map to ≡ s .map (s .queue i)
   pub images : OperationsIn a (length (a .arities)) (Alive (a .size) base (s .queue) i) to (s .queue i) (s .map)
 
 -- where the loop stands: the first k of the queue are dealt with, unless v and w are joined
-pub record Running (a : Algebra) (v w k : ℕ) (s : State) (live : List ℕ) (count : ℕ) : Type 0 where
+pub record Running (a : Algebra) (v w k : ℕ) (s : QueueState) (live : List ℕ) (count : ℕ) : Type 0 where
   pub base : ℕ → ℕ
   pub canonical : Canonical (a .size) base
   pub compatible : Compatible a base
   pub within : Within (a .size) base (s .map)
   pub lost : (x : ℕ) → x < a .size → base x ≡ x → (s .map x ≡ x) ⊎ InQueue s x
   pub listed : (x : ℕ) → Alive (a .size) base (s .queue) k x → Listed live count x
-  pub dealt : (Joined v w (s .map) → ⊥) → (i : ℕ) → i < k → Dealt a base s i
+  pub dealt : (TwoJoined v w (s .map) → ⊥) → (i : ℕ) → i < k → Dealt a base s i
 
-pub running-none : {a : Algebra} {v w : ℕ} {s : State} {live : List ℕ} {count : ℕ} → Begun a s live count → Running a v w 0 s live count
+pub running-none : {a : Algebra} {v w : ℕ} {s : QueueState} {live : List ℕ} {count : ℕ} → Begun a s live count → Running a v w 0 s live count
 running-none b = record {
   base = b .base;
   canonical = b .canonical;
@@ -99,7 +99,7 @@ running-none b = record {
   dealt = λ u i l. absurd (omega arith);
 }
 
-module _ (a : Algebra) (ok : WellFormed a) {v w : ℕ} (lv : v < a .size) (lw : w < a .size) {Good : (ℕ → ℕ) → Type 0} {k : ℕ} {s t : State} {live live′ : List ℕ} {count count′ : ℕ}
+module _ (a : Algebra) (ok : WellFormed a) {v w : ℕ} (lv : v < a .size) (lw : w < a .size) {Good : (ℕ → ℕ) → Type 0} {k : ℕ} {s t : QueueState} {live live′ : List ℕ} {count count′ : ℕ}
     (r : Running a v w k s live count) (lk : k < s .size) (q : Queued (a .size) s) (d : Grown (a .size) Good s t)
     (done : Unless v w (OperationsIn a (length (a .arities)) (Listed live count) (s .map (s .queue k)) (s .queue k)) (t .map))
     (out : Retired (s .queue k) live count live′ count′) where
@@ -113,19 +113,19 @@ module _ (a : Algebra) (ok : WellFormed a) {v w : ℕ} (lv : v < a .size) (lw : 
   name-alive : Alive (a .size) (r .base) (t .queue) (k + 1) name
   name-alive = record {
     small = name-small;
-    name = name-back (r .canonical) (q .canonical) (r .within) name name-small (q .canonical .root (s .queue k) (q .small k lk));
+    name = name-back (r .canonical) (q .canonical) (r .within) name name-small (q .canonical .named (s .queue k) (q .small k lk));
     waiting = λ i l e. q .lost i (omega arith)
-        (subst (λ (z : ℕ). s .map z ≡ z) (sym (sym (d .kept i (omega arith)) ∙ e)) (q .canonical .root (s .queue k) (q .small k lk)));
+        (subst (λ (z : ℕ). s .map z ≡ z) (sym (sym (d .kept i (omega arith)) ∙ e)) (q .canonical .named (s .queue k) (q .small k lk)));
   }
 
   alive-before : (i : ℕ) → i ≤ s .size → (x : ℕ) → Alive (a .size) (r .base) (t .queue) i x → Alive (a .size) (r .base) (s .queue) i x
   alive-before i l = alive-same (λ h lh. sym (d .kept h (omega arith)))
 
-  dealt-new : (Joined v w (t .map) → ⊥) → Dealt a (r .base) t k
+  dealt-new : (TwoJoined v w (t .map) → ⊥) → Dealt a (r .base) t k
   dealt-new u = record {
     to = name;
     alive = name-alive;
-    same = d .within name (s .queue k) name-small (q .small k lk) (q .canonical .root (s .queue k) (q .small k lk)) ∙ ap (t .map) (sym (d .kept k lk));
+    same = d .within name (s .queue k) name-small (q .small k lk) (q .canonical .named (s .queue k) (q .small k lk)) ∙ ap (t .map) (sym (d .kept k lk));
     images = λ j lj. subst (λ (z : ℕ). ImagesIn a j (Alive (a .size) (r .base) (t .queue) k) name z (t .map)) (sym (d .kept k lk))
         (images-fewer a j name (s .queue k) (t .map) (Listed live count) (Alive (a .size) (r .base) (t .queue) k) (λ c m. r .listed c (alive-before k (omega arith) c m)) (done u j lj));
   }
@@ -158,8 +158,8 @@ module _ (a : Algebra) (ok : WellFormed a) {v w : ℕ} (lv : v < a .size) (lw : 
 
 -- ---- the end
 
-module _ (a : Algebra) (ok : WellFormed a) {v w k : ℕ} {s : State} {live : List ℕ} {count : ℕ} (r : Running a v w k s live count) (all : s .size ≤ k)
-    (q : Queued (a .size) s) (u : Joined v w (s .map) → ⊥) (j : ℕ) (lj : j < length (a .arities)) where
+module _ (a : Algebra) (ok : WellFormed a) {v w k : ℕ} {s : QueueState} {live : List ℕ} {count : ℕ} (r : Running a v w k s live count) (all : s .size ≤ k)
+    (q : Queued (a .size) s) (u : TwoJoined v w (s .map) → ⊥) (j : ℕ) (lj : j < length (a .arities)) where
   abbrev f : ℕ → ℕ
   f = s .map
 
@@ -220,17 +220,17 @@ module _ (a : Algebra) (ok : WellFormed a) {v w k : ℕ} {s : State} {live : Lis
   base-images : (x : ℕ) → Element x → ImagesIn a j Element x (r .base x) f
   base-images x l =
       images-kept a ok j lj (λ c m. m) l (base-small x l) (r .within)
-      (λ pre post e p h. r .compatible x (r .base x) l (base-small x l) (sym (r .canonical .root x l)) j lj pre post e (all-below (a .size) pre p) (all-below (a .size) post h))
+      (λ pre post e p h. r .compatible x (r .base x) l (base-small x l) (sym (r .canonical .named x l)) j lj pre post e (all-below (a .size) pre p) (all-below (a .size) post h))
 
   -- the result at an argument list is joined with the result at the names
   pub named : (xs : List ℕ) → length xs ≡ getD (a .arities) j 0 → All Element xs → f (result a j xs) ≡ f (result a j (map f xs))
   named xs e p =
       replaced a j f Element (r .base) base-small base-images [] xs (omega arith) tt p
       ∙ settled (s .size) 0 (omega arith) (map (r .base) xs) (map-length (r .base) xs ∙ e)
-      (all-mapped Element (InUse 0) (r .base) (λ x l. record { small = base-small x l; name = r .canonical .root x l; waiting = λ i li. absurd (omega arith) }) xs p)
-      ∙ ap (λ (z : List ℕ). f (result a j z)) (map-twice f (r .base) Element (λ x l. r .within (r .base x) x (base-small x l) l (r .canonical .root x l)) xs p)
+      (all-mapped Element (InUse 0) (r .base) (λ x l. record { small = base-small x l; name = r .canonical .named x l; waiting = λ i li. absurd (omega arith) }) xs p)
+      ∙ ap (λ (z : List ℕ). f (result a j z)) (map-twice f (r .base) Element (λ x l. r .within (r .base x) x (base-small x l) l (r .canonical .named x l)) xs p)
 
-pub running-compatible : (a : Algebra) → WellFormed a → {v w k : ℕ} {s : State} {live : List ℕ} {count : ℕ} → Running a v w k s live count → s .size ≤ k → Queued (a .size) s
+pub running-compatible : (a : Algebra) → WellFormed a → {v w k : ℕ} {s : QueueState} {live : List ℕ} {count : ℕ} → Running a v w k s live count → s .size ≤ k → Queued (a .size) s
     → Unless v w (Compatible a) (s .map)
 running-compatible a ok {s = s} r all q u x y lx ly e j lj pre post z p h =
     let n = a .size in

@@ -11,16 +11,16 @@ use lib.ListN.{length, set}
 use lib.Seq.{getD-set-same, getD-set-other}
 use Rattle.equivalence.specs.Equivalence.{byte}
 use Rattle.kernel.proofs.Names.{bit-most}
-use Rattle.kernel.specs.Kernel.{Filled, bit, names}
-use Rattle.closure.specs.Starts.{Pushed, tally, Collected}
+use Rattle.kernel.specs.InnerKernel.{Filled, bit, names}
+use Rattle.closure.specs.InnerStarts.{Pushed, countOf, Collected}
 
 pub collected-none : (test : ℕ → Bool) (p : ℕ → ℕ) → Collected test 0 p 0
-unfolding tally
+unfolding countOf
 collected-none test p = record { small = λ i l. absurd (omega arith); right = λ i l. absurd (omega arith); all = λ x l. absurd (omega arith); count = refl }
 
-tally-more : (test : ℕ → Bool) (x : ℕ) → tally test (x + 1) ≡ tally test x + bit (test x)
-unfolding tally
-tally-more test x = rw (add-one x)
+countOf-more : (test : ℕ → Bool) (x : ℕ) → countOf test (x + 1) ≡ countOf test x + bit (test x)
+unfolding countOf
+countOf-more test x = rw (add-one x)
 
 module _ (test : ℕ → Bool) {x k k′ : ℕ} {p p′ : ℕ → ℕ} (h : Collected test x p k) where
   wanted-more : test x ≡ true → Pushed x true p k p′ k′ → Collected test (x + 1) p′ k′
@@ -37,7 +37,7 @@ module _ (test : ℕ → Bool) {x k k′ : ℕ} {p p′ : ℕ → ℕ} (h : Coll
       | yes e ↦ (k, (omega (arith, d .count), d .new refl ∙ sym e))
       | no e ↦ let r = h .all y (omega arith) s in (r .0, (omega (arith, r .1 .0, d .count), d .kept (r .0) (r .1 .0) ∙ r .1 .1))
     ];
-    count = omega (arith, d .count, h .count, tally-more test x, ap bit t);
+    count = omega (arith, d .count, h .count, countOf-more test x, ap bit t);
   }
 
   other-more : test x ≡ false → Pushed x false p k p′ k′ → Collected test (x + 1) p′ k′
@@ -48,7 +48,7 @@ module _ (test : ℕ → Bool) {x k k′ : ℕ} {p p′ : ℕ → ℕ} (h : Coll
       | yes e ↦ let c : true ≡ false = sym s ∙ ap test e ∙ t in let z : _≡_ {A = ℕ} 0 1 = cc in absurd (omega arith)
       | no e ↦ let r = h .all y (omega arith) s in (r .0, (omega (arith, r .1 .0, d .count), d .kept (r .0) (r .1 .0) ∙ r .1 .1))
     ];
-    count = omega (arith, d .count, h .count, tally-more test x, ap bit t);
+    count = omega (arith, d .count, h .count, countOf-more test x, ap bit t);
   }
 
   by-answer : (b : Bool) → test x ≡ b → Pushed x b p k p′ k′ → Collected test (x + 1) p′ k′
@@ -58,13 +58,13 @@ module _ (test : ℕ → Bool) {x k k′ : ℕ} {p p′ : ℕ → ℕ} (h : Coll
   pub collected-more : Pushed x (test x) p k p′ k′ → Collected test (x + 1) p′ k′
   collected-more d = by-answer (test x) refl d
 
-tally-most : (test : ℕ → Bool) (n : ℕ) → tally test n ≤ n
-unfolding tally
-tally-most test zero = omega arith
-tally-most test (suc n) = omega (arith, tally-most test n, bit-most (test n))
+countOf-most : (test : ℕ → Bool) (n : ℕ) → countOf test n ≤ n
+unfolding countOf
+countOf-most test zero = omega arith
+countOf-most test (suc n) = omega (arith, countOf-most test n, bit-most (test n))
 
 pub collected-most : {test : ℕ → Bool} {n k : ℕ} {p : ℕ → ℕ} → Collected test n p k → k ≤ n
-collected-most {test} {n} h = omega (arith, h .count, tally-most test n)
+collected-most {test} {n} h = omega (arith, h .count, countOf-most test n)
 
 -- a list that is copied
 pub collected-copied : {test : ℕ → Bool} {n k most : ℕ} {p p₀ p′ : ℕ → ℕ} → Collected test n p k → k ≤ most → Filled most p p₀ p′ → Collected test n p′ k
@@ -76,19 +76,19 @@ collected-copied {test} h l d = record {
 }
 
 -- the names of a map, and the others
-pub tally-names : (f : ℕ → ℕ) (n : ℕ) → tally (λ x. eqb (f x) x) n ≡ names n f
-unfolding tally names
-tally-names f zero = refl
-tally-names f (suc n) = omega (arith, tally-names f n)
+pub countOf-names : (f : ℕ → ℕ) (n : ℕ) → countOf (λ x. eqb (f x) x) n ≡ names n f
+unfolding countOf names
+countOf-names f zero = refl
+countOf-names f (suc n) = omega (arith, countOf-names f n)
 
 bit-not : (b : Bool) → bit b + bit (not b) ≡ 1
 bit-not true = refl
 bit-not false = refl
 
-pub tally-others : (f : ℕ → ℕ) (n : ℕ) → tally (λ x. not (eqb (f x) x)) n + names n f ≡ n
-unfolding tally names
-tally-others f zero = refl
-tally-others f (suc n) = omega (arith, tally-others f n, bit-not (eqb (f n) n))
+pub countOf-others : (f : ℕ → ℕ) (n : ℕ) → countOf (λ x. not (eqb (f x) x)) n + names n f ≡ n
+unfolding countOf names
+countOf-others f zero = refl
+countOf-others f (suc n) = omega (arith, countOf-others f n, bit-not (eqb (f n) n))
 
 -- ---- one push
 
@@ -107,7 +107,7 @@ pushed-yes x k wanted out e l = record {
 }
 
 pub names-total : (f : ℕ → ℕ) {n k : ℕ} {p : ℕ → ℕ} → Collected (λ x. eqb (f x) x) n p k → 0 + names n f ≡ k
-names-total f {n} h = omega (arith, h .count, tally-names f n)
+names-total f {n} h = omega (arith, h .count, countOf-names f n)
 
 pub others-total : (f : ℕ → ℕ) {n k : ℕ} {p : ℕ → ℕ} → Collected (λ x. not (eqb (f x) x)) n p k → k + names n f ≡ n
-others-total f {n} h = omega (arith, h .count, tally-others f n)
+others-total f {n} h = omega (arith, h .count, countOf-others f n)

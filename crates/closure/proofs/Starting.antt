@@ -11,18 +11,18 @@ use lib.Dec.{eqb}
 use lib.ListN.{length}
 use borrow.Author.Tests.{eq-eqb, ne-eqb}
 use Rattle.equivalence.specs.Equivalence.{byte}
-use Rattle.kernel.specs.Kernel.{Canonical, Within, names}
+use Rattle.kernel.specs.InnerKernel.{Canonical, Within, names}
 use Rattle.kernel.proofs.Kernels.{identity-canonical, names-identity}
 use Rattle.algebra.specs.Accepted.{Accepted}
 use Rattle.algebra.specs.Algebra.{Algebra, algebraOf}
-use Rattle.translation.specs.Translations.{result, Compatible, Closed}
+use Rattle.translation.specs.InnerTranslations.{result, Compatible, Closed}
 use Rattle.algebra.proofs.Accepted.{accepted-wellFormed}
 use Rattle.algebra.proofs.Congruences.{cells-below}
-use Rattle.closure.specs.Closing.{Begun}
-use Rattle.sweep.specs.Contexts.{Contexts, Joined, Unless, Bounded}
-use Rattle.sweep.specs.Queue.{State, InQueue, Ready, Grown}
-use Rattle.closure.specs.Starts.{Extends, Collected, Apart, Tried}
-use Rattle.closure.proofs.Collections.{tally-others}
+use Rattle.closure.specs.InnerClosing.{Begun}
+use Rattle.sweep.specs.InnerContexts.{Contexts, TwoJoined, Unless, Bounded}
+use Rattle.sweep.specs.InnerQueue.{QueueState, InQueue, Ready, Grown}
+use Rattle.closure.specs.InnerStarts.{Extends, Collected, Apart, Tried}
+use Rattle.closure.proofs.Collections.{countOf-others}
 use Rattle.sweep.proofs.Sweeps.{each-more}
 
 -- ---- the pairs
@@ -61,7 +61,7 @@ pub canonical-ready : {n : ℕ} {m q : List ℕ} → n ≤ length m → n ≤ le
 canonical-ready {n} {m} a b c = record {
   map-room = a;
   queue-room = b;
-  most = omega (arith, tally-others (byte m) n);
+  most = omega (arith, countOf-others (byte m) n);
   queued = record { canonical = c; small = λ k l. absurd (omega arith); lost = λ k l. absurd (omega arith) };
 }
 
@@ -70,7 +70,7 @@ pub others-ready : {n k : ℕ} {m q : List ℕ} → n ≤ length m → n ≤ len
 others-ready {n} {k} {m} {q} a b c h = record {
   map-room = a;
   queue-room = b;
-  most = omega (arith, h .count, tally-others (byte m) n);
+  most = omega (arith, h .count, countOf-others (byte m) n);
   queued = record {
     canonical = c;
     small = h .small;
@@ -86,10 +86,10 @@ pub others-lost : {n k : ℕ} (f : ℕ → ℕ) {q : ℕ → ℕ} → Collected 
 others-lost f h x l = elim (ℕ-discrete (f x) x) [ yes e ↦ inl e | no e ↦ inr (h .all x l (ap not (ne-eqb (f x) x e))) ]
 
 -- above the identity every element is a context
-pub identity-begun : (a : Algebra) {s : State} {live : List ℕ} → ((x : ℕ) → x < a .size → byte live x ≡ x) → ((x : ℕ) → x < a .size → (s .map x ≡ x) ⊎ InQueue s x) → Begun a s live (a .size)
+pub identity-begun : (a : Algebra) {s : QueueState} {live : List ℕ} → ((x : ℕ) → x < a .size → byte live x ≡ x) → ((x : ℕ) → x < a .size → (s .map x ≡ x) ⊎ InQueue s x) → Begun a s live (a .size)
 identity-begun a {s} h l = record {
   base = λ x. x;
-  canonical = record { below = λ x k. omega arith; root = λ x k. refl };
+  canonical = record { below = λ x k. omega arith; named = λ x k. refl };
   compatible = λ x y lx ly e j lj pre post z p q. ap (λ (v : ℕ). result a j (pre ++ (v ∷ post))) e;
   within = λ x y lx ly e. ap (s .map) e;
   lost = λ x k e. l x k;
@@ -97,7 +97,7 @@ identity-begun a {s} h l = record {
 }
 
 -- above a congruence its names are
-pub congruence-begun : (a : Algebra) {Good : (ℕ → ℕ) → Type 0} {s t : State} {live : List ℕ} {count : ℕ} → Canonical (a .size) (s .map) → Compatible a (s .map)
+pub congruence-begun : (a : Algebra) {Good : (ℕ → ℕ) → Type 0} {s t : QueueState} {live : List ℕ} {count : ℕ} → Canonical (a .size) (s .map) → Compatible a (s .map)
     → Collected (λ x. eqb (s .map x) x) (a .size) (byte live) count → Grown (a .size) Good s t → Begun a t live count
 congruence-begun a {s = s} c h names d = record {
   base = s .map;
@@ -113,7 +113,7 @@ bounded-start total lv lw z e = record { left = lv; right = lw; blocks = omega a
 
 -- ---- endings
 
-pub grown-closed : (a : Algebra) {Good Start : (ℕ → ℕ) → Type 0} {s t u : State} → ((g : ℕ → ℕ) → Good g → Within (a .size) (s .map) g × Start g)
+pub grown-closed : (a : Algebra) {Good Start : (ℕ → ℕ) → Type 0} {s t u : QueueState} → ((g : ℕ → ℕ) → Good g → Within (a .size) (s .map) g × Start g)
     → Grown (a .size) Start s t → Grown (a .size) (Compatible a) t u → Compatible a (u .map) → Good (u .map) → Closed a Good (u .map)
 grown-closed a h d e c good = record {
   canonical = e .queued .canonical;
@@ -124,7 +124,7 @@ grown-closed a h d e c good = record {
 
 -- ---- a try
 
-pub grown-tried : (a : Algebra) {x y v w : ℕ} {s t u : State} → x < a .size → y < a .size → s .size ≡ 0 → Grown (a .size) (λ g. g x ≡ g y) s t → t .map x ≡ t .map y
+pub grown-tried : (a : Algebra) {x y v w : ℕ} {s t u : QueueState} → x < a .size → y < a .size → s .size ≡ 0 → Grown (a .size) (λ g. g x ≡ g y) s t → t .map x ≡ t .map y
     → Grown (a .size) (Compatible a) t u → Unless v w (Compatible a) (u .map) → Tried a x y v w (s .map) (u .map) (u .size)
 grown-tried a {x} {y} lx ly z d j e c = record {
   canonical = e .queued .canonical;
@@ -135,7 +135,7 @@ grown-tried a {x} {y} lx ly z d j e c = record {
   rest = λ b l. e .rest b l ∙ d .rest b l;
 }
 
-pub tried-closed : {a : Algebra} {x y v w r : ℕ} {f f′ : ℕ → ℕ} → Tried a x y v w f f′ r → (Joined v w f′ → ⊥) → Closed a (Extends (a .size) f x y) f′
+pub tried-closed : {a : Algebra} {x y v w r : ℕ} {f f′ : ℕ → ℕ} → Tried a x y v w f f′ r → (TwoJoined v w f′ → ⊥) → Closed a (Extends (a .size) f x y) f′
 tried-closed t u = record { canonical = t .canonical; compatible = t .compatible u; good = t .good; least = t .least }
 
 pub tried-apart : {a : Algebra} {x y v w r : ℕ} {f f′ : ℕ → ℕ} → v < a .size → w < a .size → Tried a x y v w f f′ r → Apart a x y v w f f′ (not (eqb (f′ v) (f′ w)))

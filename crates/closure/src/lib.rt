@@ -6,11 +6,11 @@ ghost use mathlib.Core.Path.{_≡_};
 ghost use Prim.Native.Nat.{ℕ, _+_, _<_, _≤_};
 ghost use lib.ListN.{length};
 ghost use Rattle.equivalence.specs.Equivalence.{byte};
-ghost use Rattle.kernel.specs.Kernel.{Canonical, names};
+ghost use Rattle.kernel.specs.InnerKernel.{Canonical, names};
 ghost use Rattle.algebra.specs.Algebra.{algebraIn};
 ghost use Rattle.algebra.specs.Accepted.{Accepted};
-ghost use Rattle.translation.specs.Translations.{Compatible, Closed};
-ghost use Rattle.closure.specs.Starts.{JoinsPairs, Extends, Heeded, NamesListed, Apart, Tried};
+ghost use Rattle.translation.specs.InnerTranslations.{Compatible, Closed};
+ghost use Rattle.closure.specs.InnerStarts.{JoinsPairs, Extends, RefusedRightlyAbove, NamesListed, Apart, Tried};
 
 pub mod rounds;
 pub mod start;
@@ -152,7 +152,7 @@ fn try_in(
     requires { ⌜ y < n ⌝ }
     requires { ⌜ v < n ⌝ }
     requires { ⌜ w < n ⌝ }
-    requires { ⌜ Heeded (algebraIn n arities cells) (now refused) v w (byte (now m)) ⌝ }
+    requires { ⌜ RefusedRightlyAbove (algebraIn n arities cells) (now refused) v w (byte (now m)) ⌝ }
     requires { ⌜ NamesListed n (byte (now m)) (now live) count ⌝ }
     ensures { λ r. ⌜ Tried (algebraIn n (arities .entry) (cells .entry)) x y v w (byte (now (m .entry))) (byte (now (m .exit))) r ⌝ }
 {
@@ -198,7 +198,7 @@ pub fn extend_apart(
     requires { ⌜ y < n ⌝ }
     requires { ⌜ v < n ⌝ }
     requires { ⌜ w < n ⌝ }
-    requires { ⌜ Heeded (algebraIn n arities cells) (now refused) v w (byte (now m)) ⌝ }
+    requires { ⌜ RefusedRightlyAbove (algebraIn n arities cells) (now refused) v w (byte (now m)) ⌝ }
     ensures { λ r. ⌜ Apart (algebraIn n (arities .entry) (cells .entry)) x y v w (byte (now (m .entry))) (byte (now (m .exit))) r ⌝ }
     ensures { λ _. ⌜ ((z : ℕ) → n ≤ z → byte (now (m .exit)) z ≡ byte (now (m .entry)) z) ⌝ }
 {

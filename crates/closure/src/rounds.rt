@@ -4,10 +4,10 @@ ghost use lib.ListN.{length};
 ghost use Rattle.equivalence.specs.Equivalence.{byte};
 ghost use Rattle.algebra.specs.Algebra.{algebraIn};
 ghost use Rattle.algebra.specs.Accepted.{Accepted};
-ghost use Rattle.translation.specs.Translations.{Compatible};
-ghost use Rattle.sweep.specs.Queue.{state, Ready, Grown};
-ghost use Rattle.sweep.specs.Contexts.{Contexts, Unless, Bounded, Heeds};
-ghost use Rattle.closure.specs.Closing.{Begun, Retired, Found};
+ghost use Rattle.translation.specs.InnerTranslations.{Compatible};
+ghost use Rattle.sweep.specs.InnerQueue.{state, Ready, Grown};
+ghost use Rattle.sweep.specs.InnerContexts.{Contexts, Unless, Bounded, RefusedRightly};
+ghost use Rattle.closure.specs.InnerClosing.{Begun, Retired, Found};
 
 // Where b stands among the first `count` elements, or `count`.
 fn position(live: &[u8], count: usize, b: u8) -> usize
@@ -58,7 +58,7 @@ pub fn close(
     requires { ⌜ Contexts n (now cells) (now live) used ⌝ }
     requires { ⌜ Accepted (algebraIn n arities cells) ⌝ }
     requires { ⌜ Begun (algebraIn n arities cells) (state (now m) (now queue) start) (now live) used ⌝ }
-    ensures { λ r. ⌜ Grown n (λ g. Compatible (algebraIn n (arities .entry) (cells .entry)) g × Heeds n (now (refused .entry)) v w g) (state (now (m .entry)) (now (queue .entry)) start) (state (now (m .exit)) (now (queue .exit)) r) ⌝ }
+    ensures { λ r. ⌜ Grown n (λ g. Compatible (algebraIn n (arities .entry) (cells .entry)) g × RefusedRightly n (now (refused .entry)) v w g) (state (now (m .entry)) (now (queue .entry)) start) (state (now (m .exit)) (now (queue .exit)) r) ⌝ }
     ensures { λ _. ⌜ Unless v w (Compatible (algebraIn n (arities .entry) (cells .entry))) (byte (now (m .exit))) ⌝ }
 {
     let mut len = start;

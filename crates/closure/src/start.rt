@@ -4,8 +4,8 @@ ghost use Prim.Native.Nat.{ℕ, _<_, _≤_};
 ghost use lib.Dec.{eqb};
 ghost use lib.ListN.{length};
 ghost use Rattle.equivalence.specs.Equivalence.{byte};
-ghost use Rattle.sweep.specs.Queue.{state, Ready, Grown};
-ghost use Rattle.closure.specs.Starts.{JoinsPairs, Pushed, Collected, NamesListed};
+ghost use Rattle.sweep.specs.InnerQueue.{state, Ready, Grown};
+ghost use Rattle.closure.specs.InnerStarts.{JoinsPairs, Pushed, Collected, NamesListed};
 
 // Joins the pairs of a flat list. How many elements are queued then.
 pub fn seed(m: &mut [u8], n: usize, queue: &mut [u8], pairs: &[u8]) -> usize

@@ -27,7 +27,7 @@ use Rattle.congruence.proofs.Demands.{listed-right}
 use Rattle.theory.proofs.Factors.{listed-long}
 use Rattle.congruence.proofs.Decomposing.{decomposed-yes, decomposed-no, factorBytes-yes}
 use Rattle.theory.proofs.Quotients.{quotientCells-length, quotient-wellFormed}
-use Rattle.division.specs.Quotient.{quotientCells, quotient}
+use Rattle.quotient.specs.Quotient.{quotientCells, quotient}
 use Rattle.equivalence.specs.declared.Check.the-variants.{Passed}
 use Rattle.congruence.specs.declared.Divided.{Divided}
 use Rattle.congruence.specs.declared.Divided.the-variants.{Blocks, Refused as DivideRefused}
@@ -122,17 +122,17 @@ module _ (a : Algebra) (accepted : Accepted a) where
   factor-calls lent room =
       let well : WellFormed a = accepted-wellFormed a accepted in
       let answer : decomposeCall a lent .0 ≡ decomposed a = decompose-answer a accepted lent room in
-      let listing : (k i : ℕ) → decomposed a ≡ Factors k → i < k → stretch (a .size) (decomposeCall a lent .1) i ≡ getD (listed a) i [] =
+      let mapList : (k i : ℕ) → decomposed a ≡ Factors k → i < k → stretch (a .size) (decomposeCall a lent .1) i ≡ getD (listed a) i [] =
       λ k i e l. let r = factors-reducible a k e in
       rw (decompose-bytes a accepted lent room, factorBytes-yes a (r .0))
       (stretch-concat (a .size) (listed a) (drop (length (concat (listed a))) lent) (listed-long a well) i (omega (arith, r .1))) in
       record {
         answer = answer;
-        listing = listing;
+        mapList = mapList;
         quotients = λ k i e l.
             let d : decomposed a ≡ Factors k = sym answer ∙ e in
             let r = factors-reducible a k d in
             let f = listed-right a accepted (r .0) in
             let j : i < length (listed a) = omega (arith, r .1) in
-            rw (listing k i d l) (quotient-draws11 (getD (listed a) i []) (f .congruences i j) (f .irreducible i j));
+            rw (mapList k i d l) (quotient-draws11 (getD (listed a) i []) (f .congruences i j) (f .irreducible i j));
       }

@@ -14,13 +14,13 @@ use Rattle.equivalence.specs.declared.Element.{Element}
 use Rattle.algebra.specs.Algebra.{Algebra}
 use Rattle.algebra.proofs.Accepted.{WellFormed}
 use Rattle.algebra.proofs.Congruences.{IsCongruence}
-use Rattle.division.specs.Quotient.{quotient}
+use Rattle.quotient.specs.Quotient.{quotient}
 use Rattle.theory.specs.Decompose.{listed, reducible, commonPair}
 use Rattle.theory.specs.Splitting.{Splitting}
 use Rattle.theory.proofs.Factors.{split, unsplit}
 use Rattle.theory.proofs.Quotients.{quotient-wellFormed, quotient-unsplit}
 use Rattle.theory.proofs.Separation.{MaximalFor}
-use Rattle.decomposition.specs.Factored.{Factored}
+use Rattle.decomposition.specs.InnerFactored.{Factored}
 use Rattle.decomposition.specs.declared.Found.{Found}
 use Rattle.decomposition.specs.declared.Found.the-variants.{Factors as Counted, Irreducible as Paired}
 use Rattle.congruence.specs.Calls.{element, decomposed, factorBytes}

@@ -17,7 +17,7 @@ use Rattle.equivalence.proofs.Meets.{meet-map, of-meet, meet-greatest, meets-of
 use Rattle.equivalence.proofs.Tests.{T?, left, right}
 use Rattle.algebra.specs.Accepted.{Accepted}
 use Rattle.algebra.specs.Algebra.{Algebra, Operation, operations, value}
-use Rattle.division.specs.Quotient.{quotient}
+use Rattle.quotient.specs.Quotient.{quotient}
 use Rattle.algebra.specs.Congruence.{Congruence, congruences}
 use Rattle.algebra.proofs.Accepted.{WellFormed, accepted-wellFormed}
 use Rattle.algebra.proofs.Arguments.{of-arguments}

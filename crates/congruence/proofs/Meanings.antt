@@ -28,9 +28,9 @@ use Rattle.algebra.specs.Accepted.{Accepted}
 use Rattle.algebra.specs.Algebra.{Algebra, cellCount}
 use Rattle.algebra.specs.Congruence.{Congruence}
 use Rattle.algebra.proofs.Accepted.{accepted-wellFormed}
-use Rattle.division.specs.Quotient.{quotientCells, quotient}
-use Rattle.listing.specs.Listing.{listing}
-use Rattle.listing.proofs.Listings.{listing-concat, concat-length}
+use Rattle.quotient.specs.Quotient.{quotientCells, quotient}
+use Rattle.maplist.specs.InnerMapLists.{mapList}
+use Rattle.maplist.proofs.MapLists.{mapList-concat, concat-length}
 use Rattle.theory.specs.Certify.{certified}
 use Rattle.theory.specs.Decompose.{reducible, listed}
 use Rattle.theory.specs.Extremal.{generated, contained, separated}
@@ -174,9 +174,9 @@ module _ (a : Algebra) (accepted : Accepted a) where
   listed-bytes =
       concat-length (a .size) (listed a) (λ m i. let j = member-index (listed a) m [] i in subst (λ (l : Map). length l ≡ a .size) (j .2) (listed-long a (accepted-wellFormed a accepted) (j .0) (j .1)))
 
-  listed-whole : listing (a .size) (length (listed a)) (concat (listed a)) ≡ listed a
+  listed-whole : mapList (a .size) (length (listed a)) (concat (listed a)) ≡ listed a
   listed-whole =
-      ap (listing (a .size) (length (listed a))) (sym (append-nil (concat (listed a)))) ∙ listing-concat (a .size) (listed a) [] (listed-long a (accepted-wellFormed a accepted))
+      ap (mapList (a .size) (length (listed a))) (sym (append-nil (concat (listed a)))) ∙ mapList-concat (a .size) (listed a) [] (listed-long a (accepted-wellFormed a accepted))
 
   certify-listed : T (reducible a) → certifyCall a (concat (listed a)) ≡ Yes
   unfolding Accepted
@@ -188,10 +188,10 @@ module _ (a : Algebra) (accepted : Accepted a) where
       let pos : 0 < n = omega (arith, w .some) in
       let even : length bytes % n ≡ 0 = ap (λ (k : ℕ). k % n) (omega (arith, listed-bytes)) ∙ digits-mod (length (listed a)) pos in
       let number : length bytes / n ≡ length (listed a) = ap (λ (k : ℕ). k / n) listed-bytes ∙ mul-div-cancel (length (listed a)) pos in
-      let whole : listing n (length bytes / n) bytes ≡ listed a = ap (λ (k : ℕ). listing n k bytes) number ∙ listed-whole in
-      let maps : T (every (isMap n) (listing n (length bytes / n) bytes)) =
+      let whole : mapList n (length bytes / n) bytes ≡ listed a = ap (λ (k : ℕ). mapList n k bytes) number ∙ listed-whole in
+      let maps : T (every (isMap n) (mapList n (length bytes / n) bytes)) =
       subst (λ (ms : List Map). T (every (isMap n) ms)) (sym whole) (every-map (listed a) (λ i l. f .congruences i l .map)) in
-      let yes : T (certified a (listing n (length bytes / n) bytes)) = subst (λ (ms : List Map). T (certified a ms)) (sym whole) (listed-certified-yes a accepted) in
+      let yes : T (certified a (mapList n (length bytes / n) bytes)) = subst (λ (ms : List Map). T (certified a ms)) (sym whole) (listed-certified-yes a accepted) in
       let passed : Passed ≡ lowest (certifyTests a bytes) =
       sym (algebra-passed a _ (sym accepted) ∙ maps-passed n bytes [] even (omega (arith, number, f .few, w .most)) (true-is _ maps) refl ∙ lowest-none) in
       sym (certify-yes a bytes passed (true-is _ yes) refl)

@@ -24,9 +24,9 @@ use Rattle.algebra.proofs.Accepted.{every-at, accepted-wellFormed}
 use Rattle.congruence.specs.Calls.{congruenceTest, mapsIn, mapsTest, generateTests, containedTests, separateTests, quotientSpace, quotientTests, decomposeTests, certifyTests, certifyCall}
 use Rattle.theory.specs.Certify.{certified}
 use Rattle.theory.specs.Decompose.{factorSpace}
-use Rattle.listing.specs.Listing.{listing, MapsListed}
+use Rattle.maplist.specs.InnerMapLists.{mapList, MapsListed}
 use Rattle.theory.proofs.Above.{Below}
-use Rattle.listing.proofs.ListTests.{of-every-listing}
+use Rattle.maplist.proofs.ListTests.{of-every-mapList}
 use Rattle.equivalence.specs.declared.Refusal.{Refusal}
 use Rattle.equivalence.specs.declared.Refusal.the-variants.{Range, NotMap, Space, Equal, NotCongruence}
 use Rattle.equivalence.specs.declared.Check.{Check}
@@ -153,14 +153,14 @@ module _ (n : ℕ) (bytes : List ℕ) (rest : List Test) where
       lowest-here (mapsTest n bytes) rest (or-left (not (eqb (length bytes % n) 0) || ltb 63 (length bytes / n)) _
       (or-right (not (eqb (length bytes % n) 0)) _ (lt→ltb 63 (length bytes / n) h)))
 
-  pub maps-refused : {r : Bool} → r ≡ every (isMap n) (listing n (length bytes / n) bytes) → not r ≡ true → lowest (mapsTest n bytes ∷ rest) ≡ Failed NotMap
-  unfolding mapsTest mapsIn listing
+  pub maps-refused : {r : Bool} → r ≡ every (isMap n) (mapList n (length bytes / n) bytes) → not r ≡ true → lowest (mapsTest n bytes ∷ rest) ≡ Failed NotMap
+  unfolding mapsTest mapsIn mapList
   maps-refused e f =
       lowest-here (mapsTest n bytes) rest (or-right (not (eqb (length bytes % n) 0) || ltb 63 (length bytes / n)) _ (T-of (ap not (sym e) ∙ f)))
 
-  pub maps-passed : {r : Bool} → length bytes % n ≡ 0 → length bytes / n ≤ 63 → r ≡ every (isMap n) (listing n (length bytes / n) bytes) → not r ≡ false
+  pub maps-passed : {r : Bool} → length bytes % n ≡ 0 → length bytes / n ≤ 63 → r ≡ every (isMap n) (mapList n (length bytes / n) bytes) → not r ≡ false
       → lowest (mapsTest n bytes ∷ rest) ≡ lowest rest
-  unfolding mapsTest mapsIn listing
+  unfolding mapsTest mapsIn mapList
   maps-passed even few e f =
       lowest-next (mapsTest n bytes) rest (λ t. elim (or-cases (not (eqb (length bytes % n) 0) || ltb 63 (length bytes / n)) _ t) [
         | inl s ↦ elim (or-cases (not (eqb (length bytes % n) 0)) _ s) [
@@ -171,7 +171,7 @@ module _ (n : ℕ) (bytes : List ℕ) (rest : List Test) where
       ])
 
 pub of-mapsTest : (n : ℕ) (bytes : List ℕ) → 1 ≤ n → n ≤ 64 → ¬ T (mapsTest n bytes .applies) → MapsListed n (length bytes / n) bytes
-unfolding mapsTest mapsIn listing
+unfolding mapsTest mapsIn mapList
 of-mapsTest n bytes some most t =
     let ragged : Bool = not (eqb (length bytes % n) 0) in
     let many : Bool = ltb 63 (length bytes / n) in
@@ -182,7 +182,7 @@ of-mapsTest n bytes some most t =
       few = elim (decLt 63 (length bytes / n)) [ yes h ↦ absurd (t (or-left (ragged || many) (not all) (or-right ragged many (lt→ltb 63 (length bytes / n) h)))) | no h ↦ omega arith ];
       room = omega (arith, div-add-mod' (length bytes) n);
       each = λ i l. elim (T? all) [
-        | yes s ↦ of-every-listing (isMap n) n (length bytes / n) bytes s i l
+        | yes s ↦ of-every-mapList (isMap n) n (length bytes / n) bytes s i l
         | no s ↦ absurd (t (or-right (ragged || many) (not all) (not-T all s)))
       ];
     }
@@ -257,11 +257,11 @@ module _ (a : Algebra) (bytes : List ℕ) where
   unfolding certifyCall answered
   certify-declined r e = rw (← e)
 
-  module _ (passed : Passed ≡ lowest (certifyTests a bytes)) {r : Bool} (e : r ≡ certified a (listing (a .size) (length bytes / a .size) bytes)) where
+  module _ (passed : Passed ≡ lowest (certifyTests a bytes)) {r : Bool} (e : r ≡ certified a (mapList (a .size) (length bytes / a .size) bytes)) where
     pub certify-yes : r ≡ true → Yes ≡ certifyCall a bytes
-    unfolding certifyCall answered mapsIn listing
+    unfolding certifyCall answered mapsIn mapList
     certify-yes f = rw (← passed) (sym (pick-yes (certified a (mapsIn (a .size) bytes)) Yes No (T-of (sym e ∙ f))))
 
     pub certify-no : r ≡ false → No ≡ certifyCall a bytes
-    unfolding certifyCall answered mapsIn listing
+    unfolding certifyCall answered mapsIn mapList
     certify-no f = rw (← passed) (sym (pick-no (certified a (mapsIn (a .size) bytes)) Yes No (not-T-of (sym e ∙ f))))

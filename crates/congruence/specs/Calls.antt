@@ -16,7 +16,7 @@ use Rattle.algebra.specs.Algebra.{Algebra, cellCount}
 use Rattle.algebra.specs.Accepted.{algebraTests}
 use Rattle.algebra.specs.Congruence.{isCongruence}
 use Rattle.theory.specs.Extremal.{generated, contained, separated}
-use Rattle.division.specs.Quotient.{quotientCells}
+use Rattle.quotient.specs.Quotient.{quotientCells}
 use Rattle.theory.specs.Decompose.{listed, factorSpace, reducible, commonPair}
 use Rattle.theory.specs.Certify.{certified}
 use Rattle.congruence.specs.declared.Generated.{Generated}

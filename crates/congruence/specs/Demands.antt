@@ -14,7 +14,7 @@ use Rattle.equivalence.specs.declared.Element.{Element}
 use Rattle.algebra.specs.Algebra.{Algebra, algebraOf, Operation, operations, arguments, value, cellCount}
 use Rattle.algebra.specs.Congruence.{Congruence}
 use Rattle.theory.specs.Extremal.{holdsAll}
-use Rattle.division.specs.Quotient.{quotient}
+use Rattle.quotient.specs.Quotient.{quotient}
 use Rattle.theory.specs.Decompose.{listed, factorSpace, commonPair}
 use Rattle.theory.specs.Splitting.{Unsplit}
 use Rattle.congruence.specs.Calls.{element, quotientSpace, quotientCall, decomposed, decomposeCall}
@@ -117,5 +117,5 @@ pub record QuotientDraws11 (a : Algebra) (m : Map) : Type 0 where
 -- and Decompose on the tables and b that this gave, with the arities as before: it answers 11; each call is lent at least what it wants
 pub record FactorCalls (a : Algebra) (lent : List ℕ) : Type 0 where
   pub answer : decomposeCall a lent .0 ≡ decomposed a
-  pub listing : (k i : ℕ) → decomposed a ≡ Factors k → i < k → stretch (a .size) (decomposeCall a lent .1) i ≡ getD (listed a) i []
+  pub mapList : (k i : ℕ) → decomposed a ≡ Factors k → i < k → stretch (a .size) (decomposeCall a lent .1) i ≡ getD (listed a) i []
   pub quotients : (k i : ℕ) → decomposeCall a lent .0 ≡ Factors k → i < k → QuotientDraws11 a (stretch (a .size) (decomposeCall a lent .1) i)

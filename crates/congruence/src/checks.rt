@@ -8,7 +8,7 @@ ghost use Rattle.equivalence.specs.Equivalence.{isMap, blocks};
 ghost use Rattle.equivalence.specs.Refusal.{lowest};
 ghost use Rattle.algebra.specs.Algebra.{algebraIn, cellCount};
 ghost use Rattle.congruence.specs.Calls.{generateTests, containedTests, separateTests, quotientTests, decomposeTests, certifyTests};
-ghost use Rattle.listing.specs.Listing.{listing};
+ghost use Rattle.maplist.specs.InnerMapLists.{mapList};
 use equivalence::Check;
 use equivalence::Refusal;
 
@@ -141,7 +141,7 @@ pub fn decompose_check(n: usize, arities: &[u8], cells: &[u8], room: usize) -> C
 // Whether each of the first `count` stretches of n bytes is a map.
 fn all_maps(n: usize, count: usize, maps: &[u8]) -> bool
     requires { ⌜ count * n ≤ length (now maps) ⌝ }
-    ensures { λ r. ⌜ r ≡ every (isMap n) (listing n count (now (maps .entry))) ⌝ }
+    ensures { λ r. ⌜ r ≡ every (isMap n) (mapList n count (now (maps .entry))) ⌝ }
 {
     let mut i = 0;
     let mut at = 0;

@@ -91,7 +91,7 @@ pub fn quotient(n: usize, arities: &[u8], cells: &[u8], map: &[u8], out: &mut [u
     if let Check::Failed(reason) = check {
         return Divided::Refused(reason);
     }
-    Divided::Blocks(division::divide(n, arities, cells, map, out))
+    Divided::Blocks(quotient::divide(n, arities, cells, map, out))
 }
 
 // The subdirect factors: congruences that meet in the identity, none of which can be left out, each maximal for some pair. Factor i goes to the n bytes

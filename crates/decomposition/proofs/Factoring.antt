@@ -18,22 +18,22 @@ use Rattle.algebra.specs.Algebra.{Algebra}
 use Rattle.algebra.specs.Accepted.{Accepted}
 use Rattle.algebra.proofs.Accepted.{WellFormed, accepted-wellFormed}
 use Rattle.theory.specs.Decompose.{gathered, pruned, listed, factorSpace, reducible}
-use Rattle.listing.specs.Listing.{listing, MapsListed}
+use Rattle.maplist.specs.InnerMapLists.{mapList, MapsListed}
 use Rattle.theory.proofs.CommonPair.{commonPair-one}
 use Rattle.theory.proofs.Factors.{Gathered, gathered-law, listed-law, split}
-use Rattle.listing.proofs.Listings.{listing-at, listing-concat, concat-length}
-use Rattle.decomposition.specs.Pruning.{chosen, Chosen, Needed}
+use Rattle.maplist.proofs.MapLists.{mapList-at, mapList-concat, concat-length}
+use Rattle.decomposition.specs.InnerPruning.{chosen, ChosenMaps, Needed}
 use Rattle.equivalence.specs.declared.Element.{Element}
-use Rattle.decomposition.specs.Gathering.{GatheredRight}
+use Rattle.decomposition.specs.InnerGathering.{GatheredRight}
 use Rattle.decomposition.specs.declared.gather.Collected.{Collected}
 use Rattle.decomposition.specs.declared.gather.Collected.the-variants.{All, Joined}
-use Rattle.decomposition.specs.Factored.{Storage, FoundIn, Writable, foundWritten, Factored}
+use Rattle.decomposition.specs.InnerFactored.{Storage, FoundIn, Writable, foundWritten, Factored}
 use Rattle.decomposition.specs.declared.Found.{Found}
 use Rattle.decomposition.specs.declared.Found.the-variants.{Factors, Irreducible}
 
 -- a list that was found, by what the answer is
 module _ {r : Found} {k : ℕ} (e : r ≡ Factors k) (n : ℕ) (maps needed lent : List ℕ) where
-  pub list-writable : Writable n maps r needed lent → Chosen n maps k needed × (k * n ≤ length lent)
+  pub list-writable : Writable n maps r needed lent → ChosenMaps n maps k needed × (k * n ≤ length lent)
   unfolding Writable
   list-writable = subst (λ (z : Found). Writable n maps z needed lent) e
 
@@ -66,9 +66,9 @@ module _ (a : Algebra) (accepted : Accepted a) where
   module _ {k : ℕ} {bytes : List ℕ} (lent : List ℕ) (number : k ≡ length (gathered (a .size) a (whole (a .size))))
       (laid : bytes ≡ written (concat (gathered (a .size) a (whole (a .size)))) lent)
       (room : factorSpace (a .size) ≤ length lent) where
-    listing-all : listing (a .size) k bytes ≡ gathered (a .size) a (whole (a .size))
+    mapList-all : mapList (a .size) k bytes ≡ gathered (a .size) a (whole (a .size))
     unfolding written all
-    listing-all = rw (number, laid) (listing-concat (a .size) all (drop (length (concat all)) lent) (λ i l. all-map i l .long))
+    mapList-all = rw (number, laid) (mapList-concat (a .size) all (drop (length (concat all)) lent) (λ i l. all-map i l .long))
 
     gathered-few : k ≤ a .size - 1
     unfolding all
@@ -86,14 +86,14 @@ module _ (a : Algebra) (accepted : Accepted a) where
           few = omega (arith, gathered-few, c .most);
           room = rw (laid, written-length (concat all) lent (omega arith)) enough;
           each = λ i l. isMap-of (a .size) (stretch (a .size) bytes i)
-              (subst (λ (m : Map). IsMap (a .size) m) (sym (sym (listing-at (a .size) k bytes i l) ∙ ap (λ (ms : List Map). getD ms i []) listing-all)) (all-map i (omega arith)));
+              (subst (λ (m : Map). IsMap (a .size) m) (sym (sym (mapList-at (a .size) k bytes i l) ∙ ap (λ (ms : List Map). getD ms i []) mapList-all)) (all-map i (omega arith)));
         }
 
     -- the factors: those of the list that are needed
     module _ {r : ℕ} {needed : List ℕ} (h : Needed (a .size) k bytes r needed) where
       left : chosen (a .size) bytes r needed ≡ listed a
       unfolding listed
-      left = h .left ∙ ap (pruned (a .size) []) listing-all
+      left = h .left ∙ ap (pruned (a .size) []) mapList-all
 
       counted : r ≡ length (listed a)
       counted = sym (length-map (take r needed) (stretch (a .size) bytes) ∙ length-take-le r needed (h .numbers .room)) ∙ ap length left

@@ -11,7 +11,7 @@ use native.Mathlib.Omega.{arith}
 use lib.Dec.{T}
 use lib.ListN.{length, length-append}
 use Rattle.equivalence.specs.Equivalence.{Map, byte, blocks, identity, whole, isIdentity, meet}
-use Rattle.kernel.specs.Kernel.{Canonical}
+use Rattle.kernel.specs.InnerKernel.{Canonical}
 use Rattle.equivalence.specs.Lists.{concat}
 use Rattle.equivalence.specs.Order.{Pair, firstHeld}
 use Rattle.equivalence.specs.Lent.{written, laid}
@@ -27,10 +27,10 @@ use Rattle.algebra.proofs.Congruences.{IsCongruence}
 use Rattle.theory.specs.Decompose.{added, gathered, listed, factorSpace, reducible, commonPair}
 use Rattle.theory.specs.Splitting.{Splitting}
 use Rattle.theory.specs.Extremal.{separated}
-use Rattle.decomposition.specs.Gathering.{Step, pairFound, GatheredRight}
+use Rattle.decomposition.specs.InnerGathering.{AddStep, pairFound, GatheredRight}
 use Rattle.theory.proofs.CommonPair.{Common, commonPair-law, refuse-when, unsplit-when, reducible-when}
 use Rattle.theory.proofs.Factors.{added-law, split, gathered-end, gathered-step}
-use Rattle.listing.proofs.Listings.{Begins, begins-is, begins-refl, begins-written, begins-canonical, begins-meet, begins-isIdentity, begins-firstHeld, onwards, put-laid, laid-snoc, concat-length}
+use Rattle.maplist.proofs.MapLists.{Begins, begins-is, begins-refl, begins-written, begins-canonical, begins-meet, begins-isIdentity, begins-firstHeld, onwards, put-laid, laid-snoc, concat-length}
 use Rattle.theory.proofs.Separation.{separated-law, lex-asym}
 use borrow.Rule.Slice.PartMut.{putMid}
 use Rattle.decomposition.specs.declared.gather.Collected.{Collected}
@@ -59,10 +59,10 @@ module _ (a : Algebra) (met lent : List ℕ) {after : List ℕ} {r : Bool} (w : 
   begun : Begins (a .size) after (added a met)
   begun = begins-written (added a met) lent (w .0) (w .1)
 
-  pub step-stop : r ≡ true → Step a met lent true met after
+  pub step-stop : r ≡ true → AddStep a met lent true met after
   step-stop t = record { identity = sym t ∙ e ∙ begins-isIdentity begun; new = w .0; stays = λ z. refl; meets = λ z. absurd (not-T-of z tt) }
 
-  pub step-more : {met′ : List ℕ} → r ≡ false → met′ ≡ written (meet (a .size) met after) met → Step a met lent false met′ after
+  pub step-more : {met′ : List ℕ} → r ≡ false → met′ ≡ written (meet (a .size) met after) met → AddStep a met lent false met′ after
   step-more t f =
       record {
         identity = sym t ∙ e ∙ begins-isIdentity begun;
@@ -220,7 +220,7 @@ module _ {a : Algebra} (c : WellFormed a) {lent : List ℕ} {k at : ℕ} {met by
       omega (arith, s .place, room, collecting-long, mul-le-mul-right (a .size) r, suc-mul k (a .size), ap (λ (z : ℕ). z * a .size) (add-one k))
 
   -- one step that does not stop
-  pub collecting-more : {stop : Bool} {met′ after : List ℕ} → ¬ T (isIdentity (a .size) met) → Step a met (onwards at bytes) stop met′ after → stop ≡ false
+  pub collecting-more : {stop : Bool} {met′ after : List ℕ} → ¬ T (isIdentity (a .size) met) → AddStep a met (onwards at bytes) stop met′ after → stop ≡ false
       → Collecting a lent (k + 1) (at + a .size) met′ (putMid at (length bytes - at) bytes after)
   collecting-more {stop} {met′} {after} t p e =
       let whole-bytes : putMid at (length bytes - at) bytes after ≡ laid bytes at (added a met) =
@@ -246,7 +246,7 @@ module _ {a : Algebra} (c : WellFormed a) {lent : List ℕ} {k at : ℕ} {met by
       (gathering-reducible c (s .gathering) two f, sym (s .gathering .number) ∙ ap length e, s .gathering .laid ∙ ap (λ (l : List Map). written (concat l) lent) e)
 
   -- one step that stops
-  pub collecting-stop : {stop : Bool} {met′ after : List ℕ} {r : Collected} (bytes′ : List ℕ) → 2 ≤ a .size → ¬ T (isIdentity (a .size) met) → Step a met (onwards at bytes) stop met′ after → stop ≡ true
+  pub collecting-stop : {stop : Bool} {met′ after : List ℕ} {r : Collected} (bytes′ : List ℕ) → 2 ≤ a .size → ¬ T (isIdentity (a .size) met) → AddStep a met (onwards at bytes) stop met′ after → stop ≡ true
       → r ≡ pairFound (firstHeld (a .size) met′) → GatheredRight a r lent bytes′
   collecting-stop bytes′ two t p e f =
       let is : Discrete (a .size) (added a (s .meet)) = of-isIdentity (a .size) (added a (s .meet)) (rw (begins-added a (s .begins)) at (T-of (sym (p .identity) ∙ e))) in

@@ -12,18 +12,18 @@ use lib.Dec.{T}
 use lib.ListN.{length, getD, set, take, drop, drop-of-length-le, length-drop, length-set}
 use lib.Seq.{take-suc, take-set-le, getD-set-same, getD-set-other}
 use Rattle.equivalence.specs.Equivalence.{Map, byte, whole, isIdentity, meet, meetAll}
-use Rattle.kernel.specs.Kernel.{Canonical}
+use Rattle.kernel.specs.InnerKernel.{Canonical}
 use Rattle.equivalence.specs.Lent.{stretch, written}
 use Rattle.equivalence.proofs.Maps.{whole-map}
 use Rattle.equivalence.proofs.Meets.{meet-map, meetAll-map}
 use Rattle.equivalence.proofs.Tests.{T?, T-of, not-T-of, pick-yes, pick-no, true-is, false-is}
 use Rattle.theory.specs.Decompose.{pruned}
-use Rattle.listing.specs.Listing.{listing, MapsListed, SuffixMeets}
-use Rattle.decomposition.specs.Pruning.{inTurn, chosen, Needed}
+use Rattle.maplist.specs.InnerMapLists.{mapList, MapsListed, SuffixMeets}
+use Rattle.decomposition.specs.InnerPruning.{inTurn, chosen, Needed}
 use Rattle.theory.proofs.Certificates.{isIdentity-meets, of-isIdentity-meets}
 use Rattle.theory.proofs.Factors.{pruned-drop, pruned-keep}
-use Rattle.listing.proofs.Listings.{Begins, begins-sym, begins-is, begins-take, begins-written, begins-canonical, begins-meet}
-use Rattle.listing.proofs.Listings.{meetAll-append, meetAll-snoc, listing-length, listing-at, listing-from, listed-map, listed-room, listed-begins, onwards, part-rest}
+use Rattle.maplist.proofs.MapLists.{Begins, begins-sym, begins-is, begins-take, begins-written, begins-canonical, begins-meet}
+use Rattle.maplist.proofs.MapLists.{meetAll-append, meetAll-snoc, mapList-length, mapList-at, mapList-from, listed-map, listed-room, listed-begins, onwards, part-rest}
 
 -- ---- one turn
 
@@ -66,17 +66,17 @@ module _ (n : ℕ) (maps : List ℕ) (kept i : ℕ) (needed : List ℕ) where
 
 pub record Pruning (n k : ℕ) (maps suffixes : List ℕ) (kept i at : ℕ) (met needed : List ℕ) : Type 0 where
   pub listed : MapsListed n k maps
-  pub ends : SuffixMeets n (listing n k maps) suffixes
+  pub ends : SuffixMeets n (mapList n k maps) suffixes
   pub behind : k * n + n ≤ length suffixes
   pub room : k ≤ length needed
   pub upto : i ≤ k
   pub place : at ≡ i * n
   pub few : kept ≤ i
   pub below : (j : ℕ) → j < kept → byte needed j < i
-  pub left : pruned n [] (listing n k maps) ≡ pruned n (chosen n maps kept needed) (drop i (listing n k maps))
+  pub left : pruned n [] (mapList n k maps) ≡ pruned n (chosen n maps kept needed) (drop i (mapList n k maps))
   pub meets : Begins n met (meetAll n (chosen n maps kept needed))
 
-pub pruning-start : {n k : ℕ} {maps suffixes needed : List ℕ} (met : List ℕ) {met′ : List ℕ} → MapsListed n k maps → SuffixMeets n (listing n k maps) suffixes
+pub pruning-start : {n k : ℕ} {maps suffixes needed : List ℕ} (met : List ℕ) {met′ : List ℕ} → MapsListed n k maps → SuffixMeets n (mapList n k maps) suffixes
     → k * n + n ≤ length suffixes → k ≤ length needed → met′ ≡ written (whole n) met → Pruning n k maps suffixes 0 0 0 met′ needed
 unfolding meetAll
 pruning-start {n} met p s b r e =
@@ -98,7 +98,7 @@ module _ {n k : ℕ} {maps suffixes : List ℕ} {kept i at : ℕ} {met needed : 
   pub pruning-all : k ≤ i → Needed n k maps kept needed
   unfolding pruned
   pruning-all h =
-      let none : drop i (listing n k maps) ≡ [] = drop-of-length-le (listing n k maps) {i = i} (omega (arith, listing-length n k maps)) in
+      let none : drop i (mapList n k maps) ≡ [] = drop-of-length-le (mapList n k maps) {i = i} (omega (arith, mapList-length n k maps)) in
       let small : (j : ℕ) → j < kept → byte needed j < k = λ j l. omega (arith, p .below j l, p .upto) in
       record {
         numbers = record {
@@ -118,11 +118,11 @@ module _ {n k : ℕ} {maps suffixes : List ℕ} {kept i at : ℕ} {met needed : 
     this : Begins n (onwards at maps) (stretch n maps i)
     this = rw (part-rest at maps, p .place) (listed-begins (p .listed) i)
 
-    after : Begins n (onwards (at + n) suffixes) (meetAll n (drop (suc i) (listing n k maps)))
+    after : Begins n (onwards (at + n) suffixes) (meetAll n (drop (suc i) (mapList n k maps)))
     unfolding stretch
     after =
         rw (part-rest (at + n) suffixes, next)
-        (begins-is (begins-sym (begins-take (drop (suc i * n) suffixes))) (p .ends (suc i) (omega (arith, listing-length n k maps))))
+        (begins-is (begins-sym (begins-take (drop (suc i * n) suffixes))) (p .ends (suc i) (omega (arith, mapList-length n k maps))))
 
     pub pruning-part : (at + n ≤ length maps) × (at + n + n ≤ length suffixes) × (kept < length needed) × (kept ≤ i) × (i < 64)
     pruning-part = (
@@ -142,17 +142,17 @@ module _ {n k : ℕ} {maps suffixes : List ℕ} {kept i at : ℕ} {met needed : 
     pub pruning-canonical : Canonical n (byte (onwards at maps)) × Canonical n (byte (onwards (at + n) suffixes)) × Canonical n (byte met)
     pruning-canonical = (
       begins-canonical this (listed-map (p .listed) i l),
-      begins-canonical after (meetAll-map n (drop (suc i) (listing n k maps))),
+      begins-canonical after (meetAll-map n (drop (suc i) (mapList n k maps))),
       begins-canonical (p .meets) (meetAll-map n (chosen n maps kept needed)),
     )
 
     -- those chosen and those behind meet as the two meets do
-    whole-list : meetAll n (chosen n maps kept needed ++ drop (suc i) (listing n k maps)) ≡ meet n met (onwards (at + n) suffixes)
+    whole-list : meetAll n (chosen n maps kept needed ++ drop (suc i) (mapList n k maps)) ≡ meet n met (onwards (at + n) suffixes)
     whole-list =
-        meetAll-append n (chosen n maps kept needed) (drop (suc i) (listing n k maps)) ∙ begins-meet (begins-sym (p .meets)) (begins-sym after)
+        meetAll-append n (chosen n maps kept needed) (drop (suc i) (mapList n k maps)) ∙ begins-meet (begins-sym (p .meets)) (begins-sym after)
 
-    from : pruned n [] (listing n k maps) ≡ pruned n (chosen n maps kept needed) (stretch n maps i ∷ drop (suc i) (listing n k maps))
-    from = p .left ∙ ap (pruned n (chosen n maps kept needed)) (listing-from n k maps i l)
+    from : pruned n [] (mapList n k maps) ≡ pruned n (chosen n maps kept needed) (stretch n maps i ∷ drop (suc i) (mapList n k maps))
+    from = p .left ∙ ap (pruned n (chosen n maps kept needed)) (mapList-from n k maps i l)
 
     abbrev Next : ℕ → List ℕ → Type 0
     Next r met′ = Pruning n k maps suffixes (kept + r) (i + 1) (at + n) met′ (set needed kept i)
@@ -171,8 +171,8 @@ module _ {n k : ℕ} {maps suffixes : List ℕ} {kept i at : ℕ} {met needed : 
           few = omega (arith, p .few);
           below = λ j h. below-same n maps kept i needed (p .below) j (omega arith);
           left = rw (add-one, same)
-              (from ∙ pruned-drop n (chosen n maps kept needed) (drop (suc i) (listing n k maps)) (stretch n maps i)
-              (of-isIdentity-meets n (chosen n maps kept needed ++ drop (suc i) (listing n k maps)) (rw whole-list t)));
+              (from ∙ pruned-drop n (chosen n maps kept needed) (drop (suc i) (mapList n k maps)) (stretch n maps i)
+              (of-isIdentity-meets n (chosen n maps kept needed ++ drop (suc i) (mapList n k maps)) (rw whole-list t)));
           meets = rw same (p .meets);
         }
 
@@ -192,8 +192,8 @@ module _ {n k : ℕ} {maps suffixes : List ℕ} {kept i at : ℕ} {met needed : 
             | no d ↦ below-same n maps kept i needed (p .below) j (omega (arith, d))
           ];
           left = rw (add-one i, more)
-              (from ∙ pruned-keep n (chosen n maps kept needed) (drop (suc i) (listing n k maps)) (stretch n maps i)
-              (λ h. t (rw whole-list at (isIdentity-meets n (chosen n maps kept needed ++ drop (suc i) (listing n k maps)) h))));
+              (from ∙ pruned-keep n (chosen n maps kept needed) (drop (suc i) (mapList n k maps)) (stretch n maps i)
+              (λ h. t (rw whole-list at (isIdentity-meets n (chosen n maps kept needed ++ drop (suc i) (mapList n k maps)) h))));
           meets = rw more
               (begins-is (begins-written (meet n met (onwards at maps)) met refl (meet-map n met (onwards at maps)))
               (begins-meet (p .meets) this ∙ sym (meetAll-snoc n (chosen n maps kept needed) (stretch n maps i))));

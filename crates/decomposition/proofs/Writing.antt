@@ -9,25 +9,25 @@ use native.Mathlib.Omega.{arith}
 use lib.ListN.{length, take, length-append, length-drop}
 use lib.Seq.{take-suc}
 use Rattle.equivalence.specs.Equivalence.{Map, byte}
-use Rattle.kernel.specs.Kernel.{Filled}
+use Rattle.kernel.specs.InnerKernel.{Filled}
 use Rattle.equivalence.specs.Lists.{concat}
 use Rattle.equivalence.specs.Lent.{stretch, written}
 use Rattle.equivalence.proofs.Maps.{IsMap, of-isMap}
 use Rattle.equivalence.proofs.Stretches.{concat-append}
 use Rattle.equivalence.proofs.Writing.{written-length}
-use Rattle.decomposition.specs.Pruning.{chosen, Chosen}
-use Rattle.listing.proofs.Listings.{Begins, begins-sym, begins-take, onwards, part-rest, laid-snoc, copied-laid}
+use Rattle.decomposition.specs.InnerPruning.{chosen, ChosenMaps}
+use Rattle.maplist.proofs.MapLists.{Begins, begins-sym, begins-take, onwards, part-rest, laid-snoc, copied-laid}
 use borrow.Rule.Slice.PartMut.{midOf, putMid}
 
 pub record Writing (n : ℕ) (maps : List ℕ) (k : ℕ) (needed lent : List ℕ) (i at : ℕ) (out : List ℕ) : Type 0 where
-  pub numbers : Chosen n maps k needed
+  pub numbers : ChosenMaps n maps k needed
   pub room : k * n ≤ length lent
   pub upto : i ≤ k
   pub place : at ≡ i * n
   pub total : length (concat (chosen n maps i needed)) ≡ i * n
   pub bytes : out ≡ written (concat (chosen n maps i needed)) lent
 
-pub writing-none : {n : ℕ} {maps : List ℕ} {k : ℕ} {needed lent : List ℕ} → Chosen n maps k needed → k * n ≤ length lent → Writing n maps k needed lent 0 0 lent
+pub writing-none : {n : ℕ} {maps : List ℕ} {k : ℕ} {needed lent : List ℕ} → ChosenMaps n maps k needed → k * n ≤ length lent → Writing n maps k needed lent 0 0 lent
 unfolding concat written
 writing-none c r =
     record { numbers = c; room = r; upto = omega arith; place = omega arith; total = omega arith; bytes = refl }

@@ -1,3 +1,3 @@
-pub mod Gathering
-pub mod Pruning
-pub mod Factored
+pub mod InnerGathering
+pub mod InnerPruning
+pub mod InnerFactored

@@ -4,18 +4,18 @@ ghost use mathlib.Core.Bool.{false};
 ghost use Prim.Native.Nat.{_≤_};
 ghost use lib.ListN.{length};
 ghost use Rattle.equivalence.specs.Equivalence.{byte, isIdentity};
-ghost use Rattle.kernel.specs.Kernel.{Canonical};
+ghost use Rattle.kernel.specs.InnerKernel.{Canonical};
 ghost use Rattle.algebra.specs.Algebra.{algebraIn};
 ghost use Rattle.algebra.specs.Accepted.{Accepted};
 ghost use Rattle.theory.specs.Decompose.{factorSpace};
 ghost use Rattle.equivalence.specs.Order.{firstHeld};
-ghost use Rattle.decomposition.specs.Gathering.{Step, pairFound, GatheredRight};
+ghost use Rattle.decomposition.specs.InnerGathering.{AddStep, pairFound, GatheredRight};
 use equivalence::Element;
 use equivalence::map::is_identity;
 use equivalence::order::first_held;
 use extremal::separated_into;
-use listing::meet_with;
-use listing::whole_into;
+use maplist::meet_with;
+use maplist::whole_into;
 
 // What gathering found: so many congruences, none of them the identity, that meet in it; or a pair that all but the identity join.
 pub enum Collected {
@@ -30,7 +30,7 @@ fn add(n: usize, arities: &[u8], cells: &[u8], met: &mut [u8], map: &mut [u8]) -
     requires { ⌜ Canonical n (byte (now met)) ⌝ }
     requires { ⌜ isIdentity n (now met) ≡ false ⌝ }
     requires { ⌜ n ≤ length (now map) ⌝ }
-    ensures { λ r. ⌜ Step (algebraIn n (arities .entry) (cells .entry)) (now (met .entry)) (now (map .entry)) r (now (met .exit)) (now (map .exit)) ⌝ }
+    ensures { λ r. ⌜ AddStep (algebraIn n (arities .entry) (cells .entry)) (now (met .entry)) (now (map .entry)) r (now (met .exit)) (now (map .exit)) ⌝ }
 {
     let pair = first_held(n, met);
     separated_into(n, arities, cells, pair.x, pair.y, map);

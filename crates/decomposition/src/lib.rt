@@ -6,7 +6,7 @@ ghost use lib.ListN.{length};
 ghost use Rattle.algebra.specs.Algebra.{algebraIn};
 ghost use Rattle.algebra.specs.Accepted.{Accepted};
 ghost use Rattle.theory.specs.Decompose.{factorSpace};
-ghost use Rattle.decomposition.specs.Factored.{Storage, FoundIn, Writable, foundWritten, Factored};
+ghost use Rattle.decomposition.specs.InnerFactored.{Storage, FoundIn, Writable, foundWritten, Factored};
 use crate::gather::Collected;
 use crate::gather::gather;
 use crate::prune::mark_needed;

@@ -4,13 +4,13 @@ ghost use mathlib.Core.Path.{_≡_};
 ghost use Prim.Native.Nat.{_+_, _*_, _≤_};
 ghost use lib.ListN.{length};
 ghost use Rattle.equivalence.specs.Equivalence.{byte};
-ghost use Rattle.kernel.specs.Kernel.{Canonical};
-ghost use Rattle.listing.specs.Listing.{listing, MapsListed, SuffixMeets};
-ghost use Rattle.decomposition.specs.Pruning.{inTurn, Needed};
-use listing::meet_with;
-use listing::meets_in_identity;
-use listing::suffix_meets;
-use listing::whole_into;
+ghost use Rattle.kernel.specs.InnerKernel.{Canonical};
+ghost use Rattle.maplist.specs.InnerMapLists.{mapList, MapsListed, SuffixMeets};
+ghost use Rattle.decomposition.specs.InnerPruning.{inTurn, Needed};
+use maplist::meet_with;
+use maplist::meets_in_identity;
+use maplist::suffix_meets;
+use maplist::whole_into;
 
 // A map in its turn. `met` is the meet of those needed so far and `after` that of those behind the map: where these two meet in the identity it
 // is dropped, else it is met. How many more are needed: one or none.
@@ -41,7 +41,7 @@ fn mark_in_turn(
     needed: &mut [u8],
 ) -> usize
     requires { ⌜ MapsListed n count (now maps) ⌝ }
-    requires { ⌜ SuffixMeets n (listing n count (now maps)) (now suffixes) ⌝ }
+    requires { ⌜ SuffixMeets n (mapList n count (now maps)) (now suffixes) ⌝ }
     requires { ⌜ count * n + n ≤ length (now suffixes) ⌝ }
     requires { ⌜ n ≤ length (now met) ⌝ }
     requires { ⌜ count ≤ length (now needed) ⌝ }

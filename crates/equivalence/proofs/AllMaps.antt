@@ -1,4 +1,4 @@
--- The first members of the blocks, and every map over n: `maps n` lists exactly the maps.
+-- The smallest members of the blocks, and every map over n: `maps n` lists exactly the maps.
 use Prim.Native.Nat.{ℕ, zero, suc, _≤_, _<_}
 use mathlib.Core.List.{List, [], _∷_, _++_, map, List·Memᴰ as Member, List·Memᴰ·head as here, List·Memᴰ·eq-of-singleton as eq-of-singleton, Memᴰ·map as member-map, Memᴰ·of-map as of-map, Memᴰ·append-left as append-left, Memᴰ·append-right as append-right, List·Memᴰ·append-cases as append-cases, Memᴰ·cast as cast}
 use mathlib.Core.Logic.{inl, inr}
@@ -9,19 +9,19 @@ use lib.Dec.{eqb, eqb→eq}
 use lib.ListN.{length, take, length-append, List·getD-append}
 use lib.Pow.{low}
 use lib.Seq.{getD-take, getD-append-seam, take-suc, take-all, length-take-le}
-use Rattle.equivalence.specs.Equivalence.{Map, byte, roots, maps}
+use Rattle.equivalence.specs.Equivalence.{Map, byte, namesOf, maps}
 use Rattle.equivalence.specs.Lists.{upTo}
 use Rattle.equivalence.proofs.Lists.{keep-member, of-keep, member-concat, of-concat, member-upTo, of-upTo}
 use Rattle.equivalence.proofs.Maps.{IsMap}
 use Rattle.equivalence.proofs.Tests.{eq→eqb}
 
-pub member-roots : (n : ℕ) (m : Map) (x : ℕ) → x < n → byte m x ≡ x → Member x (roots n m)
-unfolding roots
-member-roots n m x l e = keep-member (λ x. eqb (byte m x) x) (upTo n) x (member-upTo n x l) (eq→eqb (byte m x) x e)
+pub member-namesOf : (n : ℕ) (m : Map) (x : ℕ) → x < n → byte m x ≡ x → Member x (namesOf n m)
+unfolding namesOf
+member-namesOf n m x l e = keep-member (λ x. eqb (byte m x) x) (upTo n) x (member-upTo n x l) (eq→eqb (byte m x) x e)
 
-pub of-roots : (n : ℕ) (m : Map) (x : ℕ) → Member x (roots n m) → (x < n) × (byte m x ≡ x)
-unfolding roots
-of-roots n m x i =
+pub of-namesOf : (n : ℕ) (m : Map) (x : ℕ) → Member x (namesOf n m) → (x < n) × (byte m x ≡ x)
+unfolding namesOf
+of-namesOf n m x i =
     let r = of-keep (λ x. eqb (byte m x) x) (upTo n) x i in
     (of-upTo n x (r .0), eqb→eq (byte m x) x (r .1))
 
@@ -53,13 +53,13 @@ unfolding maps
 maps-sound zero m i =
     rw (eq-of-singleton i) (record { long = refl; low = λ x l. absurd (omega arith); named = λ x l. absurd (omega arith) })
 maps-sound (suc n) m i =
-    let s = of-concat (map (λ m. map (λ r. m ++ (r ∷ [])) (roots n m ++ (n ∷ []))) (maps n)) m i in
-    let u = of-map (λ m. map (λ r. m ++ (r ∷ [])) (roots n m ++ (n ∷ []))) (maps n) (s .1) in
-    let v = of-map (λ r. u .0 ++ (r ∷ [])) (roots n (u .0) ++ (n ∷ [])) (subst (λ (l : List Map). Member m l) (sym (u .2)) (s .2)) in
+    let s = of-concat (map (λ m. map (λ r. m ++ (r ∷ [])) (namesOf n m ++ (n ∷ []))) (maps n)) m i in
+    let u = of-map (λ m. map (λ r. m ++ (r ∷ [])) (namesOf n m ++ (n ∷ []))) (maps n) (s .1) in
+    let v = of-map (λ r. u .0 ++ (r ∷ [])) (namesOf n (u .0) ++ (n ∷ [])) (subst (λ (l : List Map). Member m l) (sym (u .2)) (s .2)) in
     let p : IsMap n (u .0) = maps-sound n (u .0) (u .1) in
     rw (← (v .2))
-    (elim (append-cases (roots n (u .0)) (v .1)) [
-      | inl k ↦ let q = of-roots n (u .0) (v .0) k in longer n (u .0) p (v .0) (omega arith) (λ l. q .1)
+    (elim (append-cases (namesOf n (u .0)) (v .1)) [
+      | inl k ↦ let q = of-namesOf n (u .0) (v .0) k in longer n (u .0) p (v .0) (omega arith) (λ l. q .1)
       | inr k ↦ let e : v .0 ≡ n = eq-of-singleton k in longer n (u .0) p (v .0) (omega arith) (λ l. absurd (omega arith))
     ])
 
@@ -78,11 +78,11 @@ maps-complete (suc n) m p =
       named = λ x k. let j : byte m x < n = omega (arith, p .low x (omega arith)) in
           rw (taken x k, taken (byte m x) j) (p .named x (omega arith));
     } in
-    let i : Member (byte m n) (roots n (take n m) ++ (n ∷ [])) =
+    let i : Member (byte m n) (namesOf n (take n m) ++ (n ∷ [])) =
     elim (decLt (byte m n) n) [
-      | yes k ↦ append-left (n ∷ []) (member-roots n (take n m) (byte m n) k (taken (byte m n) k ∙ p .named n (omega arith)))
-      | no g ↦ append-right (roots n (take n m)) (here (omega (arith, p .low n (omega arith))))
+      | yes k ↦ append-left (n ∷ []) (member-namesOf n (take n m) (byte m n) k (taken (byte m n) k ∙ p .named n (omega arith)))
+      | no g ↦ append-right (namesOf n (take n m)) (here (omega (arith, p .low n (omega arith))))
     ] in
-    member-concat (map (λ m. map (λ r. m ++ (r ∷ [])) (roots n m ++ (n ∷ []))) (maps n)) (map (λ r. take n m ++ (r ∷ [])) (roots n (take n m) ++ (n ∷ []))) m
-    (member-map (λ m. map (λ r. m ++ (r ∷ [])) (roots n m ++ (n ∷ []))) (maps-complete n (take n m) q))
+    member-concat (map (λ m. map (λ r. m ++ (r ∷ [])) (namesOf n m ++ (n ∷ []))) (maps n)) (map (λ r. take n m ++ (r ∷ [])) (namesOf n (take n m) ++ (n ∷ []))) m
+    (member-map (λ m. map (λ r. m ++ (r ∷ [])) (namesOf n m ++ (n ∷ []))) (maps-complete n (take n m) q))
     (cast (sym e) (member-map (λ r. take n m ++ (r ∷ [])) i))

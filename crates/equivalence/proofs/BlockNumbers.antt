@@ -6,24 +6,24 @@ use native.Mathlib.Decide.{ℕ-discrete}
 use native.Mathlib.Omega.{arith}
 use lib.Dec.{eqb, eqb→eq}
 use lib.ListN.{length, getD}
-use Rattle.equivalence.specs.Equivalence.{Map, byte, roots, blocks, blockOf}
+use Rattle.equivalence.specs.Equivalence.{Map, byte, namesOf, blocks, blockOf}
 use Rattle.equivalence.specs.Lists.{upTo, keep}
-use Rattle.equivalence.proofs.AllMaps.{member-roots, of-roots}
+use Rattle.equivalence.proofs.AllMaps.{member-namesOf, of-namesOf}
 use Rattle.equivalence.proofs.Lists.{keep-all, keep-more, member-at, member-index, upTo-length, member-upTo, of-upTo, rank, ranked}
 use Rattle.equivalence.proofs.Maps.{Holds, IsMap, Inside, low-inside}
 use Rattle.equivalence.proofs.Tests.{eq→eqb}
 
 pub blocks-le : (n : ℕ) (m : Map) → blocks n m ≤ n
-unfolding blocks roots
+unfolding blocks namesOf
 blocks-le n m = omega (arith, keep-all (λ x. eqb (byte m x) x) (upTo n), upTo-length n)
 
 pub blocks-some : (n : ℕ) (m : Map) → 1 ≤ n → IsMap n m → 1 ≤ blocks n m
 unfolding blocks
-blocks-some n m o p = let r = member-index (roots n m) 0 0 (member-roots n m 0 o (omega (arith, p .low 0 o))) in omega (arith, r .1)
+blocks-some n m o p = let r = member-index (namesOf n m) 0 0 (member-namesOf n m 0 o (omega (arith, p .low 0 o))) in omega (arith, r .1)
 
 -- e lies inside d and holds apart two-at-least elements that d joins: e has more blocks
 pub blocks-more : (n : ℕ) (d e : Map) → IsMap n d → IsMap n e → Inside n e d → (v w : ℕ) → v < n → w < n → Holds d v w → ¬ Holds e v w → blocks n d < blocks n e
-unfolding blocks roots
+unfolding blocks namesOf
 blocks-more n d e p q h v w l k s a =
     elim (ℕ-discrete (byte d (byte e v)) (byte e v)) [
       | yes f ↦ elim (ℕ-discrete (byte d (byte e w)) (byte e w)) [
@@ -47,23 +47,23 @@ blocks-more n d e p q h v w l k s a =
         (byte e x) (member-upTo n (byte e x) (below x i)) (λ t. f (eqb→eq _ _ t)) (eq→eqb _ _ (q .named x i))
 
 abbrev pub smallest : ℕ → Map → ℕ → ℕ
-smallest n m b = getD (roots n m) b 0
+smallest n m b = getD (namesOf n m) b 0
 
 module _ (n : ℕ) (m : Map) (p : IsMap n m) where
   pub block-below : (x : ℕ) → x < n → blockOf m x < blocks n m
-  unfolding blockOf blocks roots
+  unfolding blockOf blocks namesOf
   block-below x l = rank (λ x. eqb (byte m x) x) n (byte m x) (omega (arith, p .low x l)) (eq→eqb (byte m (byte m x)) (byte m x) (p .named x l)) .0
 
   pub smallest-block : (x : ℕ) → x < n → smallest n m (blockOf m x) ≡ byte m x
-  unfolding blockOf blocks roots
+  unfolding blockOf blocks namesOf
   smallest-block x l = rank (λ x. eqb (byte m x) x) n (byte m x) (omega (arith, p .low x l)) (eq→eqb (byte m (byte m x)) (byte m x) (p .named x l)) .1
 
   pub smallest-below : (b : ℕ) → b < blocks n m → (smallest n m b < n) × (byte m (smallest n m b) ≡ smallest n m b)
   unfolding blocks
-  smallest-below b l = of-roots n m (smallest n m b) (member-at (roots n m) b 0 l)
+  smallest-below b l = of-namesOf n m (smallest n m b) (member-at (namesOf n m) b 0 l)
 
   pub block-smallest : (b : ℕ) → b < blocks n m → blockOf m (smallest n m b) ≡ b
-  unfolding blockOf blocks roots
+  unfolding blockOf blocks namesOf
   block-smallest b l =
       let e : byte m (getD (keep (λ x. eqb (byte m x) x) (upTo n)) b 0) ≡ getD (keep (λ x. eqb (byte m x) x) (upTo n)) b 0 = smallest-below b l .1 in
       rw e (ranked (λ x. eqb (byte m x) x) n b l)

@@ -8,15 +8,15 @@ use native.Mathlib.Numerals.{add-one}
 use native.Mathlib.Omega.{arith}
 use lib.Dec.{T, eqb, leb}
 use lib.ListN.{length, length-append}
-use Rattle.equivalence.specs.Equivalence.{Map, byte, isMap, inside, roots, blocks, isIdentity}
-use Rattle.kernel.specs.Kernel.{Canonical, bit, names}
+use Rattle.equivalence.specs.Equivalence.{Map, byte, isMap, inside, namesOf, blocks, isIdentity}
+use Rattle.kernel.specs.InnerKernel.{Canonical, bit, names}
 use Rattle.equivalence.specs.Lists.{upTo, keep}
 use Rattle.equivalence.proofs.Lists.{below-of, of-below, keep-append}
 use Rattle.equivalence.proofs.Maps.{IsMap, inside-of, of-inside, isIdentity-of, of-isIdentity}
 use Rattle.equivalence.proofs.Tests.{both, right, eq→eqb, pick}
 
 pub canonical-of : (n : ℕ) (m : Map) → IsMap n m → Canonical n (byte m)
-canonical-of n m p = record { below = p .low; root = p .named }
+canonical-of n m p = record { below = p .low; named = p .named }
 
 -- the test of one byte
 abbrev pub isNamed : Map → ℕ → Bool
@@ -39,14 +39,14 @@ module _ (n : ℕ) (a b : Map) (c : Canonical n (byte a)) where
   inside-first h = inside-of n a b (λ x y l k e. h x l ∙ ap (byte b) e ∙ sym (h y k))
 
   pub of-inside-first : T (inside n a b) → (x : ℕ) → x < n → Follows x
-  of-inside-first t x l = of-inside n a b t x (byte a x) l (omega (arith, c .below x l)) (sym (c .root x l))
+  of-inside-first t x l = of-inside n a b t x (byte a x) l (omega (arith, c .below x l)) (sym (c .named x l))
 
 module _ (n : ℕ) (m : Map) (c : Canonical n (byte m)) where
   pub isIdentity-own : ((x : ℕ) → x < n → byte m x ≡ x) → T (isIdentity n m)
   isIdentity-own h = isIdentity-of n m (λ x y l k e. sym (h x l) ∙ e ∙ h y k)
 
   pub of-isIdentity-own : T (isIdentity n m) → (x : ℕ) → x < n → byte m x ≡ x
-  of-isIdentity-own t x l = of-isIdentity n m t (byte m x) x (omega (arith, c .below x l)) l (c .root x l)
+  of-isIdentity-own t x l = of-isIdentity n m t (byte m x) x (omega (arith, c .below x l)) l (c .named x l)
 
 pub names-more : (n : ℕ) (f : ℕ → ℕ) → names (n + 1) f ≡ names n f + bit (eqb (f n) n)
 unfolding names
@@ -65,9 +65,9 @@ kept-one : (b : Bool) (x : ℕ) → bit b ≡ length (pick {A = Map} b (x ∷ []
 kept-one true x = refl
 kept-one false x = refl
 
--- the elements that are their own names are the first members of the blocks
+-- the elements that are their own names are the smallest members of the blocks
 pub names-blocks : (n : ℕ) (m : Map) → names n (byte m) ≡ blocks n m
-unfolding names blocks roots upTo keep
+unfolding names blocks namesOf upTo keep
 names-blocks zero m = refl
 names-blocks (suc n) m =
     let own : ℕ → Bool = λ x. eqb (byte m x) x in

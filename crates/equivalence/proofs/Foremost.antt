@@ -9,9 +9,9 @@ use native.Mathlib.Omega.{arith}
 use lib.Dec.{T, eqb, leb, ltb, T-not, not-T, eqb→eq, ltb→lt, lt→ltb}
 use borrow.Author.Tests.{le-leb, lt-leb}
 use Rattle.equivalence.specs.Equivalence.{Map, byte, holds}
-use Rattle.kernel.specs.Kernel.{Canonical}
+use Rattle.kernel.specs.InnerKernel.{Canonical}
 use Rattle.equivalence.specs.Order.{pairs, notLater, firstHeld}
-use Rattle.kernel.specs.Search.{foremost}
+use Rattle.kernel.specs.InnerSearch.{foremost}
 use Rattle.equivalence.proofs.Earlier.{notLater-same, larger-notLater, notLater-first}
 use Rattle.equivalence.proofs.Lists.{first-none}
 use Rattle.equivalence.proofs.Maps.{Holds, holds-of, of-holds}
@@ -104,7 +104,7 @@ module _ (n : ℕ) (m : Map) (some : 1 ≤ n) (c : Canonical n (byte m)) where
             s .none e p.1 (q .1) (moved-of p.1 (omega (arith, c .below p.0 (omega arith)))))))
         | no e ↦
             let l : byte m at < at = less at (s .low) (s .some e) in
-            sym (firstHeld-is n m (byte m at) at l (s .low) (c .root at (s .low))
+            sym (firstHeld-is n m (byte m at) at l (s .low) (c .named at (s .low))
             (λ u v i j before h.
             let b : byte m u ≤ u = c .below u (omega arith) in
             let t : T (moved m v) = moved-of v (omega arith) in
@@ -139,7 +139,7 @@ module _ (n : ℕ) (a b : Map) (some : 1 ≤ n) (ca : Canonical n (byte a)) (cb 
       → ((k : ℕ) → k < n → (byte a k ≡ byte b k → ⊥) → (byte a k ≤ byte a at → at ≤ k) × (byte b k ≤ byte a at → at ≤ k))
       → T (notLater n a b)
   earlier-at at l s least nearest =
-      notLater-first n a b (byte a at) at (omega (arith, cb .below at l)) l (ca .root at l)
+      notLater-first n a b (byte a at) at (omega (arith, cb .below at l)) l (ca .named at l)
       (λ h. omega (arith, cb .below (byte a at) (omega (arith, ca .below at l))))
       (λ u v i j before h. elim (ℕ-discrete (byte a u) (byte a v)) [
         | yes e ↦ e
@@ -183,7 +183,7 @@ module _ (n : ℕ) (a b : Map) (some : 1 ≤ n) (ca : Canonical n (byte a)) (cb 
       -- b holds the pair, and a does not
       apart : byte b at < byte a at → holds a (byte b at) at ≡ holds b (byte b at) at → ⊥
       apart k e =
-          let h : Holds a (byte b at) at = of-holds a (byte b at) at (subst T (sym e) (holds-of b (byte b at) at (cb .root at (s .low)))) in
+          let h : Holds a (byte b at) at = of-holds a (byte b at) at (subst T (sym e) (holds-of b (byte b at) at (cb .named at (s .low)))) in
           omega (arith, ca .below (byte b at) (omega (arith, ca .below at (s .low), s .low)))
 
       equal : byte a at ≡ byte b at → (x : ℕ) → x < n → byte a x ≡ byte b x

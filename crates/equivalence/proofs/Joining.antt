@@ -8,7 +8,7 @@ use native.Mathlib.Omega.{arith}
 use lib.ListN.{length, take}
 use lib.Seq.{getD-take, length-take-le}
 use Rattle.equivalence.specs.Equivalence.{Map, byte, join}
-use Rattle.kernel.specs.Kernel.{Canonical, Filled, United, Joined}
+use Rattle.kernel.specs.InnerKernel.{Canonical, Filled, United, Joined}
 use Rattle.equivalence.specs.Lent.{written}
 use Rattle.equivalence.proofs.Joins.{LeastUpper, join-law, join-is}
 use Rattle.equivalence.proofs.Maps.{IsMap}
@@ -34,7 +34,7 @@ pub canonical-filled : {n : ℕ} {f g h : ℕ → ℕ} → Canonical n f → Fil
 canonical-filled {n} {f} {g} {h} c r =
     record {
       below = λ x l. omega (arith, r .first x l, c .below x l);
-      root = λ x l. ap h (r .first x l) ∙ r .first (f x) (omega (arith, c .below x l)) ∙ c .root x l ∙ sym (r .first x l);
+      named = λ x l. ap h (r .first x l) ∙ r .first (f x) (omega (arith, c .below x l)) ∙ c .named x l ∙ sym (r .first x l);
     }
 
 module _ (n : ℕ) (a b lent after : List ℕ) (copied : ℕ → ℕ) (fits : n ≤ length lent) (long : length after ≡ length lent) (c : Canonical n (byte b))
@@ -52,7 +52,7 @@ module _ (n : ℕ) (a b lent after : List ℕ) (copied : ℕ → ℕ) (fits : n 
       record {
         long = length-take-le n after (omega arith);
         low = λ x l. omega (arith, at x l, j .canonical .below x l);
-        named = λ x l. ap (byte new) (at x l) ∙ at (byte after x) (omega (arith, j .canonical .below x l)) ∙ j .canonical .root x l ∙ sym (at x l);
+        named = λ x l. ap (byte new) (at x l) ∙ at (byte after x) (omega (arith, j .canonical .below x l)) ∙ j .canonical .named x l ∙ sym (at x l);
       }
 
   least-upper : LeastUpper n a b new
@@ -62,7 +62,7 @@ module _ (n : ℕ) (a b lent after : List ℕ) (copied : ℕ → ℕ) (fits : n 
         left = λ x y l k e. at x l ∙ j .within x y l k (r .first x l ∙ e ∙ sym (r .first y k)) ∙ sym (at y k);
         right = λ x y l k e. at x l ∙ j .holds x l ∙ ap (byte after) e ∙ sym (j .holds y k) ∙ sym (at y k);
         least = λ e p f g x y l k q. j .least (byte e) (λ u v i w s. f u v i w (sym (r .first u i) ∙ s ∙ r .first v w))
-            (λ u i. g u (byte b u) i (omega (arith, c .below u i)) (sym (c .root u i))) x y l k (sym (at x l) ∙ q ∙ at y k);
+            (λ u i. g u (byte b u) i (omega (arith, c .below u i)) (sym (c .named u i))) x y l k (sym (at x l) ∙ q ∙ at y k);
       }
 
   pub joined-written : after ≡ written (join n a b) lent

@@ -9,7 +9,7 @@ use lib.ListN.{length, set}
 use lib.Seq.{getD-set-same, getD-set-other}
 use borrow.Author.Tests.{lt-ltb, le-ltb}
 use Rattle.equivalence.specs.Equivalence.{Map, byte, meet}
-use Rattle.kernel.specs.Kernel.{Canonical, seenOr}
+use Rattle.kernel.specs.InnerKernel.{Canonical, seenOr}
 use Rattle.equivalence.proofs.Maps.{Holds}
 use Rattle.equivalence.proofs.Meets.{meet-map, meet-holds, of-meet, meet-byte}
 

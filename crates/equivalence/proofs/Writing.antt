@@ -7,7 +7,7 @@ use native.Mathlib.Omega.{arith}
 use lib.ListN.{length, drop, length-append, List·getD-append, length-drop}
 use lib.Seq.{getD-drop, ext-getD, getD-append-add}
 use Rattle.equivalence.specs.Equivalence.{byte}
-use Rattle.kernel.specs.Kernel.{Filled}
+use Rattle.kernel.specs.InnerKernel.{Filled}
 use Rattle.equivalence.specs.Lent.{written}
 
 module _ (new lent : List ℕ) (fits : length new ≤ length lent) where

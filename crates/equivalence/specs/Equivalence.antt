@@ -27,14 +27,14 @@ unfoldable pub inside : ℕ → Map → Map → Bool
 inside n a b = every (λ x. every (λ y. not (holds a x y) || holds b x y) (upTo n)) (upTo n)
 
 -- the smallest members of the blocks, in order
-unfoldable pub roots : ℕ → Map → List ℕ
-roots n m = keep (λ x. eqb (byte m x) x) (upTo n)
+unfoldable pub namesOf : ℕ → Map → List ℕ
+namesOf n m = keep (λ x. eqb (byte m x) x) (upTo n)
 
 -- how many blocks there are
 unfoldable pub blocks : ℕ → Map → ℕ
-blocks n m = length (roots n m)
+blocks n m = length (namesOf n m)
 
--- the number of x's block, blocks numbered from 0 by smallest member: how many blocks begin below the first member of x's
+-- the number of x's block, blocks numbered from 0 by smallest member: how many blocks begin below the smallest member of x's
 unfoldable pub blockOf : Map → ℕ → ℕ
 blockOf m x = blocks (byte m x) m
 
@@ -70,7 +70,7 @@ meetAll n (m ∷ rest) = meet n m (meetAll n rest)
 -- every map over n elements: element n joins a block of a map over those before it, or stands alone
 unfoldable pub maps : ℕ → List Map
 maps zero = [] ∷ []
-maps (suc n) = concat (map (λ m. map (λ r. m ++ (r ∷ [])) (roots n m ++ (n ∷ []))) (maps n))
+maps (suc n) = concat (map (λ m. map (λ r. m ++ (r ∷ [])) (namesOf n m ++ (n ∷ []))) (maps n))
 
 -- the member that stands in the order to every member: by inclusion the least, by its reverse the greatest
 unfoldable pub best : (Map → Map → Bool) → List Map → Map

@@ -2,7 +2,7 @@
 ghost use mathlib.Core.Path.{_≡_};
 ghost use Prim.Native.Nat.{_+_, _<_, _≤_};
 ghost use Rattle.equivalence.specs.Equivalence.{byte};
-ghost use Rattle.kernel.specs.Kernel.{Canonical, Filled, Merged, United, relabel};
+ghost use Rattle.kernel.specs.InnerKernel.{Canonical, Filled, Merged, United, relabel};
 
 // v, or `new` where v is `old`.
 fn relabelled(v: u8, old: u8, new: u8) -> u8

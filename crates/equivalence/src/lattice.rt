@@ -3,7 +3,7 @@ ghost use mathlib.Core.Path.{_≡_};
 ghost use Prim.Native.Nat.{ℕ, _+_, _*_, _<_, _≤_};
 ghost use lib.ListN.{length};
 ghost use Rattle.equivalence.specs.Equivalence.{byte, meet, join};
-ghost use Rattle.kernel.specs.Kernel.{Canonical, Filled, Joined, seenOr};
+ghost use Rattle.kernel.specs.InnerKernel.{Canonical, Filled, Joined, seenOr};
 use crate::blocks;
 ghost use Rattle.equivalence.specs.Lent.{written};
 
@@ -54,7 +54,7 @@ pub fn meet_into(n: usize, a: &[u8], b: &[u8], out: &mut [u8])
     meet_by(n, a, b, &mut table, out);
 }
 
-// Puts each element and its first member in b into one block.
+// Puts each element and its smallest member in b into one block.
 fn unite_all(m: &mut [u8], n: usize, b: &[u8])
     requires { do ⌜ n ≤ (← ⟦m.len()⟧) ⌝ }
     requires { do ⌜ n ≤ (← ⟦b.len()⟧) ⌝ }

@@ -4,7 +4,7 @@ ghost use mathlib.Core.Bool.{_&&_};
 ghost use Prim.Native.Nat.{_<_, _≤_};
 ghost use lib.Dec.{eqb, leb};
 ghost use Rattle.equivalence.specs.Equivalence.{byte, isMap, inside, isIdentity};
-ghost use Rattle.kernel.specs.Kernel.{Canonical, bit, names};
+ghost use Rattle.kernel.specs.InnerKernel.{Canonical, bit, names};
 
 // Whether the byte of x is at most x and names an element whose byte is itself.
 fn is_named(m: &[u8], x: usize) -> bool

@@ -2,9 +2,9 @@
 ghost use mathlib.Core.Path.{_≡_};
 ghost use Prim.Native.Nat.{_+_, _-_, _<_, _≤_, min};
 ghost use Rattle.equivalence.specs.Equivalence.{byte};
-ghost use Rattle.kernel.specs.Kernel.{Canonical};
+ghost use Rattle.kernel.specs.InnerKernel.{Canonical};
 ghost use Rattle.equivalence.specs.Order.{firstHeld, notLater, rowStart};
-ghost use Rattle.kernel.specs.Search.{foremost};
+ghost use Rattle.kernel.specs.InnerSearch.{foremost};
 use crate::Pair;
 
 // The number of pairs of 64 elements in the rows before row x: row i has 63 - i pairs.

@@ -9,7 +9,7 @@ use lib.Dec.{T}
 use lib.ListN.{length, take}
 use lib.Seq.{getD-take, length-take-le}
 use Rattle.equivalence.specs.Equivalence.{Map, byte, holds, blocks}
-use Rattle.kernel.specs.Kernel.{Canonical, Within, Filled, names}
+use Rattle.kernel.specs.InnerKernel.{Canonical, Within, Filled, names}
 use Rattle.equivalence.specs.Order.{Pair, pairs}
 use Rattle.equivalence.specs.Lent.{written}
 use Rattle.equivalence.proofs.Bytes.{names-blocks}
@@ -20,7 +20,7 @@ use Rattle.equivalence.proofs.Pairs.{member-pairs, of-pairs, Sorted, Lex, sorte
 use Rattle.equivalence.proofs.Tests.{both, left, right}
 use Rattle.equivalence.proofs.Writing.{filled-written}
 use Rattle.algebra.specs.Algebra.{Algebra}
-use Rattle.translation.specs.Translations.{Compatible, Closed, Refined}
+use Rattle.translation.specs.InnerTranslations.{Compatible, Closed, Refined}
 use Rattle.algebra.proofs.Accepted.{WellFormed}
 use Rattle.algebra.proofs.Congruences.{IsCongruence}
 use Rattle.translation.proofs.Translations.{congruence-compatible, compatible-congruence}
@@ -28,8 +28,8 @@ use Rattle.theory.specs.Extremal.{holdsAll, generated, extended, contained, sep
 use Rattle.theory.proofs.Above.{extended-is, Below, generated-is}
 use Rattle.theory.proofs.GreatestCongruence.{contained-is}
 use Rattle.theory.proofs.Separation.{separated-is, lex-asym}
-use Rattle.closure.specs.Starts.{JoinsPairs, Extends}
-use Rattle.separation.specs.Search.{Before, Earliest}
+use Rattle.closure.specs.InnerStarts.{JoinsPairs, Extends}
+use Rattle.separation.specs.InnerSearch.{Before, Earliest}
 use Rattle.refinement.proofs.Refinements.{canonical-same, compatible-same}
 
 -- ---- the first n bytes of a slice
@@ -45,7 +45,7 @@ front-map n l fits c =
       low = λ x h. rw (front-byte n l x h) (c .below x h);
       named = λ x h.
           let b : byte l x < n = omega (arith, c .below x h) in
-          rw (front-byte n l x h) (front-byte n l (byte l x) b ∙ c .root x h);
+          rw (front-byte n l x h) (front-byte n l (byte l x) b ∙ c .named x h);
     }
 
 -- how many blocks they have

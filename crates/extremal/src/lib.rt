@@ -4,7 +4,7 @@ ghost use Prim.Native.Nat.{ℕ, _+_, _-_, _<_, _≤_};
 ghost use lib.Dec.{T};
 ghost use lib.ListN.{length, take};
 ghost use Rattle.equivalence.specs.Equivalence.{byte, isMap, blocks};
-ghost use Rattle.kernel.specs.Kernel.{Canonical};
+ghost use Rattle.kernel.specs.InnerKernel.{Canonical};
 ghost use Rattle.equivalence.specs.Lent.{written};
 ghost use Rattle.algebra.specs.Algebra.{algebraIn};
 ghost use Rattle.algebra.specs.Accepted.{Accepted};

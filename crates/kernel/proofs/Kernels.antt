@@ -8,7 +8,7 @@ use lib.Dec.{eqb}
 use lib.ListN.{length, getD, set}
 use lib.Seq.{getD-set-same, getD-set-other}
 use borrow.Author.Tests.{eq-eqb, ne-eqb}
-use Rattle.kernel.specs.Kernel.{Canonical, Within, relabel, Filled, bit, names, Merged}
+use Rattle.kernel.specs.InnerKernel.{Canonical, Within, relabel, Filled, bit, names, Merged}
 
 pub relabel-same : (old new v : ℕ) → v ≡ old → relabel old new v ≡ new
 unfolding relabel
@@ -20,7 +20,7 @@ relabel-other old new v h = rw (ne-eqb v old h, relabel)
 
 -- the identity is a map, inside everything
 pub identity-canonical : (n : ℕ) (f : ℕ → ℕ) → ((x : ℕ) → x < n → f x ≡ x) → Canonical n f
-identity-canonical n f e = record { below = λ x l. omega (arith, e x l); root = λ x l. ap f (e x l) }
+identity-canonical n f e = record { below = λ x l. omega (arith, e x l); named = λ x l. ap f (e x l) }
 
 pub identity-within : (n : ℕ) (f g : ℕ → ℕ) → ((x : ℕ) → x < n → f x ≡ x) → Within n f g
 identity-within n f g e x y lx ly p = ap g (sym (e x lx) ∙ p ∙ e y ly)
@@ -50,7 +50,7 @@ names-positive (suc zero) f l c =
     let t : bit (eqb (f 0) 0) ≡ 1 = ap bit (eq-eqb (f 0) 0 (omega (arith, c .below 0 l))) in
     omega arith
 names-positive (suc (suc n)) f l c =
-    let h : 0 < names (suc n) f = names-positive (suc n) f (omega arith) (record { below = λ x q. c .below x (omega arith); root = λ x q. c .root x (omega arith) }) in
+    let h : 0 < names (suc n) f = names-positive (suc n) f (omega arith) (record { below = λ x q. c .below x (omega arith); named = λ x q. c .named x (omega arith) }) in
     omega arith
 
 -- f′ is f with the block that f names by f b put under f a, the smaller name
@@ -66,7 +66,7 @@ module _ (n : ℕ) (f f′ : ℕ → ℕ) (a b : ℕ) (c : Canonical n f) (la : 
   low = omega (arith, c .below a la)
 
   name-low : f′ (f a) ≡ f a
-  name-low = let r : f (f a) ≡ f a = c .root a la in at-other (f a) low (omega arith) ∙ r
+  name-low = let r : f (f a) ≡ f a = c .named a la in at-other (f a) low (omega arith) ∙ r
 
   merged-canonical : Canonical n f′
   merged-canonical = record {
@@ -74,9 +74,9 @@ module _ (n : ℕ) (f f′ : ℕ → ℕ) (a b : ℕ) (c : Canonical n f) (la : 
       | yes p ↦ omega (arith, at-same x l p, c .below x l)
       | no p ↦ omega (arith, at-other x l p, c .below x l)
     ];
-    root = λ x l. elim (ℕ-discrete (f x) (f b)) [
+    named = λ x l. elim (ℕ-discrete (f x) (f b)) [
       | yes p ↦ cc (at-same x l p, name-low)
-      | no p ↦ let r : f (f x) ≡ f x = c .root x l in cc (at-other x l p, at-other (f x) (omega (arith, c .below x l)) (λ q. p (sym r ∙ q)))
+      | no p ↦ let r : f (f x) ≡ f x = c .named x l in cc (at-other x l p, at-other (f x) (omega (arith, c .below x l)) (λ q. p (sym r ∙ q)))
     ];
   }
 
@@ -89,8 +89,8 @@ module _ (n : ℕ) (f f′ : ℕ → ℕ) (a b : ℕ) (c : Canonical n f) (la : 
   -- where g joins what f joins, and a and b, an element has its new name's value
   name : (g : ℕ → ℕ) → Within n f g → g a ≡ g b → (x : ℕ) → x < n → g x ≡ g (f′ x)
   name g w q x l = elim (ℕ-discrete (f x) (f b)) [
-    | yes p ↦ cc (w x b l lb p, at-same x l p, w a (f a) la low (sym (c .root a la)))
-    | no p ↦ cc (at-other x l p, w x (f x) l (omega (arith, c .below x l)) (sym (c .root x l)))
+    | yes p ↦ cc (w x b l lb p, at-same x l p, w a (f a) la low (sym (c .named a la)))
+    | no p ↦ cc (at-other x l p, w x (f x) l (omega (arith, c .below x l)) (sym (c .named x l)))
   ]
 
   merged-least : (g : ℕ → ℕ) → Within n f g → g a ≡ g b → Within n f′ g
@@ -101,7 +101,7 @@ module _ (n : ℕ) (f f′ : ℕ → ℕ) (a b : ℕ) (c : Canonical n f) (la : 
   names-elsewhere x l d = elim (ℕ-discrete (f x) (f b)) [
     | yes p ↦
         let s : f′ x ≡ f a = at-same x l p in
-        ap bit (ne-eqb (f′ x) x (λ q. let z : f x ≡ f a = cc (c .root a la) in omega arith) ∙ sym (ne-eqb (f x) x (omega arith)))
+        ap bit (ne-eqb (f′ x) x (λ q. let z : f x ≡ f a = cc (c .named a la) in omega arith) ∙ sym (ne-eqb (f x) x (omega arith)))
     | no p ↦ ap (λ (v : ℕ). bit (eqb v x)) (at-other x l p)
   ]
 
@@ -114,7 +114,7 @@ module _ (n : ℕ) (f f′ : ℕ → ℕ) (a b : ℕ) (c : Canonical n f) (la : 
 
   names-there : bit (eqb (f′ (f b)) (f b)) + 1 ≡ bit (eqb (f (f b)) (f b))
   names-there =
-      let r : f (f b) ≡ f b = c .root b lb in
+      let r : f (f b) ≡ f b = c .named b lb in
       let s : f′ (f b) ≡ f a = at-same (f b) (omega (arith, c .below b lb)) r in
       rw (ne-eqb (f′ (f b)) (f b) (omega arith), eq-eqb (f (f b)) (f b) r)
 

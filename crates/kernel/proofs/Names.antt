@@ -7,7 +7,7 @@ use native.Mathlib.Decide.{ℕ-discrete}
 use native.Mathlib.Omega.{arith}
 use lib.Dec.{eqb}
 use borrow.Author.Tests.{eq-eqb, ne-eqb}
-use Rattle.kernel.specs.Kernel.{Canonical, Within, bit, names}
+use Rattle.kernel.specs.InnerKernel.{Canonical, Within, bit, names}
 use Rattle.kernel.proofs.Kernels.{names-positive}
 
 pub bit-most : (b : Bool) → bit b ≤ 1
@@ -67,8 +67,8 @@ names-one n f c e x l =
           let zero-named : (y : ℕ) → y < n → 0 ≡ y → f y ≡ y = λ y ly q. omega (arith, c .below y ly) in
           absurd (omega (
             arith,
-            names-another n (λ y. 0) f zero-named (f x) k (c .root x l) (λ q. p (sym q)),
-            names-positive n (λ y. 0) (omega arith) (record { below = λ y ly. omega arith; root = λ y ly. refl }),
+            names-another n (λ y. 0) f zero-named (f x) k (c .named x l) (λ q. p (sym q)),
+            names-positive n (λ y. 0) (omega arith) (record { below = λ y ly. omega arith; named = λ y ly. refl }),
           ))
     ]
 
@@ -78,5 +78,5 @@ names-one n f c e x l =
 pub name-back : {n : ℕ} {f f′ : ℕ → ℕ} → Canonical n f → Canonical n f′ → Within n f f′ → (y : ℕ) → y < n → f′ y ≡ y → f y ≡ y
 name-back {n} {f} {f′} c d w y l e =
     let s : f y < n = omega (arith, c .below y l) in
-    let t : f′ (f y) ≡ f′ y = w (f y) y s l (c .root y l) in
+    let t : f′ (f y) ≡ f′ y = w (f y) y s l (c .named y l) in
     omega (arith, c .below y l, d .below (f y) s)

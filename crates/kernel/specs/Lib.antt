@@ -1,3 +1,3 @@
-pub mod Kernel
-pub mod Search
-pub mod Largest
+pub mod InnerKernel
+pub mod InnerSearch
+pub mod InnerLargest

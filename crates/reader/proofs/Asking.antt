@@ -12,7 +12,7 @@ use Rattle.reader.specs.Reading.{ascii, Read, found, fault, Reader, _>>=
 use Rattle.reader.specs.Tables.{cell, table, pair, items}
 use Rattle.reader.specs.Lines.{close, spacedNumber, Request, generate, contained, separate, decompose, listing, generating, containing, twoNumbers, request}
 use Rattle.reader.specs.InnerPromises.{readOf, NumberRead, Roomy, Stored, requestOf, Requested, RequestRead}
-use Rattle.kernel.specs.Kernel.{bit}
+use Rattle.kernel.specs.InnerKernel.{bit}
 use Rattle.reader.specs.declared.reading.Number.{Number}
 use Rattle.reader.specs.declared.reading.Spot.{Spot}
 use Rattle.reader.specs.declared.requests.Asked.{Asked}

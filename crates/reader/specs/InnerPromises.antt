@@ -4,7 +4,7 @@ use mathlib.Core.Bool.{Bool, true, false}
 use mathlib.Core.List.{List, [], _∷_, _++_}
 use mathlib.Core.Path.{_≡_}
 use lib.ListN.{length, take}
-use Rattle.kernel.specs.Kernel.{bit}
+use Rattle.kernel.specs.InnerKernel.{bit}
 use Rattle.reader.specs.Reading.{Read, found, fault, gap}
 use Rattle.reader.specs.Laying.{Laid}
 use Rattle.equivalence.specs.declared.Check.{Check}

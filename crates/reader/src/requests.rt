@@ -8,7 +8,7 @@ ghost use Prim.Native.Nat.{_+_, _≤_, _<_};
 ghost use lib.ListN.{length};
 ghost use Rattle.reader.specs.Tables.{table};
 ghost use Rattle.reader.specs.Lines.{listing, twoNumbers, request, generating, containing};
-ghost use Rattle.kernel.specs.Kernel.{bit};
+ghost use Rattle.kernel.specs.InnerKernel.{bit};
 ghost use Rattle.reader.specs.InnerPromises.{goesOn, Roomy, Stored, Requested, RequestRead};
 
 // What a request asks: Generate or Contained with the numbers that were stored, Separate with two elements, Decompose; or nothing, where the line is faulty.

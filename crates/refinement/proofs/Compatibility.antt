@@ -8,14 +8,14 @@ use native.Mathlib.Omega.{arith}
 use lib.Dec.{T}
 use lib.ListN.{length, getD}
 use Rattle.equivalence.specs.Equivalence.{Map, byte}
-use Rattle.kernel.specs.Kernel.{Canonical, Within, Listed}
+use Rattle.kernel.specs.InnerKernel.{Canonical, Within, Listed}
 use Rattle.algebra.specs.Algebra.{Algebra, place}
-use Rattle.translation.specs.Translations.{AllBelow, tableStart, result, Compatible}
+use Rattle.translation.specs.InnerTranslations.{AllBelow, tableStart, result, Compatible}
 use Rattle.algebra.proofs.Accepted.{WellFormed}
 use Rattle.algebra.proofs.Congruences.{cells-below}
 use Rattle.algebra.proofs.Tables.{start-room}
 use Rattle.translation.proofs.Places.{place-one, place-two, place-three}
-use Rattle.refinement.specs.Splitting.{line, Keeps, KeepsOn, Any, Chosen, Table, Lent, Represented}
+use Rattle.refinement.specs.InnerSplitting.{line, Keeps, KeepsOn, Any, Chosen, Table, MapLent, Represented}
 use Rattle.refinement.proofs.Splits.{keeps-by-first}
 use Rattle.kernel.proofs.Names.{name-back}
 
@@ -26,22 +26,22 @@ module _ (a : Algebra) (j : ℕ) where
   unfolding result
   cell xs k e = ap (λ (z : ℕ). getD (a .cells) z 0) e
 
-  one-first : (x : ℕ) → result a j (x ∷ []) ≡ line (a .cells) (tableStart a j) 1 x
+  one-first : (x : ℕ) → result a j (x ∷ []) ≡ lineAt (a .cells) (tableStart a j) 1 x
   one-first x = cell (x ∷ []) _ (omega (arith, place-one (a .size) x))
 
-  two-first : (x u : ℕ) → result a j (x ∷ u ∷ []) ≡ line (a .cells) (tableStart a j + u * 1) (a .size) x
+  two-first : (x u : ℕ) → result a j (x ∷ u ∷ []) ≡ lineAt (a .cells) (tableStart a j + u * 1) (a .size) x
   two-first x u = cell (x ∷ u ∷ []) _ (omega (arith, place-two (a .size) x u))
 
-  two-second : (p x : ℕ) → result a j (p ∷ x ∷ []) ≡ line (a .cells) (tableStart a j + p * a .size) 1 x
+  two-second : (p x : ℕ) → result a j (p ∷ x ∷ []) ≡ lineAt (a .cells) (tableStart a j + p * a .size) 1 x
   two-second p x = cell (p ∷ x ∷ []) _ (omega (arith, place-two (a .size) p x))
 
-  three-first : (x u v : ℕ) → result a j (x ∷ u ∷ v ∷ []) ≡ line (a .cells) (tableStart a j + u * a .size + v * 1) (a .size * a .size) x
+  three-first : (x u v : ℕ) → result a j (x ∷ u ∷ v ∷ []) ≡ lineAt (a .cells) (tableStart a j + u * a .size + v * 1) (a .size * a .size) x
   three-first x u v = cell (x ∷ u ∷ v ∷ []) _ (omega (arith, place-three (a .size) x u v))
 
-  three-second : (p x v : ℕ) → result a j (p ∷ x ∷ v ∷ []) ≡ line (a .cells) (tableStart a j + p * (a .size * a .size) + v * 1) (a .size) x
+  three-second : (p x v : ℕ) → result a j (p ∷ x ∷ v ∷ []) ≡ lineAt (a .cells) (tableStart a j + p * (a .size * a .size) + v * 1) (a .size) x
   three-second p x v = cell (p ∷ x ∷ v ∷ []) _ (omega (arith, place-three (a .size) p x v))
 
-  three-third : (p q x : ℕ) → result a j (p ∷ q ∷ x ∷ []) ≡ line (a .cells) (tableStart a j + p * (a .size * a .size) + q * a .size) 1 x
+  three-third : (p q x : ℕ) → result a j (p ∷ q ∷ x ∷ []) ≡ lineAt (a .cells) (tableStart a j + p * (a .size * a .size) + q * a .size) 1 x
   three-third p q x = cell (p ∷ q ∷ x ∷ []) _ (omega (arith, place-three (a .size) p q x))
 
 -- g joins two results where it joins the cells that they are
@@ -101,29 +101,29 @@ module _ (a : Algebra) (w : WellFormed a) {live : List ℕ} {used : ℕ} (g : �
 
   -- g joins each element with the listed one that stands for it
   named : (u : ℕ) → u < a .size → g (s .name u) ≡ g u
-  named u l = s .within (s .name u) u (name-below u l) l (s .canonical .root u l)
+  named u l = s .within (s .name u) u (name-below u l) l (s .canonical .named u l)
 
   -- which is listed as an argument behind the varied one
   behind : (u : ℕ) → u < a .size → Picked false g (s .name u)
   behind u l = (s .listed u l, λ e. never e)
 
-  -- a first member is listed
+  -- a smallest member is listed
   before : (u : ℕ) → u < a .size → Picked true g (g u)
   before u l =
       let lr : g u < a .size = omega (arith, c .below u l) in
-      (subst (Listed live used) (name-back (s .canonical) c (s .within) (g u) lr (c .root u l)) (s .listed (g u) lr), λ e. c .root u l)
+      (subst (Listed live used) (name-back (s .canonical) c (s .within) (g u) lr (c .named u l)) (s .listed (g u) lr), λ e. c .named u l)
 
   -- a line that keeps the listed elements of g, and all of the congruence that they stand for, keeps g
   line-kept : (t : ℕ → ℕ) → ((x : ℕ) → t x < a .size) → Keeps (a .size) t (s .name) → KeepsOn (Listed live used) t g → Keeps (a .size) t g
   line-kept t b k h =
       keeps-by-first (a .size) t g
       (λ x l.
-      s .within (t x) (t (s .name x)) (b x) (b (s .name x)) (k x (s .name x) l (name-below x l) (sym (s .canonical .root x l)))
+      s .within (t x) (t (s .name x)) (b x) (b (s .name x)) (k x (s .name x) l (name-below x l) (sym (s .canonical .named x l)))
       ∙ h (s .name x) (s .listed x l)
       ∙ ap (λ (z : ℕ). g (t z)) (named x l))
 
-  along : (base d : ℕ) → Keeps (a .size) (line (a .cells) base d) (s .name) → KeepsOn (Listed live used) (line (a .cells) base d) g → Keeps (a .size) (line (a .cells) base d) g
-  along base d = line-kept (line (a .cells) base d) (λ x. cells-below a w (base + x * d))
+  along : (base d : ℕ) → Keeps (a .size) (lineAt (a .cells) base d) (s .name) → KeepsOn (Listed live used) (lineAt (a .cells) base d) g → Keeps (a .size) (lineAt (a .cells) base d) g
+  along base d = line-kept (lineAt (a .cells) base d) (λ x. cells-below a w (base + x * d))
 
   table-kept : (base k : ℕ) → Table (Any (a .size)) (Keeps (a .size)) (a .size) (a .cells) base k (s .name)
       → Table Picked (KeepsOn (Listed live used)) (a .size) (a .cells) base k g → Table Picked (Keeps (a .size)) (a .size) (a .cells) base k g
@@ -152,7 +152,7 @@ module _ (a : Algebra) (w : WellFormed a) {live : List ℕ} {used : ℕ} (g : �
         → (u : ℕ) → u < a .size → g (result a j (pre ++ (u ∷ post))) ≡ g (result a j (pre ++ (s .name u ∷ post)))
     swap k z pre post e b d u lu =
         s .within (result a j (pre ++ (u ∷ post))) (result a j (pre ++ (s .name u ∷ post))) (result-below a w j (pre ++ (u ∷ post))) (result-below a w j (pre ++ (s .name u ∷ post)))
-        (s .compatible u (s .name u) lu (name-below u lu) (sym (s .canonical .root u lu)) j l pre post (e ∙ sym z) b d)
+        (s .compatible u (s .name u) lu (name-below u lu) (sym (s .canonical .named u lu)) j l pre post (e ∙ sym z) b d)
 
     unary : Table Picked (Keeps (a .size)) (a .size) (a .cells) (tableStart a j) 1 g → Respects 1
     unary t [] [] e b d x y lx ly p = same-cells g (one-first a j x) (one-first a j y) (t x y lx ly p)
@@ -172,9 +172,9 @@ module _ (a : Algebra) (w : WellFormed a) {live : List ℕ} {used : ℕ} (g : �
       in-two-second : (u : ℕ) → u < a .size → (x y : ℕ) → x < a .size → y < a .size → g x ≡ g y → g (result a j (u ∷ x ∷ [])) ≡ g (result a j (u ∷ y ∷ []))
       in-two-second u lu x y lx ly p =
           let lr : g u < a .size = omega (arith, c .below u lu) in
-          in-two-first x lx u (g u) lu lr (sym (c .root u lu))
+          in-two-first x lx u (g u) lu lr (sym (c .named u lu))
           ∙ same-cells g (two-second a j (g u) x) (two-second a j (g u) y) (t .1 (g u) (before u lu) x y lx ly p)
-          ∙ in-two-first y ly (g u) u lr lu (c .root u lu)
+          ∙ in-two-first y ly (g u) u lr lu (c .named u lu)
 
       binary : Respects 2
       binary [] [] e b d x y lx ly p = absurd (omega arith)
@@ -204,21 +204,21 @@ module _ (a : Algebra) (w : WellFormed a) {live : List ℕ} {used : ℕ} (g : �
       in-three-second : (u v : ℕ) → u < a .size → v < a .size → (x y : ℕ) → x < a .size → y < a .size → g x ≡ g y → g (result a j (u ∷ x ∷ v ∷ [])) ≡ g (result a j (u ∷ y ∷ v ∷ []))
       in-three-second u v lu lv x y lx ly p =
           let lr : g u < a .size = omega (arith, c .below u lu) in
-          in-three-first x v lx lv u (g u) lu lr (sym (c .root u lu))
+          in-three-first x v lx lv u (g u) lu lr (sym (c .named u lu))
           ∙ last (g u) x v lr lx lv
           ∙ same-cells g (three-second a j (g u) x (s .name v)) (three-second a j (g u) y (s .name v)) (t .1 .0 (g u) (before u lu) (s .name v) (behind v lv) x y lx ly p)
           ∙ sym (last (g u) y v lr ly lv)
-          ∙ in-three-first y v ly lv (g u) u lr lu (c .root u lu)
+          ∙ in-three-first y v ly lv (g u) u lr lu (c .named u lu)
 
       in-three-third : (u v : ℕ) → u < a .size → v < a .size → (x y : ℕ) → x < a .size → y < a .size → g x ≡ g y → g (result a j (u ∷ v ∷ x ∷ [])) ≡ g (result a j (u ∷ v ∷ y ∷ []))
       in-three-third u v lu lv x y lx ly p =
           let lr : g u < a .size = omega (arith, c .below u lu) in
           let ls : g v < a .size = omega (arith, c .below v lv) in
-          in-three-first v x lv lx u (g u) lu lr (sym (c .root u lu))
-          ∙ in-three-second (g u) x lr lx v (g v) lv ls (sym (c .root v lv))
+          in-three-first v x lv lx u (g u) lu lr (sym (c .named u lu))
+          ∙ in-three-second (g u) x lr lx v (g v) lv ls (sym (c .named v lv))
           ∙ same-cells g (three-third a j (g u) (g v) x) (three-third a j (g u) (g v) y) (t .1 .1 (g u) (before u lu) (g v) (before v lv) x y lx ly p)
-          ∙ in-three-second (g u) y lr ly (g v) v ls lv (c .root v lv)
-          ∙ in-three-first v y lv ly (g u) u lr lu (c .root u lu)
+          ∙ in-three-second (g u) y lr ly (g v) v ls lv (c .named v lv)
+          ∙ in-three-first v y lv ly (g u) u lr lu (c .named u lu)
 
       ternary : Respects 3
       ternary [] [] e b d x y lx ly p = absurd (omega arith)
@@ -255,5 +255,5 @@ pub table-room : (a : Algebra) → WellFormed a → (j : ℕ) → j < length (a 
 table-room a w j l = omega (arith, start-room (a .size) (a .arities) j l, w .filled)
 
 -- what is lent to the walk over an accepted algebra
-pub accepted-lent : (a : Algebra) → WellFormed a → (m : Map) → a .size ≤ length m → Canonical (a .size) (byte m) → Lent (a .size) m (a .cells)
+pub accepted-lent : (a : Algebra) → WellFormed a → (m : Map) → a .size ≤ length m → Canonical (a .size) (byte m) → MapLent (a .size) m (a .cells)
 accepted-lent a w m r c = record { some = w .some; small = w .most; room = r; canonical = c; below = w .below }

@@ -8,15 +8,15 @@ use native.Mathlib.Omega.{arith}
 use lib.Dec.{T}
 use lib.ListN.{length}
 use Rattle.equivalence.specs.Equivalence.{Map, byte, isMap, inside}
-use Rattle.kernel.specs.Kernel.{Canonical, names}
+use Rattle.kernel.specs.InnerKernel.{Canonical, names}
 use Rattle.equivalence.proofs.Maps.{of-isMap, inside-of, of-inside}
 use Rattle.algebra.specs.Algebra.{Algebra}
 use Rattle.algebra.specs.Congruence.{isCongruence}
-use Rattle.translation.specs.Translations.{result, Compatible, Refined}
+use Rattle.translation.specs.InnerTranslations.{result, Compatible, Refined}
 use Rattle.algebra.proofs.Accepted.{WellFormed}
 use Rattle.algebra.proofs.Congruences.{congruence-is, congruence-of}
 use Rattle.translation.proofs.Translations.{congruence-compatible, compatible-congruence}
-use Rattle.refinement.specs.Splitting.{Elements, Sifted, Lists, Split, Represented}
+use Rattle.refinement.specs.InnerSplitting.{Elements, Sifted, Lists, Split, Represented}
 use Rattle.kernel.proofs.Names.{names-one}
 use Rattle.refinement.proofs.Compatibility.{result-below}
 
@@ -57,7 +57,7 @@ pub all-represented : (a : Algebra) (live : List ℕ) (e : ℕ → ℕ) → a .s
 all-represented a live e r h = record {
   elements = record { room = r; below = λ i l. omega (arith, h i l) };
   name = λ x. x;
-  canonical = record { below = λ x l. omega arith; root = λ x l. refl };
+  canonical = record { below = λ x l. omega arith; named = λ x l. refl };
   compatible = identity-compatible a (λ x. x) (λ x l. refl);
   within = λ x y lx ly p. ap e p;
   listed = λ x l. (x, (l, h x l));
@@ -68,7 +68,7 @@ all-represented a live e r h = record {
 pub canonical-same : (n : ℕ) (f g : ℕ → ℕ) → ((x : ℕ) → x < n → g x ≡ f x) → Canonical n f → Canonical n g
 canonical-same n f g e c = record {
   below = λ x l. omega (arith, e x l, c .below x l);
-  root = λ x l. ap g (e x l) ∙ e (f x) (omega (arith, c .below x l)) ∙ c .root x l ∙ sym (e x l);
+  named = λ x l. ap g (e x l) ∙ e (f x) (omega (arith, c .below x l)) ∙ c .named x l ∙ sym (e x l);
 }
 
 pub compatible-same : (a : Algebra) → WellFormed a → (f g : ℕ → ℕ) → ((x : ℕ) → x < a .size → g x ≡ f x) → Compatible a f → Compatible a g

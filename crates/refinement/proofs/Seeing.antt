@@ -3,12 +3,12 @@ use Prim.Native.Nat.{ℕ, _+_, _≤_, _<_}
 use mathlib.Core.Path.{_≡_, refl, sym, ap, _∙_}
 use native.Mathlib.Decide.{ℕ-discrete}
 use native.Mathlib.Omega.{arith}
-use Rattle.kernel.specs.Kernel.{Canonical}
-use Rattle.refinement.specs.Splitting.{Alike, FirstInto, Seen}
+use Rattle.kernel.specs.InnerKernel.{Canonical}
+use Rattle.refinement.specs.InnerSplitting.{Alike, FirstInto, FirstsSeen}
 
 -- nothing is seen yet
-pub seen-none : {t f seen : ℕ → ℕ} {name : ℕ} → ((v : ℕ) → v < 64 → seen v ≡ 64) → Seen t f name 0 seen
-seen-none e = record {
+pub firstsSeen-none : {t f seen : ℕ → ℕ} {name : ℕ} → ((v : ℕ) → v < 64 → seen v ≡ 64) → FirstsSeen t f name 0 seen
+firstsSeen-none e = record {
   below = λ v l k. absurd (omega (arith, e v l));
   first = λ v l k. absurd (omega (arith, e v l));
   none = λ v l k z lz. absurd (omega arith);
@@ -19,12 +19,12 @@ module _ {n : ℕ} {t f : ℕ → ℕ} {name x : ℕ} (c : Canonical n f) (l : x
   pub alike-elsewhere : ¬ (f x ≡ name) → Alike t f name x (f x)
   alike-elsewhere h = record {
     low = c .below x l;
-    before = c .root x l;
+    before = c .named x l;
     after = λ e. absurd (h e);
     first = λ z k e q. absurd (omega (arith, c .below z (omega (arith, c .below x l))));
   }
 
-  pub seen-elsewhere : {seen : ℕ → ℕ} → ¬ (f x ≡ name) → Seen t f name x seen → Seen t f name (x + 1) seen
+  pub seen-elsewhere : {seen : ℕ → ℕ} → ¬ (f x ≡ name) → FirstsSeen t f name x seen → FirstsSeen t f name (x + 1) seen
   seen-elsewhere h s = record {
     below = λ v k q. omega (arith, s .below v k q);
     first = s .first;
@@ -36,7 +36,7 @@ module _ {n : ℕ} {t f : ℕ → ℕ} {name x : ℕ} (c : Canonical n f) (l : x
   }
 
   -- an element whose image was met before is named by the first with that image
-  pub alike-seen : {seen : ℕ → ℕ} → f x ≡ name → Seen t f name x seen → f (t x) < 64 → seen (f (t x)) < 64 → Alike t f name x (seen (f (t x)))
+  pub alike-seen : {seen : ℕ → ℕ} → f x ≡ name → FirstsSeen t f name x seen → f (t x) < 64 → seen (f (t x)) < 64 → Alike t f name x (seen (f (t x)))
   alike-seen e s k q =
       let r = s .first (f (t x)) k q in
       record {
@@ -46,7 +46,7 @@ module _ {n : ℕ} {t f : ℕ → ℕ} {name x : ℕ} (c : Canonical n f) (l : x
         first = λ z lz p i. r .first z lz (p ∙ e) (i e);
       }
 
-  pub seen-seen : {seen : ℕ → ℕ} → f x ≡ name → Seen t f name x seen → f (t x) < 64 → seen (f (t x)) < 64 → Seen t f name (x + 1) seen
+  pub seen-seen : {seen : ℕ → ℕ} → f x ≡ name → FirstsSeen t f name x seen → f (t x) < 64 → seen (f (t x)) < 64 → FirstsSeen t f name (x + 1) seen
   seen-seen {seen} e s k q = record {
     below = λ v lv lq. omega (arith, s .below v lv lq);
     first = s .first;
@@ -61,10 +61,10 @@ module _ {n : ℕ} {t f : ℕ → ℕ} {name x : ℕ} (c : Canonical n f) (l : x
   }
 
   -- any other is the first with its image
-  first-into : {seen : ℕ → ℕ} → f x ≡ name → Seen t f name x seen → f (t x) < 64 → 64 ≤ seen (f (t x)) → FirstInto t f name (f (t x)) x
+  first-into : {seen : ℕ → ℕ} → f x ≡ name → FirstsSeen t f name x seen → f (t x) < 64 → 64 ≤ seen (f (t x)) → FirstInto t f name (f (t x)) x
   first-into e s k q = record { block = e; image = refl; first = λ z lz p i. s .none (f (t x)) k q z lz p i }
 
-  pub alike-first : {seen : ℕ → ℕ} → f x ≡ name → Seen t f name x seen → f (t x) < 64 → 64 ≤ seen (f (t x)) → Alike t f name x x
+  pub alike-first : {seen : ℕ → ℕ} → f x ≡ name → FirstsSeen t f name x seen → f (t x) < 64 → 64 ≤ seen (f (t x)) → Alike t f name x x
   alike-first e s k q = record {
     low = omega arith;
     before = refl;
@@ -72,8 +72,8 @@ module _ {n : ℕ} {t f : ℕ → ℕ} {name x : ℕ} (c : Canonical n f) (l : x
     first = λ z lz p i. s .none (f (t x)) k q z lz (p ∙ e) (i e);
   }
 
-  pub seen-first : {seen seen′ : ℕ → ℕ} → f x ≡ name → x < 64 → Seen t f name x seen → f (t x) < 64 → 64 ≤ seen (f (t x))
-      → seen′ (f (t x)) ≡ x → ((v : ℕ) → ¬ (v ≡ f (t x)) → seen′ v ≡ seen v) → Seen t f name (x + 1) seen′
+  pub seen-first : {seen seen′ : ℕ → ℕ} → f x ≡ name → x < 64 → FirstsSeen t f name x seen → f (t x) < 64 → 64 ≤ seen (f (t x))
+      → seen′ (f (t x)) ≡ x → ((v : ℕ) → ¬ (v ≡ f (t x)) → seen′ v ≡ seen v) → FirstsSeen t f name (x + 1) seen′
   seen-first {seen} {seen′} e lx s k q here there = record {
     below = λ v lv lq.
         elim (ℕ-discrete v (f (t x))) [

@@ -10,8 +10,8 @@ use lib.Seq.{getD-set-same, getD-set-other}
 use borrow.Author.Tests.{ne-eqb}
 use Rattle.equivalence.specs.Equivalence.{Map, byte}
 use Rattle.kernel.proofs.Names.{name-back}
-use Rattle.kernel.specs.Kernel.{Canonical, Within, bit, Listed}
-use Rattle.refinement.specs.Splitting.{Elements, KeepsOn, Sifted, Lists, Split}
+use Rattle.kernel.specs.InnerKernel.{Canonical, Within, bit, Listed}
+use Rattle.refinement.specs.InnerSplitting.{Elements, KeepsOn, Sifted, Lists, Split}
 
 -- ---- sifting, in place
 
@@ -96,9 +96,9 @@ kept-in-use {t = t} {f} s h x l =
       | no e ↦ h x (s .all x l e)
     ]
 
--- where no other is left every element in use is a first member
-pub all-firsts : {n used left : ℕ} {live others : List ℕ} {f : ℕ → ℕ} → Lists n live used others left f → left ≡ 0 → (x : ℕ) → Listed live used x → f x ≡ x
-all-firsts {f = f} s z x l =
+-- where no other is left every element in use is a smallest member
+pub all-names : {n used left : ℕ} {live others : List ℕ} {f : ℕ → ℕ} → Lists n live used others left f → left ≡ 0 → (x : ℕ) → Listed live used x → f x ≡ x
+all-names {f = f} s z x l =
     elim (ℕ-discrete (f x) x) [
       | yes e ↦ e
       | no e ↦ let o = s .all x l e .1 .0 in absurd (omega arith)

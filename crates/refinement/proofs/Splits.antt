@@ -8,8 +8,8 @@ use lib.ListN.{length, set}
 use lib.Seq.{getD-set-same, getD-set-other}
 use borrow.Author.Count.{below-more}
 use Rattle.equivalence.specs.Equivalence.{Map, byte}
-use Rattle.kernel.specs.Kernel.{Canonical, Within, names, Listed}
-use Rattle.refinement.specs.Splitting.{Keeps, KeepsOn, Alike, Lent, Split}
+use Rattle.kernel.specs.InnerKernel.{Canonical, Within, names, Listed}
+use Rattle.refinement.specs.InnerSplitting.{Keeps, KeepsOn, Alike, MapLent, Split}
 use Rattle.kernel.proofs.Names.{names-another}
 
 -- ---- a line that keeps a map
@@ -17,9 +17,9 @@ use Rattle.kernel.proofs.Names.{names-another}
 pub keeps-by-first : (n : ℕ) (t f : ℕ → ℕ) → KeepsOn (λ x. x < n) t f → Keeps n t f
 keeps-by-first n t f h x y lx ly e = h x lx ∙ ap (λ (z : ℕ). f (t z)) e ∙ sym (h y ly)
 
--- every line keeps the first members where they are
-pub firsts-kept : {L : ℕ → Type 0} (t f : ℕ → ℕ) → ((x : ℕ) → L x → f x ≡ x) → KeepsOn L t f
-firsts-kept t f h x l = ap (λ (z : ℕ). f (t z)) (sym (h x l))
+-- every line keeps the smallest members where they are
+pub names-kept : {L : ℕ → Type 0} (t f : ℕ → ℕ) → ((x : ℕ) → L x → f x ≡ x) → KeepsOn L t f
+names-kept t f h x l = ap (λ (z : ℕ). f (t z)) (sym (h x l))
 
 -- ---- a line that splits a block of a map
 
@@ -38,7 +38,7 @@ module _ {n name : ℕ} {t f f′ : ℕ → ℕ} (c : Canonical n f) (s : (x : �
   alike-canonical : Canonical n f′
   alike-canonical = record {
     below = λ x l. s x l .low;
-    root = λ x l. alike-same (f′ x) x (omega (arith, s x l .low)) l (s x l .before) (λ e. s x l .after (sym (s x l .before) ∙ e));
+    named = λ x l. alike-same (f′ x) x (omega (arith, s x l .low)) l (s x l .before) (λ e. s x l .after (sym (s x l .before) ∙ e));
   }
 
   alike-within : Within n f′ f
@@ -52,10 +52,10 @@ module _ {n name : ℕ} {t f f′ : ℕ → ℕ} (c : Canonical n f) (s : (x : �
       let k : f′ x ≤ x = s x l .low in
       omega (arith, c .below (f′ x) (omega arith), s x l .before)
 
-  -- an element of the block that is not alike to its first member gives a name more
+  -- an element of the block that is not alike to its smallest member gives a name more
   alike-more : (x : ℕ) → x < n → f x ≡ name → (f (t x) ≡ f (t (f x)) → ⊥) → names n f < names n f′
   alike-more x l e h =
-      names-another n f f′ alike-names (f′ x) (omega (arith, s x l .low)) (alike-canonical .root x l)
+      names-another n f f′ alike-names (f′ x) (omega (arith, s x l .low)) (alike-canonical .named x l)
       (λ p. h (sym (s x l .after e) ∙ ap (λ (z : ℕ). f (t z)) (sym p ∙ s x l .before)))
 
 -- ---- splits
@@ -126,8 +126,8 @@ pub split-next : {n i : ℕ} {Good Good′ : (ℕ → ℕ) → Type 0} {Q : ℕ 
 split-next {i = i} {Q = Q} also s u = split-more also (λ g h d. below-more (λ (j : ℕ). Q j g) i h d) s u
 
 -- a loop that has passed the indices below i passes i
-pub passed-more : {i start : ℕ} (P : ℕ → Type 0) → ((k : ℕ) → start ≤ k → k < i → P k) → P i → (k : ℕ) → start ≤ k → k < i + 1 → P k
-passed-more {i} P h p k l m =
+pub range-more : {i start : ℕ} (P : ℕ → Type 0) → ((k : ℕ) → start ≤ k → k < i → P k) → P i → (k : ℕ) → start ≤ k → k < i + 1 → P k
+range-more {i} P h p k l m =
     elim (ℕ-discrete k i) [
       | yes e ↦ rw e p
       | no e ↦ h k l (omega arith)
@@ -146,7 +146,7 @@ pub by-index : (list : List ℕ) (count : ℕ) (Q : ℕ → Type 0) → ((i : �
 by-index list count Q h x k = subst Q (k .1 .1) (h (k .0) (k .1 .0))
 
 -- a map that was split is lent again
-pub lent-again : {n : ℕ} {m m′ cells : Map} → Lent n m cells → length m′ ≡ length m → Canonical n (byte m′) → Lent n m′ cells
+pub lent-again : {n : ℕ} {m m′ cells : Map} → MapLent n m cells → length m′ ≡ length m → Canonical n (byte m′) → MapLent n m′ cells
 lent-again p e c = record { some = p .some; small = p .small; room = omega (arith, p .room); canonical = c; below = p .below }
 
 -- a loop that writes at each index what P asks of it

@@ -7,9 +7,9 @@ use native.Mathlib.Nat.{mul-assoc}
 use native.Mathlib.Omega.{arith}
 use lib.Arith.{digits-lt}
 use lib.ListN.{length}
-use Rattle.kernel.specs.Kernel.{Listed}
+use Rattle.kernel.specs.InnerKernel.{Listed}
 use Rattle.equivalence.specs.Equivalence.{Map}
-use Rattle.refinement.specs.Splitting.{Keeps, KeepsOn, Any, Chosen, Lines, Planes, Table, OnLines, OnPlanes, Split}
+use Rattle.refinement.specs.InnerSplitting.{Keeps, KeepsOn, Any, Chosen, Lines, Planes, Table, OnLines, OnPlanes, Split}
 use Rattle.refinement.proofs.Splits.{split-more, split-said}
 
 -- ---- room
@@ -42,12 +42,12 @@ TableSplit n live used cells base s m m′ = Split n (Table (Any n) (Keeps n) n 
 
 -- along the lines that begin at `base`
 abbrev LinesSplit : (n : ℕ) (live : List ℕ) (used : ℕ) (cells : List ℕ) (base : ℕ) → Bool → ℕ → ℕ → Map → Map → Type 0
-LinesSplit n live used cells base firsts step d m m′ = Split n (Lines (Any n firsts) (Keeps n) cells base step d) (Lines (Chosen live used firsts) (KeepsOn (Listed live used)) cells base step d) m m′
+LinesSplit n live used cells base named step d m m′ = Split n (Lines (Any n named) (Keeps n) cells base step d) (Lines (Chosen live used named) (KeepsOn (Listed live used)) cells base step d) m m′
 
 -- along the planes
 abbrev PlanesSplit : (n : ℕ) (live : List ℕ) (used : ℕ) (cells : List ℕ) (base : ℕ) → Bool → Bool → ℕ → ℕ → ℕ → Map → Map → Type 0
-PlanesSplit n live used cells base firsts inner row step d m m′ =
-    Split n (Planes (Any n firsts) (Any n inner) (Keeps n) cells base row step d) (Planes (Chosen live used firsts) (Chosen live used inner) (KeepsOn (Listed live used)) cells base row step d) m m′
+PlanesSplit n live used cells base named inner row step d m m′ =
+    Split n (Planes (Any n named) (Any n inner) (Keeps n) cells base row step d) (Planes (Chosen live used named) (Chosen live used inner) (KeepsOn (Listed live used)) cells base row step d) m m′
 
 module _ (n : ℕ) (live : List ℕ) (used : ℕ) (cells : List ℕ) where
   pub table-of : {s k : ℕ} {m m′ : Map} (base : ℕ) → s ≡ k → TableSplit n live used cells base k m m′ → TableSplit n live used cells base s m m′

@@ -4,12 +4,12 @@ ghost use Prim.Native.Nat.{ℕ, _≤_};
 ghost use lib.Dec.{T};
 ghost use lib.ListN.{length};
 ghost use Rattle.equivalence.specs.Equivalence.{byte, isMap};
-ghost use Rattle.kernel.specs.Kernel.{Canonical};
+ghost use Rattle.kernel.specs.InnerKernel.{Canonical};
 ghost use Rattle.algebra.specs.Accepted.{Accepted};
 ghost use Rattle.algebra.specs.Algebra.{algebraIn};
 ghost use Rattle.algebra.specs.Congruence.{isCongruence};
-ghost use Rattle.translation.specs.Translations.{Refined};
-ghost use Rattle.refinement.specs.Splitting.{Lists, Represented};
+ghost use Rattle.translation.specs.InnerTranslations.{Refined};
+ghost use Rattle.refinement.specs.InnerSplitting.{Lists, Represented};
 
 mod line;
 mod walk;
@@ -48,7 +48,7 @@ fn refine_by(
     }
 }
 
-// `refine_above` with room for the list of those elements in use that are no first members.
+// `refine_above` with room for the list of those elements in use that are no smallest members.
 fn refine_in(
     m: &mut [u8],
     n: usize,
@@ -72,7 +72,7 @@ fn refine_in(
 }
 
 // The first n bytes of m become the greatest congruence inside the map that they write; those past n keep their value. Only listed
-// elements are looked at: where a congruence inside the map is known, its first members stand for all.
+// elements are looked at: where a congruence inside the map is known, its smallest members stand for all.
 pub fn refine_above(m: &mut [u8], n: usize, arities: &[u8], cells: &[u8], live: &[u8], used: usize)
     requires { ⌜ Accepted (algebraIn n arities cells) ⌝ }
     requires { ⌜ n ≤ length (now m) ⌝ }

@@ -1,17 +1,17 @@
 // One line of a table: the cells that one argument runs through while the others stay. It keeps a map, or it splits blocks. Only listed
-// elements are compared with the first members of their blocks.
+// elements are compared with the smallest members of their blocks.
 ghost use mathlib.Core.Path.{_≡_};
 ghost use Prim.Native.Nat.{ℕ, _+_, _<_, _≤_};
 ghost use lib.Dec.{eqb};
 ghost use lib.ListN.{length};
 ghost use Rattle.equivalence.specs.Equivalence.{byte};
-ghost use Rattle.kernel.specs.Kernel.{bit, Listed};
-ghost use Rattle.refinement.specs.Splitting.{Elements, line, Keeps, KeepsOn, Lent, OnLine, Broken, Alike, Seen, Sifted, Split};
+ghost use Rattle.kernel.specs.InnerKernel.{bit, Listed};
+ghost use Rattle.refinement.specs.InnerSplitting.{Elements, lineAt, Keeps, KeepsOn, MapLent, OnLine, Broken, Alike, FirstsSeen, Sifted, Split};
 
 // No element was seen.
 const NONE: u8 = 64;
 
-// The first index from `start` on of an element whose image is in another block than the image of its block's first member, or `count`.
+// The first index from `start` on of an element whose image is in another block than the image of its block's smallest member, or `count`.
 fn broken_from(
     m: &[u8],
     n: usize,
@@ -22,11 +22,11 @@ fn broken_from(
     count: usize,
     start: usize,
 ) -> usize
-    requires { ⌜ Lent n (now m) (now cells) ⌝ }
+    requires { ⌜ MapLent n (now m) (now cells) ⌝ }
     requires { ⌜ OnLine n (now cells) base d ⌝ }
     requires { ⌜ Elements n (now list) count ⌝ }
     requires { ⌜ start ≤ count ⌝ }
-    ensures { λ r. ⌜ Broken (line (now (cells .entry)) base d) (byte (now (m .entry))) (now (list .entry)) count start r ⌝ }
+    ensures { λ r. ⌜ Broken (lineAt (now (cells .entry)) base d) (byte (now (m .entry))) (now (list .entry)) count start r ⌝ }
 {
     let mut i = start;
     while i < count {
@@ -54,13 +54,13 @@ fn renamed(
     name: u8,
     x: usize,
 ) -> u8
-    requires { ⌜ Lent n (now m) (now cells) ⌝ }
+    requires { ⌜ MapLent n (now m) (now cells) ⌝ }
     requires { ⌜ OnLine n (now cells) base d ⌝ }
     requires { ⌜ 64 ≤ length (now seen) ⌝ }
     requires { ⌜ x < n ⌝ }
-    requires { ⌜ Seen (line (now cells) base d) (byte (now m)) name x (byte (now seen)) ⌝ }
-    ensures { λ r. ⌜ Alike (line (now (cells .entry)) base d) (byte (now (m .entry))) name x r ⌝ }
-    ensures { λ _. ⌜ Seen (line (now (cells .entry)) base d) (byte (now (m .entry))) name (x + 1) (byte (now (seen .exit))) ⌝ }
+    requires { ⌜ FirstsSeen (lineAt (now cells) base d) (byte (now m)) name x (byte (now seen)) ⌝ }
+    ensures { λ r. ⌜ Alike (lineAt (now (cells .entry)) base d) (byte (now (m .entry))) name x r ⌝ }
+    ensures { λ _. ⌜ FirstsSeen (lineAt (now (cells .entry)) base d) (byte (now (m .entry))) name (x + 1) (byte (now (seen .exit))) ⌝ }
 {
     if m[x] != name {
         return m[x];
@@ -85,12 +85,12 @@ fn rename(
     d: usize,
     name: u8,
 )
-    requires { ⌜ Lent n (now m) (now cells) ⌝ }
+    requires { ⌜ MapLent n (now m) (now cells) ⌝ }
     requires { ⌜ OnLine n (now cells) base d ⌝ }
     requires { ⌜ n ≤ length (now next) ⌝ }
     requires { ⌜ 64 ≤ length (now seen) ⌝ }
     requires { ⌜ ((v : ℕ) → v < 64 → byte (now seen) v ≡ 64) ⌝ }
-    ensures { λ _. ⌜ ((x : ℕ) → x < n → Alike (line (now (cells .entry)) base d) (byte (now (m .entry))) name x (byte (now (next .exit)) x)) ⌝ }
+    ensures { λ _. ⌜ ((x : ℕ) → x < n → Alike (lineAt (now (cells .entry)) base d) (byte (now (m .entry))) name x (byte (now (next .exit)) x)) ⌝ }
 {
     let mut x = 0;
     while x < n {
@@ -101,9 +101,9 @@ fn rename(
 
 // Splits the block called `name` along the line.
 fn split_block(m: &mut [u8], n: usize, cells: &[u8], base: usize, d: usize, name: u8)
-    requires { ⌜ Lent n (now m) (now cells) ⌝ }
+    requires { ⌜ MapLent n (now m) (now cells) ⌝ }
     requires { ⌜ OnLine n (now cells) base d ⌝ }
-    ensures { λ _. ⌜ ((x : ℕ) → x < n → Alike (line (now (cells .entry)) base d) (byte (now (m .entry))) name x (byte (now (m .exit)) x)) ⌝ }
+    ensures { λ _. ⌜ ((x : ℕ) → x < n → Alike (lineAt (now (cells .entry)) base d) (byte (now (m .entry))) name x (byte (now (m .exit)) x)) ⌝ }
     ensures { λ _. ⌜ ((x : ℕ) → n ≤ x → byte (now (m .exit)) x ≡ byte (now (m .entry)) x) ⌝ }
 {
     let mut next = [0u8; 64];
@@ -122,10 +122,10 @@ fn split_blocks(
     list: &[u8],
     count: usize,
 ) -> bool
-    requires { ⌜ Lent n (now m) (now cells) ⌝ }
+    requires { ⌜ MapLent n (now m) (now cells) ⌝ }
     requires { ⌜ OnLine n (now cells) base d ⌝ }
     requires { ⌜ Elements n (now list) count ⌝ }
-    ensures { λ _. ⌜ Split n (Keeps n (line (now (cells .entry)) base d)) (KeepsOn (Listed (now (list .entry)) count) (line (now (cells .entry)) base d)) (now (m .entry)) (now (m .exit)) ⌝ }
+    ensures { λ _. ⌜ Split n (Keeps n (lineAt (now (cells .entry)) base d)) (KeepsOn (Listed (now (list .entry)) count) (lineAt (now (cells .entry)) base d)) (now (m .entry)) (now (m .exit)) ⌝ }
 {
     let mut any = false;
     let mut i = 0;
@@ -143,7 +143,7 @@ fn split_blocks(
     any
 }
 
-// 1 where x is no first member, 0 where it is one.
+// 1 where x is no smallest member, 0 where it is one.
 fn is_other(m: &[u8], x: usize) -> usize
     requires { do ⌜ x < (← ⟦m.len()⟧) ⌝ }
     ensures { λ r. ⌜ r + bit (eqb (byte (now (m .entry)) x) x) ≡ 1 ⌝ }
@@ -151,7 +151,7 @@ fn is_other(m: &[u8], x: usize) -> usize
     if m[x] as usize == x { 0 } else { 1 }
 }
 
-// Keeps those of the first `count` elements that are no first members. How many there are.
+// Keeps those of the first `count` elements that are no smallest members. How many there are.
 pub fn sift(m: &[u8], list: &mut [u8], count: usize) -> usize
     requires { ⌜ Elements (length (now m)) (now list) count ⌝ }
     ensures { λ r. ⌜ Sifted (byte (now (m .entry))) (now (list .entry)) count (now (list .exit)) r ⌝ }
@@ -168,7 +168,7 @@ pub fn sift(m: &[u8], list: &mut [u8], count: usize) -> usize
 }
 
 // Splits m along the line where that does not keep it, as far as the first `count` elements of a list tell; of these, those are kept that
-// are no first members then. How many there are.
+// are no smallest members then. How many there are.
 pub fn split_line(
     m: &mut [u8],
     n: usize,
@@ -178,10 +178,10 @@ pub fn split_line(
     list: &mut [u8],
     count: usize,
 ) -> usize
-    requires { ⌜ Lent n (now m) (now cells) ⌝ }
+    requires { ⌜ MapLent n (now m) (now cells) ⌝ }
     requires { ⌜ OnLine n (now cells) base d ⌝ }
     requires { ⌜ Elements n (now list) count ⌝ }
-    ensures { λ _. ⌜ Split n (Keeps n (line (now (cells .entry)) base d)) (KeepsOn (Listed (now (list .entry)) count) (line (now (cells .entry)) base d)) (now (m .entry)) (now (m .exit)) ⌝ }
+    ensures { λ _. ⌜ Split n (Keeps n (lineAt (now (cells .entry)) base d)) (KeepsOn (Listed (now (list .entry)) count) (lineAt (now (cells .entry)) base d)) (now (m .entry)) (now (m .exit)) ⌝ }
     ensures { λ r. ⌜ Sifted (byte (now (m .exit))) (now (list .entry)) count (now (list .exit)) r ⌝ }
 {
     if !split_blocks(m, n, cells, base, d, list, count) {

@@ -1,19 +1,19 @@
 // The walk over the lines of the tables. The arguments that stay run through the elements in use; an argument before the varied one only
-// through first members of these: where a map is kept along earlier arguments, the others give nothing new. Each function splits m, and
-// shortens the list of those elements in use that are no first members; it gives how many these are.
+// through smallest members of these: where a map is kept along earlier arguments, the others give nothing new. Each function splits m, and
+// shortens the list of those elements in use that are no smallest members; it gives how many these are.
 ghost use mathlib.Core.Path.{_≡_};
 ghost use mathlib.Core.Bool.{true};
 ghost use Prim.Native.Nat.{_+_, _*_, _^_, _<_, _≤_};
 ghost use lib.ListN.{length};
 ghost use Rattle.equivalence.specs.Equivalence.{byte};
-ghost use Rattle.kernel.specs.Kernel.{Canonical, Listed};
+ghost use Rattle.kernel.specs.InnerKernel.{Canonical, Listed};
 ghost use Rattle.algebra.specs.Accepted.{Accepted};
 ghost use Rattle.algebra.specs.Algebra.{algebraIn};
-ghost use Rattle.translation.specs.Translations.{Compatible};
-ghost use Rattle.refinement.specs.Splitting.{Elements, line, Keeps, KeepsOn, Any, Chosen, Lines, Planes, Table, Lent, OnLines, OnPlanes, Sifted, Lists, Split, Represented};
+ghost use Rattle.translation.specs.InnerTranslations.{Compatible};
+ghost use Rattle.refinement.specs.InnerSplitting.{Elements, lineAt, Keeps, KeepsOn, Any, Chosen, Lines, Planes, Table, MapLent, OnLines, OnPlanes, Sifted, Lists, Split, Represented};
 use super::line::split_line;
 
-// The line of stride d that begins at `base` moved by `step` times r; where `firsts` is set, only if r is a first member.
+// The line of stride d that begins at `base` moved by `step` times r; where `named` is set, only if r is a smallest member.
 fn split_chosen(
     m: &mut [u8],
     n: usize,
@@ -22,18 +22,18 @@ fn split_chosen(
     step: usize,
     d: usize,
     r: usize,
-    firsts: bool,
+    named: bool,
     others: &mut [u8],
     left: usize,
 ) -> usize
-    requires { ⌜ Lent n (now m) (now cells) ⌝ }
+    requires { ⌜ MapLent n (now m) (now cells) ⌝ }
     requires { ⌜ OnLines n (now cells) base step d ⌝ }
     requires { ⌜ Elements n (now others) left ⌝ }
     requires { ⌜ r < n ⌝ }
-    ensures { λ _. ⌜ Split n (Keeps n (line (now (cells .entry)) (base + r * step) d)) (λ g. ((firsts ≡ true → g r ≡ r) → KeepsOn (Listed (now (others .entry)) left) (line (now (cells .entry)) (base + r * step) d) g)) (now (m .entry)) (now (m .exit)) ⌝ }
+    ensures { λ _. ⌜ Split n (Keeps n (lineAt (now (cells .entry)) (base + r * step) d)) (λ g. ((named ≡ true → g r ≡ r) → KeepsOn (Listed (now (others .entry)) left) (lineAt (now (cells .entry)) (base + r * step) d) g)) (now (m .entry)) (now (m .exit)) ⌝ }
     ensures { λ s. ⌜ Sifted (byte (now (m .exit))) (now (others .entry)) left (now (others .exit)) s ⌝ }
 {
-    if firsts {
+    if named {
         if m[r] as usize != r {
             return left;
         }
@@ -41,7 +41,7 @@ fn split_chosen(
     split_line(m, n, cells, base + r * step, d, others, left)
 }
 
-// The lines of stride d that begin at `base` moved by `step` times an element in use. Where every such element is a first member, none splits.
+// The lines of stride d that begin at `base` moved by `step` times an element in use. Where every such element is a smallest member, none splits.
 fn split_lines(
     m: &mut [u8],
     n: usize,
@@ -49,16 +49,16 @@ fn split_lines(
     base: usize,
     step: usize,
     d: usize,
-    firsts: bool,
+    named: bool,
     live: &[u8],
     used: usize,
     others: &mut [u8],
     left: usize,
 ) -> usize
-    requires { ⌜ Lent n (now m) (now cells) ⌝ }
+    requires { ⌜ MapLent n (now m) (now cells) ⌝ }
     requires { ⌜ OnLines n (now cells) base step d ⌝ }
     requires { ⌜ Lists n (now live) used (now others) left (byte (now m)) ⌝ }
-    ensures { λ _. ⌜ Split n (Lines (Any n firsts) (Keeps n) (now (cells .entry)) base step d) (Lines (Chosen (now (live .entry)) used firsts) (KeepsOn (Listed (now (live .entry)) used)) (now (cells .entry)) base step d) (now (m .entry)) (now (m .exit)) ⌝ }
+    ensures { λ _. ⌜ Split n (Lines (Any n named) (Keeps n) (now (cells .entry)) base step d) (Lines (Chosen (now (live .entry)) used named) (KeepsOn (Listed (now (live .entry)) used)) (now (cells .entry)) base step d) (now (m .entry)) (now (m .exit)) ⌝ }
     ensures { λ s. ⌜ Lists n (now (live .entry)) used (now (others .exit)) s (byte (now (m .exit))) ⌝ }
 {
     let mut found = left;
@@ -68,13 +68,13 @@ fn split_lines(
             return found;
         }
         let r = live[i] as usize;
-        found = split_chosen(m, n, cells, base, step, d, r, firsts, others, found);
+        found = split_chosen(m, n, cells, base, step, d, r, named, others, found);
         i += 1;
     }
     found
 }
 
-// `split_lines` from `base` moved by `row` times r; where `firsts` is set, only if r is a first member.
+// `split_lines` from `base` moved by `row` times r; where `named` is set, only if r is a smallest member.
 fn split_plane(
     m: &mut [u8],
     n: usize,
@@ -84,21 +84,21 @@ fn split_plane(
     step: usize,
     d: usize,
     r: usize,
-    firsts: bool,
+    named: bool,
     inner: bool,
     live: &[u8],
     used: usize,
     others: &mut [u8],
     left: usize,
 ) -> usize
-    requires { ⌜ Lent n (now m) (now cells) ⌝ }
+    requires { ⌜ MapLent n (now m) (now cells) ⌝ }
     requires { ⌜ OnPlanes n (now cells) base row step d ⌝ }
     requires { ⌜ Lists n (now live) used (now others) left (byte (now m)) ⌝ }
     requires { ⌜ r < n ⌝ }
-    ensures { λ _. ⌜ Split n (Lines (Any n inner) (Keeps n) (now (cells .entry)) (base + r * row) step d) (λ g. ((firsts ≡ true → g r ≡ r) → Lines (Chosen (now (live .entry)) used inner) (KeepsOn (Listed (now (live .entry)) used)) (now (cells .entry)) (base + r * row) step d g)) (now (m .entry)) (now (m .exit)) ⌝ }
+    ensures { λ _. ⌜ Split n (Lines (Any n inner) (Keeps n) (now (cells .entry)) (base + r * row) step d) (λ g. ((named ≡ true → g r ≡ r) → Lines (Chosen (now (live .entry)) used inner) (KeepsOn (Listed (now (live .entry)) used)) (now (cells .entry)) (base + r * row) step d g)) (now (m .entry)) (now (m .exit)) ⌝ }
     ensures { λ s. ⌜ Lists n (now (live .entry)) used (now (others .exit)) s (byte (now (m .exit))) ⌝ }
 {
-    if firsts {
+    if named {
         if m[r] as usize != r {
             return left;
         }
@@ -127,17 +127,17 @@ fn split_planes(
     row: usize,
     step: usize,
     d: usize,
-    firsts: bool,
+    named: bool,
     inner: bool,
     live: &[u8],
     used: usize,
     others: &mut [u8],
     left: usize,
 ) -> usize
-    requires { ⌜ Lent n (now m) (now cells) ⌝ }
+    requires { ⌜ MapLent n (now m) (now cells) ⌝ }
     requires { ⌜ OnPlanes n (now cells) base row step d ⌝ }
     requires { ⌜ Lists n (now live) used (now others) left (byte (now m)) ⌝ }
-    ensures { λ _. ⌜ Split n (Planes (Any n firsts) (Any n inner) (Keeps n) (now (cells .entry)) base row step d) (Planes (Chosen (now (live .entry)) used firsts) (Chosen (now (live .entry)) used inner) (KeepsOn (Listed (now (live .entry)) used)) (now (cells .entry)) base row step d) (now (m .entry)) (now (m .exit)) ⌝ }
+    ensures { λ _. ⌜ Split n (Planes (Any n named) (Any n inner) (Keeps n) (now (cells .entry)) base row step d) (Planes (Chosen (now (live .entry)) used named) (Chosen (now (live .entry)) used inner) (KeepsOn (Listed (now (live .entry)) used)) (now (cells .entry)) base row step d) (now (m .entry)) (now (m .exit)) ⌝ }
     ensures { λ s. ⌜ Lists n (now (live .entry)) used (now (others .exit)) s (byte (now (m .exit))) ⌝ }
 {
     let mut found = left;
@@ -153,7 +153,7 @@ fn split_planes(
             step,
             d,
             r,
-            firsts,
+            named,
             inner,
             live,
             used,
@@ -176,7 +176,7 @@ fn split_unary(
     others: &mut [u8],
     left: usize,
 ) -> usize
-    requires { ⌜ Lent n (now m) (now cells) ⌝ }
+    requires { ⌜ MapLent n (now m) (now cells) ⌝ }
     requires { ⌜ base + n ≤ length (now cells) ⌝ }
     requires { ⌜ Lists n (now live) used (now others) left (byte (now m)) ⌝ }
     ensures { λ _. ⌜ Split n (Table (Any n) (Keeps n) n (now (cells .entry)) base 1) (Table (Chosen (now (live .entry)) used) (KeepsOn (Listed (now (live .entry)) used)) n (now (cells .entry)) base 1) (now (m .entry)) (now (m .exit)) ⌝ }
@@ -196,7 +196,7 @@ fn split_binary(
     others: &mut [u8],
     left: usize,
 ) -> usize
-    requires { ⌜ Lent n (now m) (now cells) ⌝ }
+    requires { ⌜ MapLent n (now m) (now cells) ⌝ }
     requires { ⌜ base + n * n ≤ length (now cells) ⌝ }
     requires { ⌜ Lists n (now live) used (now others) left (byte (now m)) ⌝ }
     ensures { λ _. ⌜ Split n (Table (Any n) (Keeps n) n (now (cells .entry)) base 2) (Table (Chosen (now (live .entry)) used) (KeepsOn (Listed (now (live .entry)) used)) n (now (cells .entry)) base 2) (now (m .entry)) (now (m .exit)) ⌝ }
@@ -217,7 +217,7 @@ fn split_ternary(
     others: &mut [u8],
     left: usize,
 ) -> usize
-    requires { ⌜ Lent n (now m) (now cells) ⌝ }
+    requires { ⌜ MapLent n (now m) (now cells) ⌝ }
     requires { ⌜ base + n * n * n ≤ length (now cells) ⌝ }
     requires { ⌜ Lists n (now live) used (now others) left (byte (now m)) ⌝ }
     ensures { λ _. ⌜ Split n (Table (Any n) (Keeps n) n (now (cells .entry)) base 3) (Table (Chosen (now (live .entry)) used) (KeepsOn (Listed (now (live .entry)) used)) n (now (cells .entry)) base 3) (now (m .entry)) (now (m .exit)) ⌝ }
@@ -283,7 +283,7 @@ fn split_table(
     others: &mut [u8],
     left: usize,
 ) -> usize
-    requires { ⌜ Lent n (now m) (now cells) ⌝ }
+    requires { ⌜ MapLent n (now m) (now cells) ⌝ }
     requires { ⌜ s ≤ 3 ⌝ }
     requires { ⌜ base + n ^ s ≤ length (now cells) ⌝ }
     requires { ⌜ Lists n (now live) used (now others) left (byte (now m)) ⌝ }

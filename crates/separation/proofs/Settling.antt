@@ -1,4 +1,4 @@
--- The search's steps: it starts at the identity, settles a pair (held, taken, passed, or skipped since one of its elements is no first member), and ends,
+-- The search's steps: it starts at the identity, settles a pair (held, taken, passed, or skipped since one of its elements is no smallest member), and ends,
 -- once every row up to v is settled, with the greatest congruence inside "v's block and the rest" (004, Lemma 10).
 use Prim.Native.Nat.{ℕ, zero, suc, _+_, _-_, _*_, _≤_, _<_}
 use mathlib.Core.List.{List, _∷_, _++_}
@@ -9,13 +9,13 @@ use native.Mathlib.Omega.{arith}
 use lib.ListN.{length, set}
 use lib.Seq.{ext-getD, getD-set-other}
 use Rattle.equivalence.specs.Equivalence.{byte}
-use Rattle.kernel.specs.Kernel.{Within, Filled}
+use Rattle.kernel.specs.InnerKernel.{Within, Filled}
 use Rattle.equivalence.specs.Lists.{first}
 use Rattle.kernel.proofs.Kernels.{identity-canonical, identity-within}
 use Rattle.algebra.specs.Algebra.{Algebra}
-use Rattle.translation.specs.Translations.{result, Compatible, Closed, Refined}
-use Rattle.closure.specs.Starts.{Heeded}
-use Rattle.separation.specs.Search.{Keeps, Before, Refused, Settled, TwoBlocks, Earliest, Rooms}
+use Rattle.translation.specs.InnerTranslations.{result, Compatible, Closed, Refined}
+use Rattle.closure.specs.InnerStarts.{RefusedRightlyAbove}
+use Rattle.separation.specs.InnerSearch.{KeepsBefore, Before, Refused, Settled, TwoBlocks, Earliest, Rooms}
 
 module _ (a : Algebra) (v w : ℕ) where
   pub settled-start : (f : ℕ → ℕ) → v < a .size → w < a .size → ¬ (v ≡ w) → ((x : ℕ) → x < a .size → f x ≡ x) → Compatible a f → Settled a v w 0 1 f
@@ -85,18 +85,18 @@ module _ (a : Algebra) (v w : ℕ) where
           ];
         }
 
-    -- one of the two is no first member: the pair of their first members is settled, and stands for it
+    -- one of the two is no smallest member: the pair of their smallest members is settled, and stands for it
     pub settled-skip : ¬ ((f x ≡ x) × (f y ≡ y)) → Settled a v w x (y + 1) f
     settled-skip n = elim (ℕ-discrete (f x) (f y)) [
       | yes e ↦ settled-held e
       | no d ↦ settled-pass (λ g c k h.
           let cx : f x ≤ x = s .canonical .below x (omega arith) in
           let cy : f y ≤ y = s .canonical .below y ly in
-          let rx : f (f x) ≡ f x = s .canonical .root x (omega arith) in
-          let ry : f (f y) ≡ f y = s .canonical .root y ly in
+          let rx : f (f x) ≡ f x = s .canonical .named x (omega arith) in
+          let ry : f (f y) ≡ f y = s .canonical .named y ly in
           let gx : g x ≡ g (f x) = k x (f x) (omega arith) (omega arith) (sym rx) in
           let gy : g y ≡ g (f y) = k y (f y) ly (omega arith) (sym ry) in
-          let keeps : (i j : ℕ) → Keeps (a .size) f g i j = λ i j p q l o b e. k p q (omega arith) o e in
+          let keeps : (i j : ℕ) → KeepsBefore (a .size) f g i j = λ i j p q l o b e. k p q (omega arith) o e in
           elim (decLt (f x) (f y)) [
             | yes l ↦ s .refused (f x) (f y) l (omega arith)
                 (elim (ℕ-discrete (f x) x) [ yes u ↦ inr (u, elim (ℕ-discrete (f y) y) [ yes z ↦ absurd (n (u, z)) | no z ↦ omega arith ]) | no u ↦ inl (omega arith) ])
@@ -124,7 +124,7 @@ module _ (a : Algebra) (v w : ℕ) where
         refused = λ p q l j b n g c k h. s .refused p q l j (back p q l j b) n g c k h;
       }
 
-  -- x is no first member: every pair of its row is skipped
+  -- x is no smallest member: every pair of its row is skipped
   pub settled-skip-row : (x : ℕ) (f : ℕ → ℕ) → x < a .size → ¬ (f x ≡ x) → Settled a v w x (x + 1) f → Settled a v w (x + 1) (x + 2) f
   settled-skip-row x f l n s =
       settled-row x f (skips (a .size - (x + 1)) (x + 1) (omega arith) (omega arith) s)
@@ -153,7 +153,7 @@ module _ (a : Algebra) (v w : ℕ) (lv : v < a .size) (lw : w < a .size) (f : �
   ]
 
   -- a congruence that agrees with h on all pairs up to v's row lies within e
-  within-two : (g : ℕ → ℕ) → Compatible a g → (x y : ℕ) → v < x → Keeps (a .size) h g x y → Keeps (a .size) g h x y → Within (a .size) g e
+  within-two : (g : ℕ → ℕ) → Compatible a g → (x y : ℕ) → v < x → KeepsBefore (a .size) h g x y → KeepsBefore (a .size) g h x y → Within (a .size) g e
   within-two g c x y l to from =
       let up : Within (a .size) f g = s .own g c (λ p q lp lq b u. elim b [
         | inl o ↦ to p q lp lq (inl (omega arith)) (above p q (omega arith) lq u)
@@ -196,16 +196,16 @@ earliest-swap a v w f e =
 
 module _ (a : Algebra) (v w : ℕ) (f : ℕ → ℕ) where
   -- nothing is marked at first
-  pub heeded-none : (table : List ℕ) → a .size ≤ 64 → ((i : ℕ) → i < 4096 → byte table i ≡ 0) → Heeded a table v w f
-  heeded-none table most z g c k p q lp lq mark e = absurd (mark (z (p * 64 + q) (omega arith)))
+  pub refusals-none : (table : List ℕ) → a .size ≤ 64 → ((i : ℕ) → i < 4096 → byte table i ≡ 0) → RefusedRightlyAbove a table v w f
+  refusals-none table most z g c k p q lp lq mark e = absurd (mark (z (p * 64 + q) (omega arith)))
 
-  -- marks are heeded by what is above a larger map
-  pub heeded-up : (f′ : ℕ → ℕ) (table : List ℕ) → Within (a .size) f f′ → Heeded a table v w f → Heeded a table v w f′
-  heeded-up f′ table up h g c k = h g c (λ x y lx ly e. k x y lx ly (up x y lx ly e))
+  -- marks are refusals by what is above a larger map
+  pub refusals-up : (f′ : ℕ → ℕ) (table : List ℕ) → Within (a .size) f f′ → RefusedRightlyAbove a table v w f → RefusedRightlyAbove a table v w f′
+  refusals-up f′ table up h g c k = h g c (λ x y lx ly e. k x y lx ly (up x y lx ly e))
 
   -- a refused pair is marked
-  pub heeded-mark : (table : List ℕ) (x y : ℕ) → a .size ≤ 64 → y < a .size → Refused a v w f x y → Heeded a table v w f → Heeded a (set table (x * 64 + y) 1) v w f
-  heeded-mark table x y most ly r h g c k p q lp lq mark e = elim (ℕ-discrete (p * 64 + q) (x * 64 + y)) [
+  pub refusals-mark : (table : List ℕ) (x y : ℕ) → a .size ≤ 64 → y < a .size → Refused a v w f x y → RefusedRightlyAbove a table v w f → RefusedRightlyAbove a (set table (x * 64 + y) 1) v w f
+  refusals-mark table x y most ly r h g c k p q lp lq mark e = elim (ℕ-discrete (p * 64 + q) (x * 64 + y)) [
     | yes i ↦ let ep : p ≡ x = omega arith in
         let eq : q ≡ y = omega arith in
         r g c k (sym (ap g ep) ∙ e ∙ ap g eq)

@@ -6,13 +6,13 @@ use native.Mathlib.Decide.{decLt, ℕ-discrete}
 use native.Mathlib.Omega.{arith}
 use lib.ListN.{length}
 use borrow.Author.Tests.{eq-eqb, ne-eqb}
-use Rattle.kernel.specs.Kernel.{Canonical, Within}
+use Rattle.kernel.specs.InnerKernel.{Canonical, Within}
 use Rattle.algebra.specs.Algebra.{Algebra}
-use Rattle.translation.specs.Translations.{Compatible}
-use Rattle.closure.specs.Starts.{NamesListed}
-use Rattle.refinement.specs.Splitting.{Represented}
-use Rattle.separation.specs.Blocks.{FirstOther, oneOf}
-use Rattle.separation.specs.Search.{TwoBlocks}
+use Rattle.translation.specs.InnerTranslations.{Compatible}
+use Rattle.closure.specs.InnerStarts.{NamesListed}
+use Rattle.refinement.specs.InnerSplitting.{Represented}
+use Rattle.separation.specs.InnerBlocks.{FirstOther, oneOf}
+use Rattle.separation.specs.InnerSearch.{TwoBlocks}
 
 pub oneOf-same : (r q b : ℕ) → b ≡ r → oneOf r q b ≡ r
 unfolding oneOf
@@ -40,7 +40,7 @@ module _ (n v q : ℕ) (f e : ℕ → ℕ) (c : Canonical n f) (lv : v < n) (o :
     apart = λ x y lx ly s t i.
         let k : q < n = omega (arith, not-before y ly t) in
         let u : f v ≡ q = sym (painted-same x lx s) ∙ i ∙ painted-other y ly t in
-        o .other k (ap f (sym u) ∙ c .root v lv);
+        o .other k (ap f (sym u) ∙ c .named v lv);
   }
 
   pub painted-canonical : Canonical n e
@@ -49,14 +49,14 @@ module _ (n v q : ℕ) (f e : ℕ → ℕ) (c : Canonical n f) (lv : v < n) (o :
       | yes s ↦ omega (arith, painted-same x l s, c .below x l)
       | no s ↦ omega (arith, painted-other x l s, not-before x l s)
     ];
-    root = λ x l. elim (ℕ-discrete (f x) (f v)) [
-      | yes s ↦ ap e (painted-same x l s) ∙ painted-same (f v) (omega (arith, c .below v lv)) (c .root v lv) ∙ sym (painted-same x l s)
+    named = λ x l. elim (ℕ-discrete (f x) (f v)) [
+      | yes s ↦ ap e (painted-same x l s) ∙ painted-same (f v) (omega (arith, c .below v lv)) (c .named v lv) ∙ sym (painted-same x l s)
       | no s ↦ let k : q < n = omega (arith, not-before x l s) in
           ap e (painted-other x l s) ∙ painted-other q k (o .other k) ∙ sym (painted-other x l s)
     ];
   }
 
--- ---- the first members of a congruence within the two blocks
+-- ---- the smallest members of a congruence within the two blocks
 
 -- what f joins stays in one of the two blocks
 two-within : {n v : ℕ} {f e : ℕ → ℕ} → TwoBlocks n v f e → Within n f e
@@ -75,5 +75,5 @@ names-represent a {f = f} c k t r l = record {
   canonical = c;
   compatible = k;
   within = two-within t;
-  listed = λ x lx. l .all (f x) (omega (arith, c .below x lx)) (eq-eqb (f (f x)) (f x) (c .root x lx));
+  listed = λ x lx. l .all (f x) (omega (arith, c .below x lx)) (eq-eqb (f (f x)) (f x) (c .named x lx));
 }

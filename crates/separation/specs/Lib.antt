@@ -1,2 +1,2 @@
-pub mod Search
-pub mod Blocks
+pub mod InnerSearch
+pub mod InnerBlocks

@@ -2,9 +2,9 @@
 ghost use mathlib.Core.Path.{_≡_};
 ghost use Prim.Native.Nat.{ℕ, _<_, _≤_};
 ghost use Rattle.equivalence.specs.Equivalence.{byte};
-ghost use Rattle.kernel.specs.Kernel.{Canonical, Filled};
-ghost use Rattle.separation.specs.Search.{TwoBlocks};
-ghost use Rattle.separation.specs.Blocks.{FirstOther, oneOf};
+ghost use Rattle.kernel.specs.InnerKernel.{Canonical, Filled};
+ghost use Rattle.separation.specs.InnerSearch.{TwoBlocks};
+ghost use Rattle.separation.specs.InnerBlocks.{FirstOther, oneOf};
 
 // The first element whose byte is not r, or n.
 fn first_other(m: &[u8], n: usize, r: u8) -> usize
@@ -29,7 +29,7 @@ fn one_of(b: u8, r: u8, q: u8) -> u8
 }
 
 // Each of the first n bytes becomes r where m has r, and q where it has not.
-fn paint(m: &[u8], n: usize, r: u8, q: u8, out: &mut [u8])
+fn name_two_blocks(m: &[u8], n: usize, r: u8, q: u8, out: &mut [u8])
     requires { do ⌜ n ≤ (← ⟦m.len()⟧) ⌝ }
     requires { do ⌜ n ≤ (← ⟦out.len()⟧) ⌝ }
     ensures { λ _. ⌜ Filled n (λ x. oneOf r q (byte (now (m .entry)) x)) (byte (now (out .entry))) (byte (now (out .exit))) ⌝ }
@@ -54,5 +54,5 @@ pub fn two_blocks(m: &[u8], n: usize, v: usize, out: &mut [u8])
 {
     let r = m[v];
     let q = first_other(m, n, r);
-    paint(m, n, r, q as u8, out);
+    name_two_blocks(m, n, r, q as u8, out);
 }

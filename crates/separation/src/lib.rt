@@ -5,7 +5,7 @@ ghost use lib.ListN.{length};
 ghost use Rattle.equivalence.specs.Equivalence.{byte};
 ghost use Rattle.algebra.specs.Algebra.{algebraIn};
 ghost use Rattle.algebra.specs.Accepted.{Accepted};
-ghost use Rattle.separation.specs.Search.{Rooms, Earliest};
+ghost use Rattle.separation.specs.InnerSearch.{Rooms, Earliest};
 
 pub mod blocks;
 pub mod search;

@@ -3,7 +3,7 @@
 ghost use Prim.Native.Nat.{_+_, _<_};
 ghost use Rattle.equivalence.specs.Equivalence.{byte};
 ghost use Rattle.algebra.specs.Algebra.{algebraIn};
-ghost use Rattle.separation.specs.Search.{Rooms, Standing};
+ghost use Rattle.separation.specs.InnerSearch.{Rooms, SearchState};
 
 // Settles the pair x, y: it is tried on a copy of m, which m takes over where v and w stay apart. Where they do not, the pair is marked: a
 // later try that would join it is over.
@@ -23,8 +23,8 @@ fn try_pair(
     requires { ⌜ Rooms n (now arities) (now cells) (now m) (now names) (now refused) v w ⌝ }
     requires { ⌜ x < y ⌝ }
     requires { ⌜ y < n ⌝ }
-    requires { ⌜ Standing (algebraIn n arities cells) v w x y (now refused) (now names) count (byte (now m)) ⌝ }
-    ensures { λ r. ⌜ Standing (algebraIn n (arities .entry) (cells .entry)) v w x (y + 1) (now (refused .exit)) (now (names .exit)) r (byte (now (m .exit))) ⌝ }
+    requires { ⌜ SearchState (algebraIn n arities cells) v w x y (now refused) (now names) count (byte (now m)) ⌝ }
+    ensures { λ r. ⌜ SearchState (algebraIn n (arities .entry) (cells .entry)) v w x (y + 1) (now (refused .exit)) (now (names .exit)) r (byte (now (m .exit))) ⌝ }
 {
     let mut spare = [0u8; 64];
     equivalence::blocks::copy(m, &mut spare, 64);
@@ -48,7 +48,7 @@ fn try_pair(
     closure::start::names(m, n, names)
 }
 
-// Settles the pair x, y. Where y is no first member, the pair of the two first members stands for it.
+// Settles the pair x, y. Where y is no smallest member, the pair of the two smallest members stands for it.
 fn settle(
     m: &mut [u8],
     names: &mut [u8],
@@ -65,8 +65,8 @@ fn settle(
     requires { ⌜ Rooms n (now arities) (now cells) (now m) (now names) (now refused) v w ⌝ }
     requires { ⌜ x < y ⌝ }
     requires { ⌜ y < n ⌝ }
-    requires { ⌜ Standing (algebraIn n arities cells) v w x y (now refused) (now names) count (byte (now m)) ⌝ }
-    ensures { λ r. ⌜ Standing (algebraIn n (arities .entry) (cells .entry)) v w x (y + 1) (now (refused .exit)) (now (names .exit)) r (byte (now (m .exit))) ⌝ }
+    requires { ⌜ SearchState (algebraIn n arities cells) v w x y (now refused) (now names) count (byte (now m)) ⌝ }
+    ensures { λ r. ⌜ SearchState (algebraIn n (arities .entry) (cells .entry)) v w x (y + 1) (now (refused .exit)) (now (names .exit)) r (byte (now (m .exit))) ⌝ }
 {
     if m[y] as usize != y {
         return count;
@@ -74,7 +74,7 @@ fn settle(
     try_pair(m, names, count, n, arities, cells, refused, v, w, x, y)
 }
 
-// Settles the pairs of row x. Where x is no first member, the pairs of the first members stand for them.
+// Settles the pairs of row x. Where x is no smallest member, the pairs of the smallest members stand for them.
 fn settle_row(
     m: &mut [u8],
     names: &mut [u8],
@@ -89,8 +89,8 @@ fn settle_row(
 ) -> usize
     requires { ⌜ Rooms n (now arities) (now cells) (now m) (now names) (now refused) v w ⌝ }
     requires { ⌜ x < n ⌝ }
-    requires { ⌜ Standing (algebraIn n arities cells) v w x (x + 1) (now refused) (now names) listed (byte (now m)) ⌝ }
-    ensures { λ r. ⌜ Standing (algebraIn n (arities .entry) (cells .entry)) v w (x + 1) (x + 2) (now (refused .exit)) (now (names .exit)) r (byte (now (m .exit))) ⌝ }
+    requires { ⌜ SearchState (algebraIn n arities cells) v w x (x + 1) (now refused) (now names) listed (byte (now m)) ⌝ }
+    ensures { λ r. ⌜ SearchState (algebraIn n (arities .entry) (cells .entry)) v w (x + 1) (x + 2) (now (refused .exit)) (now (names .exit)) r (byte (now (m .exit))) ⌝ }
 {
     if m[x] as usize != x {
         return listed;
@@ -117,8 +117,8 @@ pub fn settle_rows(
     w: usize,
 ) -> usize
     requires { ⌜ Rooms n (now arities) (now cells) (now m) (now names) (now refused) v w ⌝ }
-    requires { ⌜ Standing (algebraIn n arities cells) v w 0 1 (now refused) (now names) listed (byte (now m)) ⌝ }
-    ensures { λ r. ⌜ Standing (algebraIn n (arities .entry) (cells .entry)) v w (v + 1) (v + 2) (now (refused .exit)) (now (names .exit)) r (byte (now (m .exit))) ⌝ }
+    requires { ⌜ SearchState (algebraIn n arities cells) v w 0 1 (now refused) (now names) listed (byte (now m)) ⌝ }
+    ensures { λ r. ⌜ SearchState (algebraIn n (arities .entry) (cells .entry)) v w (v + 1) (v + 2) (now (refused .exit)) (now (names .exit)) r (byte (now (m .exit))) ⌝ }
 {
     let mut count = listed;
     let mut x = 0;

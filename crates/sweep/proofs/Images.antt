@@ -6,14 +6,14 @@ use mathlib.Core.Path.{_≡_, refl, sym, ap, subst, _∙_, subst₂}
 use native.Mathlib.Omega.{arith}
 use lib.ListN.{length, getD, length-append}
 use Rattle.equivalence.specs.Equivalence.{byte}
-use Rattle.kernel.specs.Kernel.{Within, Listed}
+use Rattle.kernel.specs.InnerKernel.{Within, Listed}
 use Rattle.algebra.specs.Accepted.{Accepted}
 use Rattle.algebra.specs.Algebra.{Algebra, place}
-use Rattle.translation.specs.Translations.{AllBelow, tableStart, result, Compatible}
+use Rattle.translation.specs.InnerTranslations.{AllBelow, tableStart, result, Compatible}
 use Rattle.algebra.proofs.Accepted.{WellFormed, accepted-wellFormed}
 use Rattle.translation.proofs.Places.{place-lt, place-one, place-two, place-three}
 use Rattle.algebra.proofs.Tables.{start-room}
-use Rattle.sweep.specs.Contexts.{All, ImagesIn, OperationsIn, OnLine, OnPlane, OnTable, Contexts, TableFits}
+use Rattle.sweep.specs.InnerContexts.{All, ImagesIn, OperationsIn, JoinsLine, JoinsPlane, JoinsTable, Contexts, TableInside}
 use Rattle.sweep.proofs.Sweeps.{each-more}
 
 -- ---- tables and images
@@ -24,7 +24,7 @@ module _ (a : Algebra) (j : ℕ) (live : List ℕ) (count x y : ℕ) (g : ℕ �
   cell-at xs k e = ap (λ (i : ℕ). g (byte (a .cells) i)) e
 
   -- one other argument, behind or before
-  last-line : OnLine (a .cells) live count (a .size) (tableStart a j + x) (tableStart a j + y) g → (c : ℕ) → Listed live count c
+  last-line : JoinsLine (a .cells) live count (a .size) (tableStart a j + x) (tableStart a j + y) g → (c : ℕ) → Listed live count c
       → g (result a j (c ∷ x ∷ [])) ≡ g (result a j (c ∷ y ∷ []))
   last-line h c m =
       subst (λ (c : ℕ). g (result a j (c ∷ x ∷ [])) ≡ g (result a j (c ∷ y ∷ []))) (m .1 .1)
@@ -32,7 +32,7 @@ module _ (a : Algebra) (j : ℕ) (live : List ℕ) (count x y : ℕ) (g : ℕ �
       cell-at (b ∷ x ∷ []) (tableStart a j + x + b * a .size) (omega (arith, place-two (a .size) b x)) ∙ h (m .0) (m .1 .0)
       ∙ sym (cell-at (b ∷ y ∷ []) (tableStart a j + y + b * a .size) (omega (arith, place-two (a .size) b y))))
 
-  first-line : OnLine (a .cells) live count 1 (tableStart a j + x * a .size) (tableStart a j + y * a .size) g → (c : ℕ) → Listed live count c
+  first-line : JoinsLine (a .cells) live count 1 (tableStart a j + x * a .size) (tableStart a j + y * a .size) g → (c : ℕ) → Listed live count c
       → g (result a j (x ∷ c ∷ [])) ≡ g (result a j (y ∷ c ∷ []))
   first-line h c m =
       subst (λ (c : ℕ). g (result a j (x ∷ c ∷ [])) ≡ g (result a j (y ∷ c ∷ []))) (m .1 .1)
@@ -41,7 +41,7 @@ module _ (a : Algebra) (j : ℕ) (live : List ℕ) (count x y : ℕ) (g : ℕ �
       ∙ sym (cell-at (y ∷ b ∷ []) (tableStart a j + y * a .size + b * 1) (omega (arith, place-two (a .size) y b))))
 
   -- two other arguments, behind, around or before
-  third-plane : OnPlane (a .cells) live count (a .size * a .size) (a .size) (tableStart a j + x) (tableStart a j + y) g → (c d : ℕ) → Listed live count c → Listed live count d
+  third-plane : JoinsPlane (a .cells) live count (a .size * a .size) (a .size) (tableStart a j + x) (tableStart a j + y) g → (c d : ℕ) → Listed live count c → Listed live count d
       → g (result a j (c ∷ d ∷ x ∷ [])) ≡ g (result a j (c ∷ d ∷ y ∷ []))
   third-plane h c d m k =
       subst₂ (λ (c d : ℕ). g (result a j (c ∷ d ∷ x ∷ [])) ≡ g (result a j (c ∷ d ∷ y ∷ []))) (m .1 .1) (k .1 .1)
@@ -51,7 +51,7 @@ module _ (a : Algebra) (j : ℕ) (live : List ℕ) (count x y : ℕ) (g : ℕ �
       ∙ h (m .0) (m .1 .0) (k .0) (k .1 .0)
       ∙ sym (cell-at (b ∷ e ∷ y ∷ []) (tableStart a j + y + b * (a .size * a .size) + e * a .size) (omega (arith, place-three (a .size) b e y))))
 
-  second-plane : OnPlane (a .cells) live count (a .size * a .size) 1 (tableStart a j + x * a .size) (tableStart a j + y * a .size) g → (c d : ℕ) → Listed live count c → Listed live count d
+  second-plane : JoinsPlane (a .cells) live count (a .size * a .size) 1 (tableStart a j + x * a .size) (tableStart a j + y * a .size) g → (c d : ℕ) → Listed live count c → Listed live count d
       → g (result a j (c ∷ x ∷ d ∷ [])) ≡ g (result a j (c ∷ y ∷ d ∷ []))
   second-plane h c d m k =
       subst₂ (λ (c d : ℕ). g (result a j (c ∷ x ∷ d ∷ [])) ≡ g (result a j (c ∷ y ∷ d ∷ []))) (m .1 .1) (k .1 .1)
@@ -61,7 +61,7 @@ module _ (a : Algebra) (j : ℕ) (live : List ℕ) (count x y : ℕ) (g : ℕ �
       ∙ h (m .0) (m .1 .0) (k .0) (k .1 .0)
       ∙ sym (cell-at (b ∷ y ∷ e ∷ []) (tableStart a j + y * a .size + b * (a .size * a .size) + e * 1) (omega (arith, place-three (a .size) b y e))))
 
-  first-plane : OnPlane (a .cells) live count (a .size) 1 (tableStart a j + x * (a .size * a .size)) (tableStart a j + y * (a .size * a .size)) g → (c d : ℕ) → Listed live count c → Listed live count d
+  first-plane : JoinsPlane (a .cells) live count (a .size) 1 (tableStart a j + x * (a .size * a .size)) (tableStart a j + y * (a .size * a .size)) g → (c d : ℕ) → Listed live count c → Listed live count d
       → g (result a j (x ∷ c ∷ d ∷ [])) ≡ g (result a j (y ∷ c ∷ d ∷ []))
   first-plane h c d m k =
       subst₂ (λ (c d : ℕ). g (result a j (x ∷ c ∷ d ∷ [])) ≡ g (result a j (y ∷ c ∷ d ∷ []))) (m .1 .1) (k .1 .1)
@@ -72,7 +72,7 @@ module _ (a : Algebra) (j : ℕ) (live : List ℕ) (count x y : ℕ) (g : ℕ �
       ∙ sym (cell-at (y ∷ b ∷ e ∷ []) (tableStart a j + y * (a .size * a .size) + b * a .size + e * 1) (omega (arith, place-three (a .size) y b e))))
 
   -- from a table to its operation's images, by arity
-  around : (s : ℕ) → s ≤ 3 → OnTable (a .size) (a .cells) live count (tableStart a j) s x y g → (pre post : List ℕ) → length pre + 1 + length post ≡ s
+  around : (s : ℕ) → s ≤ 3 → JoinsTable (a .size) (a .cells) live count (tableStart a j) s x y g → (pre post : List ℕ) → length pre + 1 + length post ≡ s
       → All (Listed live count) pre → All (Listed live count) post → g (result a j (pre ++ (x ∷ post))) ≡ g (result a j (pre ++ (y ∷ post)))
   around zero l h pre post e p q = absurd (omega arith)
   around (suc zero) l h [] [] e p q =
@@ -97,14 +97,14 @@ module _ (a : Algebra) (j : ℕ) (live : List ℕ) (count x y : ℕ) (g : ℕ �
   around (suc (suc (suc zero))) l h (c ∷ d ∷ b ∷ pre) post e p q = absurd (omega arith)
   around (suc (suc (suc (suc s)))) l h pre post e p q = absurd (omega arith)
 
-  pub table-images : getD (a .arities) j 0 ≤ 3 → OnTable (a .size) (a .cells) live count (tableStart a j) (getD (a .arities) j 0) x y g → ImagesIn a j (Listed live count) x y g
+  pub table-images : getD (a .arities) j 0 ≤ 3 → JoinsTable (a .size) (a .cells) live count (tableStart a j) (getD (a .arities) j 0) x y g → ImagesIn a j (Listed live count) x y g
   table-images l h pre post e p q = around (getD (a .arities) j 0) l h pre post e p q
 
   -- and back
   listed : (i : ℕ) → i < count → Listed live count (byte live i)
   listed i l = (i, (l, refl))
 
-  table-of : (s : ℕ) → s ≤ 3 → s ≡ getD (a .arities) j 0 → ImagesIn a j (Listed live count) x y g → OnTable (a .size) (a .cells) live count (tableStart a j) s x y g
+  table-of : (s : ℕ) → s ≤ 3 → s ≡ getD (a .arities) j 0 → ImagesIn a j (Listed live count) x y g → JoinsTable (a .size) (a .cells) live count (tableStart a j) s x y g
   table-of zero l e h = tt
   table-of (suc zero) l e h =
       sym (cell-at (x ∷ []) (tableStart a j + x) (omega (arith, place-one (a .size) x))) ∙ h [] [] (omega arith) tt tt
@@ -138,7 +138,7 @@ module _ (a : Algebra) (j : ℕ) (live : List ℕ) (count x y : ℕ) (g : ℕ �
   )
   table-of (suc (suc (suc (suc s)))) l e h = absurd (omega arith)
 
-  pub images-table : getD (a .arities) j 0 ≤ 3 → ImagesIn a j (Listed live count) x y g → OnTable (a .size) (a .cells) live count (tableStart a j) (getD (a .arities) j 0) x y g
+  pub images-table : getD (a .arities) j 0 ≤ 3 → ImagesIn a j (Listed live count) x y g → JoinsTable (a .size) (a .cells) live count (tableStart a j) (getD (a .arities) j 0) x y g
   images-table l h = table-of (getD (a .arities) j 0) l refl h
 
 -- ---- results
@@ -200,15 +200,15 @@ module _ (a : Algebra) (accepted : Accepted a) (live : List ℕ) (count : ℕ) (
   ok : WellFormed a
   ok = accepted-wellFormed a accepted
 
-  pub operation-fits : (j o : ℕ) → j < length (a .arities) → o ≡ tableStart a j → TableFits (a .size) (a .cells) o (getD (a .arities) j 0) x y
+  pub operation-fits : (j o : ℕ) → j < length (a .arities) → o ≡ tableStart a j → TableInside (a .size) (a .cells) o (getD (a .arities) j 0) x y
   operation-fits j o l e = record { left = lx; right = ly; room = omega (arith, ok .filled, start-room (a .size) (a .arities) j l) }
 
   pub operation-table : (g : ℕ → ℕ) (j o : ℕ) → j < length (a .arities) → o ≡ tableStart a j → OperationsIn a (length (a .arities)) (Listed live count) x y g
-      → OnTable (a .size) (a .cells) live count o (getD (a .arities) j 0) x y g
+      → JoinsTable (a .size) (a .cells) live count o (getD (a .arities) j 0) x y g
   operation-table g j o l e h = rw e (images-table a j live count x y g (ok .arity j l) (h j l))
 
   pub operations-more : (f f′ : ℕ → ℕ) (j o : ℕ) → j < length (a .arities) → o ≡ tableStart a j → Within (a .size) f f′
-      → OnTable (a .size) (a .cells) live count o (getD (a .arities) j 0) x y f′ → OperationsIn a j (Listed live count) x y f → OperationsIn a (j + 1) (Listed live count) x y f′
+      → JoinsTable (a .size) (a .cells) live count o (getD (a .arities) j 0) x y f′ → OperationsIn a j (Listed live count) x y f → OperationsIn a (j + 1) (Listed live count) x y f′
   operations-more f f′ j o l e w t h =
       each-more (λ (k : ℕ) (g : ℕ → ℕ). ImagesIn a k (Listed live count) x y g) f f′ (λ k lk. images-kept a ok k (omega arith) (listed-below contexts) lx ly w) h
       (table-images a j live count x y f′ (ok .arity j l) (rw e at t))

@@ -10,10 +10,10 @@ use lib.ListN.{length, set}
 use lib.Seq.{getD-set-same, getD-set-other}
 use Rattle.equivalence.specs.Equivalence.{byte}
 use Rattle.kernel.proofs.Names.{name-back}
-use Rattle.kernel.specs.Kernel.{Canonical, Within, relabel, Merged}
+use Rattle.kernel.specs.InnerKernel.{Canonical, Within, relabel, Merged}
 use Rattle.kernel.proofs.Kernels.{relabel-same, relabel-other, merged-swap}
-use Rattle.kernel.specs.Largest.{Larger}
-use Rattle.sweep.specs.Queue.{State, state, InQueue, Queued, Ready, Grown}
+use Rattle.kernel.specs.InnerLargest.{Larger}
+use Rattle.sweep.specs.InnerQueue.{QueueState, state, InQueue, Queued, Ready, Grown}
 
 -- ---- names
 
@@ -23,8 +23,8 @@ module _ {n a b : ℕ} {f f′ : ℕ → ℕ} (c : Canonical n f) (la : a < n) (
   higher-lost e =
       let sa : f a < n = omega (arith, c .below a la) in
       let sb : f b < n = omega (arith, c .below b lb) in
-      let ta : f′ (f a) ≡ f′ a = d .within (f a) a sa la (c .root a la) in
-      let tb : f′ (f b) ≡ f′ b = d .within (f b) b sb lb (c .root b lb) in
+      let ta : f′ (f a) ≡ f′ a = d .within (f a) a sa la (c .named a la) in
+      let tb : f′ (f b) ≡ f′ b = d .within (f b) b sb lb (c .named b lb) in
       omega (arith, d .holds, d .canonical .below (f a) sa)
 
   others-kept : (x : ℕ) → x < n → f x ≡ x → (x ≡ f b → ⊥) → f′ x ≡ x
@@ -32,11 +32,11 @@ module _ {n a b : ℕ} {f f′ : ℕ → ℕ} (c : Canonical n f) (la : a < n) (
       let g : ℕ → ℕ = λ z. relabel (f b) (f a) (f z) in
       let y = f′ x in
       let ly : y < n = omega (arith, d .canonical .below x l) in
-      let ey : f y ≡ y = name-back c (d .canonical) (d .within) y ly (d .canonical .root x l) in
+      let ey : f y ≡ y = name-back c (d .canonical) (d .within) y ly (d .canonical .named x l) in
       let ga : g a ≡ g b = relabel-other (f b) (f a) (f a) (omega arith) ∙ sym (relabel-same (f b) (f a) (f b) refl) in
-      let w : g x ≡ g y = d .least g (λ u v lu lv p. ap (relabel (f b) (f a)) p) ga x y l ly (sym (d .canonical .root x l)) in
+      let w : g x ≡ g y = d .least g (λ u v lu lv p. ap (relabel (f b) (f a)) p) ga x y l ly (sym (d .canonical .named x l)) in
       let gx : g x ≡ x = relabel-other (f b) (f a) (f x) (λ p. h (sym e ∙ p)) ∙ e in
-      let gy : g y ≡ y = relabel-other (f b) (f a) (f y) (λ p. higher-lost (subst (λ (z : ℕ). f′ z ≡ z) (sym ey ∙ p) (d .canonical .root x l))) ∙ ey in
+      let gy : g y ≡ y = relabel-other (f b) (f a) (f y) (λ p. higher-lost (subst (λ (z : ℕ). f′ z ≡ z) (sym ey ∙ p) (d .canonical .named x l))) ∙ ey in
       sym gy ∙ sym w ∙ gx
 
 -- what a merge does to the names, r being the larger of the two
@@ -60,7 +60,7 @@ merged-lost {n} {a} {b} {r} {f} {f′} c la lb h m d =
 
 -- ---- growth
 
-pub grown-none : {n : ℕ} (Good : (ℕ → ℕ) → Type 0) {s : State} → Queued n s → Grown n Good s s
+pub grown-none : {n : ℕ} (Good : (ℕ → ℕ) → Type 0) {s : QueueState} → Queued n s → Grown n Good s s
 grown-none Good q = record {
   queued = q;
   within = λ x y lx ly p. p;
@@ -73,10 +73,10 @@ grown-none Good q = record {
 }
 
 -- what is queued stays queued
-pub in-queue-kept : {n : ℕ} {Good : (ℕ → ℕ) → Type 0} {s t : State} → Grown n Good s t → (x : ℕ) → InQueue s x → InQueue t x
+pub in-queue-kept : {n : ℕ} {Good : (ℕ → ℕ) → Type 0} {s t : QueueState} → Grown n Good s t → (x : ℕ) → InQueue s x → InQueue t x
 in-queue-kept d x i = (i .0, (omega (arith, i .1 .0, d .longer), d .kept (i .0) (i .1 .0) ∙ i .1 .1))
 
-pub grown-more : {n : ℕ} {Good More : (ℕ → ℕ) → Type 0} {s t u : State} → ((g : ℕ → ℕ) → Good g → Within n (t .map) g → More g)
+pub grown-more : {n : ℕ} {Good More : (ℕ → ℕ) → Type 0} {s t u : QueueState} → ((g : ℕ → ℕ) → Good g → Within n (t .map) g → More g)
     → Grown n Good s t → Grown n More t u → Grown n Good s u
 grown-more {t = t} h a b = record {
   queued = b .queued;
@@ -90,7 +90,7 @@ grown-more {t = t} h a b = record {
 }
 
 -- growth that more functions are known to make
-pub grown-first : {n : ℕ} {Good More : (ℕ → ℕ) → Type 0} {s t : State} → ((g : ℕ → ℕ) → Good g → Within n (s .map) g → More g) → Grown n More s t → Grown n Good s t
+pub grown-first : {n : ℕ} {Good More : (ℕ → ℕ) → Type 0} {s t : QueueState} → ((g : ℕ → ℕ) → Good g → Within n (s .map) g → More g) → Grown n More s t → Grown n Good s t
 grown-first h d = record {
   queued = d .queued;
   within = d .within;

@@ -1,2 +1,2 @@
-pub mod Queue
-pub mod Contexts
+pub mod InnerQueue
+pub mod InnerContexts

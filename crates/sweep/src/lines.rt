@@ -2,8 +2,8 @@
 ghost use Prim.Native.Nat.{_+_, _*_, _<_, _≤_};
 ghost use lib.ListN.{length};
 ghost use Rattle.equivalence.specs.Equivalence.{byte};
-ghost use Rattle.sweep.specs.Queue.{state, Ready, Grown};
-ghost use Rattle.sweep.specs.Contexts.{OnLine, OnPlane, Contexts, LineFits, PlaneFits, Unless, Bounded, Heeds, Passed};
+ghost use Rattle.sweep.specs.InnerQueue.{state, Ready, Grown};
+ghost use Rattle.sweep.specs.InnerContexts.{JoinsLine, JoinsPlane, Contexts, LineInside, PlaneInside, Unless, Bounded, RefusedRightly, Passed};
 use crate::step::halted;
 use crate::step::step;
 
@@ -21,8 +21,8 @@ fn apart_from(
 ) -> usize
     requires { ⌜ n ≤ length (now m) ⌝ }
     requires { ⌜ Contexts n (now cells) (now live) count ⌝ }
-    requires { ⌜ LineFits n (now cells) stride p ⌝ }
-    requires { ⌜ LineFits n (now cells) stride q ⌝ }
+    requires { ⌜ LineInside n (now cells) stride p ⌝ }
+    requires { ⌜ LineInside n (now cells) stride q ⌝ }
     requires { ⌜ start ≤ count ⌝ }
     ensures { λ r. ⌜ Passed (now (cells .entry)) (now (live .entry)) count stride p q start r (byte (now (m .entry))) ⌝ }
 {
@@ -59,10 +59,10 @@ pub fn line(
     requires { ⌜ Ready n start (now m) (now queue) ⌝ }
     requires { ⌜ Bounded n limit start v w (byte (now m)) ⌝ }
     requires { ⌜ Contexts n (now cells) (now live) count ⌝ }
-    requires { ⌜ LineFits n (now cells) stride p ⌝ }
-    requires { ⌜ LineFits n (now cells) stride q ⌝ }
-    ensures { λ r. ⌜ Grown n (λ g. OnLine (now (cells .entry)) (now (live .entry)) count stride p q g × Heeds n (now (refused .entry)) v w g) (state (now (m .entry)) (now (queue .entry)) start) (state (now (m .exit)) (now (queue .exit)) r) ⌝ }
-    ensures { λ _. ⌜ Unless v w (OnLine (now (cells .entry)) (now (live .entry)) count stride p q) (byte (now (m .exit))) ⌝ }
+    requires { ⌜ LineInside n (now cells) stride p ⌝ }
+    requires { ⌜ LineInside n (now cells) stride q ⌝ }
+    ensures { λ r. ⌜ Grown n (λ g. JoinsLine (now (cells .entry)) (now (live .entry)) count stride p q g × RefusedRightly n (now (refused .entry)) v w g) (state (now (m .entry)) (now (queue .entry)) start) (state (now (m .exit)) (now (queue .exit)) r) ⌝ }
+    ensures { λ _. ⌜ Unless v w (JoinsLine (now (cells .entry)) (now (live .entry)) count stride p q) (byte (now (m .exit))) ⌝ }
 {
     let mut len = start;
     let mut i = 0;
@@ -112,10 +112,10 @@ pub fn plane(
     requires { ⌜ Ready n start (now m) (now queue) ⌝ }
     requires { ⌜ Bounded n limit start v w (byte (now m)) ⌝ }
     requires { ⌜ Contexts n (now cells) (now live) count ⌝ }
-    requires { ⌜ PlaneFits n (now cells) row step p ⌝ }
-    requires { ⌜ PlaneFits n (now cells) row step q ⌝ }
-    ensures { λ r. ⌜ Grown n (λ g. OnPlane (now (cells .entry)) (now (live .entry)) count row step p q g × Heeds n (now (refused .entry)) v w g) (state (now (m .entry)) (now (queue .entry)) start) (state (now (m .exit)) (now (queue .exit)) r) ⌝ }
-    ensures { λ _. ⌜ Unless v w (OnPlane (now (cells .entry)) (now (live .entry)) count row step p q) (byte (now (m .exit))) ⌝ }
+    requires { ⌜ PlaneInside n (now cells) row step p ⌝ }
+    requires { ⌜ PlaneInside n (now cells) row step q ⌝ }
+    ensures { λ r. ⌜ Grown n (λ g. JoinsPlane (now (cells .entry)) (now (live .entry)) count row step p q g × RefusedRightly n (now (refused .entry)) v w g) (state (now (m .entry)) (now (queue .entry)) start) (state (now (m .exit)) (now (queue .exit)) r) ⌝ }
+    ensures { λ _. ⌜ Unless v w (JoinsPlane (now (cells .entry)) (now (live .entry)) count row step p q) (byte (now (m .exit))) ⌝ }
 {
     let mut len = start;
     let mut i = 0;

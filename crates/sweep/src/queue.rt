@@ -2,10 +2,10 @@
 ghost use mathlib.Core.Path.{_≡_};
 ghost use Prim.Native.Nat.{_<_};
 ghost use Rattle.equivalence.specs.Equivalence.{byte};
-ghost use Rattle.sweep.specs.Queue.{state, Ready, Grown};
+ghost use Rattle.sweep.specs.InnerQueue.{state, Ready, Grown};
 
 // Joins a and b in m. Where m held them apart, the larger of their names goes behind the queue. How many elements are queued then.
-pub fn join(m: &mut [u8], n: usize, queue: &mut [u8], len: usize, a: u8, b: u8) -> usize
+pub fn merge_queued(m: &mut [u8], n: usize, queue: &mut [u8], len: usize, a: u8, b: u8) -> usize
     requires { ⌜ Ready n len (now m) (now queue) ⌝ }
     requires { ⌜ a < n ⌝ }
     requires { ⌜ b < n ⌝ }

@@ -1,13 +1,13 @@
 // One merge of a pass. A pass ends early where a single block is left, or where v and w, if they are two, have been joined. Where a merge
-// would join a marked pair, v and w are joined instead: the work is over.
+// would join a refused pair, v and w are joined instead: the work is over.
 ghost use mathlib.Core.Path.{_≡_};
 ghost use mathlib.Core.Bool.{true};
 ghost use mathlib.Core.Logic.{_⊎_};
 ghost use Prim.Native.Nat.{_+_, _*_, _<_, _≤_};
 ghost use lib.ListN.{length};
 ghost use Rattle.equivalence.specs.Equivalence.{byte};
-ghost use Rattle.sweep.specs.Queue.{state, Ready, Grown};
-ghost use Rattle.sweep.specs.Contexts.{Unless, Halts, Heeds, Barred};
+ghost use Rattle.sweep.specs.InnerQueue.{state, Ready, Grown};
+ghost use Rattle.sweep.specs.InnerContexts.{Unless, Halts, RefusedRightly, NamesRefused};
 
 // Is nothing more to be done?
 pub fn halted(m: &[u8], len: usize, limit: usize, v: usize, w: usize) -> bool
@@ -24,7 +24,7 @@ pub fn halted(m: &[u8], len: usize, limit: usize, v: usize, w: usize) -> bool
     m[v] == m[w]
 }
 
-// Where the pair of p and q is marked: in the row of the smaller.
+// Where the table of refused pairs has p and q: in the row of the smaller.
 fn mark_place(p: u8, q: u8) -> usize
     ensures { λ r. ⌜ (r ≡ p * 64 + q) ⊎ (r ≡ q * 64 + p) ⌝ }
 {
@@ -34,11 +34,11 @@ fn mark_place(p: u8, q: u8) -> usize
     q as usize * 64 + p as usize
 }
 
-// Are v and w two, and are the names of a and b marked? Then whatever joins a and b joins v and w.
-fn barred(m: &[u8], a: u8, b: u8, refused: &[u8], v: usize, w: usize) -> bool
+// Are v and w two, and are the names of a and b refused? Then whatever joins a and b joins v and w.
+fn is_refused(m: &[u8], a: u8, b: u8, refused: &[u8], v: usize, w: usize) -> bool
     requires { ⌜ a < length (now m) ⌝ }
     requires { ⌜ b < length (now m) ⌝ }
-    ensures { λ r. ⌜ (r ≡ true → Barred (now (refused .entry)) v w a b (byte (now (m .entry)))) ⌝ }
+    ensures { λ r. ⌜ (r ≡ true → NamesRefused (now (refused .entry)) v w a b (byte (now (m .entry)))) ⌝ }
 {
     if v == w {
         return false;
@@ -52,7 +52,7 @@ fn barred(m: &[u8], a: u8, b: u8, refused: &[u8], v: usize, w: usize) -> bool
     refused[place] != 0
 }
 
-// Joins a and b, or where the pair is barred, v and w alone.
+// Joins a and b, or where the pair is refused, v and w alone.
 pub fn step(
     m: &mut [u8],
     n: usize,
@@ -70,11 +70,11 @@ pub fn step(
     requires { ⌜ b < n ⌝ }
     requires { ⌜ v < n ⌝ }
     requires { ⌜ w < n ⌝ }
-    ensures { λ r. ⌜ Grown n (λ g. (g a ≡ g b) × Heeds n (now (refused .entry)) v w g) (state (now (m .entry)) (now (queue .entry)) start) (state (now (m .exit)) (now (queue .exit)) r) ⌝ }
+    ensures { λ r. ⌜ Grown n (λ g. (g a ≡ g b) × RefusedRightly n (now (refused .entry)) v w g) (state (now (m .entry)) (now (queue .entry)) start) (state (now (m .exit)) (now (queue .exit)) r) ⌝ }
     ensures { λ _. ⌜ Unless v w (λ g. g a ≡ g b) (byte (now (m .exit))) ⌝ }
 {
-    if barred(m, a, b, refused, v, w) {
-        return crate::queue::join(m, n, queue, start, v as u8, w as u8);
+    if is_refused(m, a, b, refused, v, w) {
+        return crate::queue::merge_queued(m, n, queue, start, v as u8, w as u8);
     }
-    crate::queue::join(m, n, queue, start, a, b)
+    crate::queue::merge_queued(m, n, queue, start, a, b)
 }

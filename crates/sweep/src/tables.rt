@@ -1,12 +1,12 @@
 // The images of two elements x and y under all translations of an operation, and of every operation, joined in the map.
 ghost use Prim.Native.Nat.{_+_, _*_, _<_, _≤_};
 ghost use lib.ListN.{length};
-ghost use Rattle.kernel.specs.Kernel.{Listed};
+ghost use Rattle.kernel.specs.InnerKernel.{Listed};
 ghost use Rattle.equivalence.specs.Equivalence.{byte};
-ghost use Rattle.sweep.specs.Queue.{state, Ready, Grown};
+ghost use Rattle.sweep.specs.InnerQueue.{state, Ready, Grown};
 ghost use Rattle.algebra.specs.Algebra.{algebraIn};
 ghost use Rattle.algebra.specs.Accepted.{Accepted};
-ghost use Rattle.sweep.specs.Contexts.{OperationsIn, OnTable, Contexts, TableFits, Unless, Bounded, Heeds};
+ghost use Rattle.sweep.specs.InnerContexts.{OperationsIn, JoinsTable, Contexts, TableInside, Unless, Bounded, RefusedRightly};
 use crate::lines::line;
 use crate::lines::plane;
 use crate::step::halted;
@@ -32,9 +32,9 @@ fn binary(
     requires { ⌜ Ready n start (now m) (now queue) ⌝ }
     requires { ⌜ Bounded n limit start v w (byte (now m)) ⌝ }
     requires { ⌜ Contexts n (now cells) (now live) count ⌝ }
-    requires { ⌜ TableFits n (now cells) o 2 x y ⌝ }
-    ensures { λ r. ⌜ Grown n (λ g. OnTable n (now (cells .entry)) (now (live .entry)) count o 2 x y g × Heeds n (now (refused .entry)) v w g) (state (now (m .entry)) (now (queue .entry)) start) (state (now (m .exit)) (now (queue .exit)) r) ⌝ }
-    ensures { λ _. ⌜ Unless v w (OnTable n (now (cells .entry)) (now (live .entry)) count o 2 x y) (byte (now (m .exit))) ⌝ }
+    requires { ⌜ TableInside n (now cells) o 2 x y ⌝ }
+    ensures { λ r. ⌜ Grown n (λ g. JoinsTable n (now (cells .entry)) (now (live .entry)) count o 2 x y g × RefusedRightly n (now (refused .entry)) v w g) (state (now (m .entry)) (now (queue .entry)) start) (state (now (m .exit)) (now (queue .exit)) r) ⌝ }
+    ensures { λ _. ⌜ Unless v w (JoinsTable n (now (cells .entry)) (now (live .entry)) count o 2 x y) (byte (now (m .exit))) ⌝ }
 {
     let p = o + x;
     let q = o + y;
@@ -95,9 +95,9 @@ fn ternary(
     requires { ⌜ Ready n start (now m) (now queue) ⌝ }
     requires { ⌜ Bounded n limit start v w (byte (now m)) ⌝ }
     requires { ⌜ Contexts n (now cells) (now live) count ⌝ }
-    requires { ⌜ TableFits n (now cells) o 3 x y ⌝ }
-    ensures { λ r. ⌜ Grown n (λ g. OnTable n (now (cells .entry)) (now (live .entry)) count o 3 x y g × Heeds n (now (refused .entry)) v w g) (state (now (m .entry)) (now (queue .entry)) start) (state (now (m .exit)) (now (queue .exit)) r) ⌝ }
-    ensures { λ _. ⌜ Unless v w (OnTable n (now (cells .entry)) (now (live .entry)) count o 3 x y) (byte (now (m .exit))) ⌝ }
+    requires { ⌜ TableInside n (now cells) o 3 x y ⌝ }
+    ensures { λ r. ⌜ Grown n (λ g. JoinsTable n (now (cells .entry)) (now (live .entry)) count o 3 x y g × RefusedRightly n (now (refused .entry)) v w g) (state (now (m .entry)) (now (queue .entry)) start) (state (now (m .exit)) (now (queue .exit)) r) ⌝ }
+    ensures { λ _. ⌜ Unless v w (JoinsTable n (now (cells .entry)) (now (live .entry)) count o 3 x y) (byte (now (m .exit))) ⌝ }
 {
     let area = n * n;
     let a = plane(
@@ -175,9 +175,9 @@ fn table(
     requires { ⌜ Bounded n limit start v w (byte (now m)) ⌝ }
     requires { ⌜ Contexts n (now cells) (now live) count ⌝ }
     requires { ⌜ s ≤ 3 ⌝ }
-    requires { ⌜ TableFits n (now cells) o s x y ⌝ }
-    ensures { λ r. ⌜ Grown n (λ g. OnTable n (now (cells .entry)) (now (live .entry)) count o s x y g × Heeds n (now (refused .entry)) v w g) (state (now (m .entry)) (now (queue .entry)) start) (state (now (m .exit)) (now (queue .exit)) r) ⌝ }
-    ensures { λ _. ⌜ Unless v w (OnTable n (now (cells .entry)) (now (live .entry)) count o s x y) (byte (now (m .exit))) ⌝ }
+    requires { ⌜ TableInside n (now cells) o s x y ⌝ }
+    ensures { λ r. ⌜ Grown n (λ g. JoinsTable n (now (cells .entry)) (now (live .entry)) count o s x y g × RefusedRightly n (now (refused .entry)) v w g) (state (now (m .entry)) (now (queue .entry)) start) (state (now (m .exit)) (now (queue .exit)) r) ⌝ }
+    ensures { λ _. ⌜ Unless v w (JoinsTable n (now (cells .entry)) (now (live .entry)) count o s x y) (byte (now (m .exit))) ⌝ }
 {
     if s == 3 {
         return ternary(
@@ -254,7 +254,7 @@ pub fn operations(
     requires { ⌜ Accepted (algebraIn n arities cells) ⌝ }
     requires { ⌜ x < n ⌝ }
     requires { ⌜ y < n ⌝ }
-    ensures { λ r. ⌜ Grown n (λ g. OperationsIn (algebraIn n (arities .entry) (cells .entry)) (length (now (arities .entry))) (Listed (now (live .entry)) count) x y g × Heeds n (now (refused .entry)) v w g) (state (now (m .entry)) (now (queue .entry)) start) (state (now (m .exit)) (now (queue .exit)) r) ⌝ }
+    ensures { λ r. ⌜ Grown n (λ g. OperationsIn (algebraIn n (arities .entry) (cells .entry)) (length (now (arities .entry))) (Listed (now (live .entry)) count) x y g × RefusedRightly n (now (refused .entry)) v w g) (state (now (m .entry)) (now (queue .entry)) start) (state (now (m .exit)) (now (queue .exit)) r) ⌝ }
     ensures { λ _. ⌜ Unless v w (OperationsIn (algebraIn n (arities .entry) (cells .entry)) (length (now (arities .entry))) (Listed (now (live .entry)) count) x y) (byte (now (m .exit))) ⌝ }
 {
     let mut len = start;

@@ -15,7 +15,7 @@ use Rattle.algebra.proofs.Accepted.{WellFormed}
 use Rattle.algebra.proofs.Arguments.{Args, args-set, args-map}
 use Rattle.algebra.proofs.Congruences.{Respects, IsCongruence, value-below}
 use Rattle.theory.proofs.Quotients.{onBlocks, operations-quotient, block-value, pulled, pulled-holds, of-pulled, pulled-inside, pulled-congruence}
-use Rattle.division.specs.Quotient.{quotientCells, quotient}
+use Rattle.quotient.specs.Quotient.{quotientCells, quotient}
 
 module _ (a : Algebra) (c : WellFormed a) (m : Map) (p : IsCongruence a m) where
   pub pushed : Map → Map
@@ -39,7 +39,7 @@ module _ (a : Algebra) (c : WellFormed a) (m : Map) (p : IsCongruence a m) where
     unfolding pushed
     of-pushed i j l k e = of-holds d (smallest (a .size) m i) (smallest (a .size) m j) (of-mapOf (blocks (a .size) m) _ equiv i j l k e)
 
-    -- an element and the first member of its block
+    -- an element and the smallest member of its block
     near : (x : ℕ) → x < a .size → Holds d (smallest (a .size) m (blockOf m x)) x
     near x l =
         ap (byte d) (smallest-block (a .size) m (p .map) x l) ∙ above (byte m x) x (omega (arith, p .map .low x l)) l (p .map .named x l)
@@ -51,7 +51,7 @@ module _ (a : Algebra) (c : WellFormed a) (m : Map) (p : IsCongruence a m) where
         map-at (blockOf m) (map (smallest (a .size) m) bs) i 0 0 (omega (arith, length-map bs (smallest (a .size) m)))
         ∙ ap (blockOf m) (map-at (smallest (a .size) m) bs i 0 0 k) ∙ block-smallest (a .size) m (p .map) (getD bs i 0) (h .below i (omega (arith, h .long))))
 
-    -- an operation of the quotient, and the algebra's at first members
+    -- an operation of the quotient, and the algebra's at smallest members
     close : (f : Operation) → Member f (operations a) → (bs : List ℕ) → Args (blocks (a .size) m) (f .arity) bs
         → (value (blocks (a .size) m) (onBlocks (a .size) m f) bs < blocks (a .size) m)
         × Holds d (smallest (a .size) m (value (blocks (a .size) m) (onBlocks (a .size) m f) bs)) (value (a .size) f (map (smallest (a .size) m) bs))

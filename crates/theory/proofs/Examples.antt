@@ -2,7 +2,7 @@
 use mathlib.Core.Bool.{true, false}
 use mathlib.Core.List.{[], _∷_}
 use mathlib.Core.Path.{_≡_, refl}
-use Rattle.equivalence.specs.Equivalence.{isMap, holds, inside, roots, blocks, blockOf, mapOf, identity, whole, same, isIdentity, meet, meetAll, maps, best}
+use Rattle.equivalence.specs.Equivalence.{isMap, holds, inside, namesOf, blocks, blockOf, mapOf, identity, whole, same, isIdentity, meet, meetAll, maps, best}
 use Rattle.equivalence.specs.Lists.{upTo, every, any, keep, first, concat}
 use Rattle.equivalence.specs.Order.{pairs, notLaterOn, notLater, firstHeld}
 use Rattle.algebra.specs.Algebra.{cellCount, operationsOf, operations, arguments, place, value}
@@ -11,7 +11,7 @@ use Rattle.theory.specs.Samples.{u, c, bare, minimum}
 use Rattle.theory.specs.Certify.{isMaximalFor, certified}
 use Rattle.theory.specs.Decompose.{added, gathered, pruned, listed, reducible, commonPair}
 use Rattle.theory.specs.Extremal.{holdsAll, above, generated, contained, separated}
-use Rattle.division.specs.Quotient.{quotientTable, quotientCells}
+use Rattle.quotient.specs.Quotient.{quotientTable, quotientCells}
 
 pub record Examples : Type 0 where
   pub one : generated u (0 ∷ 2 ∷ []) ≡ 0 ∷ 1 ∷ 0 ∷ 1 ∷ []
@@ -38,7 +38,7 @@ pub record Examples : Type 0 where
   pub divided : quotientCells u (0 ∷ 1 ∷ 0 ∷ 1 ∷ []) ≡ 1 ∷ 0 ∷ []
 
 pub examples : Examples
-unfolding upTo every any first holds concat mapOf keep maps roots blocks blockOf best meetAll inside same isIdentity isMap notLater notLaterOn pairs identity whole meet firstHeld isCongruence operations operationsOf cellCount arguments place value respects quotientCells quotientTable congruences holdsAll above generated contained separated added gathered pruned listed commonPair reducible certified isMaximalFor
+unfolding upTo every any first holds concat mapOf keep maps namesOf blocks blockOf best meetAll inside same isIdentity isMap notLater notLaterOn pairs identity whole meet firstHeld isCongruence operations operationsOf cellCount arguments place value respects quotientCells quotientTable congruences holdsAll above generated contained separated added gathered pruned listed commonPair reducible certified isMaximalFor
 examples =
     record {
       one = refl;

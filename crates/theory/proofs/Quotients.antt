@@ -19,7 +19,7 @@ use Rattle.algebra.proofs.Arguments.{Args, args-set, arguments-long, place-law,
 use Rattle.algebra.proofs.Congruences.{IsCongruence, congruence-is, value-below, respects-all}
 use Rattle.theory.specs.Splitting.{Splitting}
 use Rattle.theory.proofs.Separation.{MaximalFor}
-use Rattle.division.specs.Quotient.{quotientTable, quotientCells, quotient}
+use Rattle.quotient.specs.Quotient.{quotientTable, quotientCells, quotient}
 
 unfoldable pub onBlocks : ℕ → Map → Operation → Operation
 onBlocks n m f = record { arity = f .arity; table = quotientTable n m f }

@@ -5,7 +5,7 @@ use native.Mathlib.Omega.{arith}
 use Prim.Native.Nat.{ℕ}
 use Rattle.equivalence.specs.Equivalence.{byte}
 use Rattle.algebra.specs.Algebra.{algebraOf, cellCount, place}
-use Rattle.translation.specs.Translations.{result, Compatible}
+use Rattle.translation.specs.InnerTranslations.{result, Compatible}
 
 -- 0 to 0, 1 and 2 to 2: the map 0 0 2 joins 0 and 1, but not their images
 pub not-compatible : Compatible (algebraOf 3 (1 ∷ []) (0 ∷ 2 ∷ 2 ∷ [])) (byte (0 ∷ 0 ∷ 2 ∷ [])) → ⊥

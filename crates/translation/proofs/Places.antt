@@ -8,7 +8,7 @@ use lib.Arith.{digits-lt}
 use lib.ListN.{length}
 use Rattle.algebra.specs.Algebra.{place}
 use Rattle.algebra.proofs.Powers.{power-one, power-two}
-use Rattle.translation.specs.Translations.{AllBelow}
+use Rattle.translation.specs.InnerTranslations.{AllBelow}
 
 pub place-lt : (n : ℕ) (xs : List ℕ) → AllBelow n xs → place n xs < n ^ length xs
 unfolding place

@@ -10,7 +10,7 @@ use Rattle.equivalence.specs.Equivalence.{Map, byte}
 use Rattle.equivalence.proofs.Maps.{Holds, IsMap}
 use Rattle.algebra.specs.Algebra.{Algebra, value}
 use Rattle.algebra.specs.Congruence.{respects}
-use Rattle.translation.specs.Translations.{AllBelow, result, Compatible}
+use Rattle.translation.specs.InnerTranslations.{AllBelow, result, Compatible}
 use Rattle.algebra.proofs.Arguments.{Args}
 use Rattle.algebra.proofs.Congruences.{Respects, IsCongruence}
 use Rattle.algebra.proofs.Tables.{operationAt, operationAt-member, every-operation, value-at}

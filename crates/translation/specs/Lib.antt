@@ -1,1 +1,1 @@
-pub mod Translations
+pub mod InnerTranslations

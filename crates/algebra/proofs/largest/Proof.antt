@@ -5,7 +5,7 @@ use native.Mathlib.Omega.{arith}
 use lib.ListN.{length}
 use borrow.Author.Needs.{needs}
 use Rattle.algebra.proofs.Maximum.{largest-none, largest-more}
-use Rattle.kernel.specs.Largest.{Largest}
+use Rattle.kernel.specs.InnerLargest.{Largest}
 use Rattle.algebra.proofs.largest.Statement.{statement}
 use Rattle.algebra.proofs.largest.Tie as tie
 

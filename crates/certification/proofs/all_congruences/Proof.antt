@@ -5,7 +5,7 @@ use native.Mathlib.Omega.{arith}
 use Rattle.equivalence.specs.Equivalence.{isMap}
 use Rattle.algebra.specs.Algebra.{algebraOf}
 use Rattle.algebra.specs.Congruence.{isCongruence}
-use Rattle.listing.proofs.ListTests.{Tested, tested-none, tested-all, tested-fits, tested-fails, tested-more, turn-map, turn-both}
+use Rattle.maplist.proofs.ListTests.{Tested, tested-none, tested-all, tested-fits, tested-fails, tested-more, turn-map, turn-both}
 use borrow.Author.Needs.{needs}
 use Rattle.certification.proofs.all_congruences.Statement.{statement}
 use Rattle.certification.proofs.all_congruences.Tie as tie

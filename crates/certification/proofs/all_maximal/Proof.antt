@@ -7,7 +7,7 @@ use Rattle.equivalence.specs.Lists.{any}
 use Rattle.equivalence.specs.Order.{pairs}
 use Rattle.algebra.specs.Algebra.{algebraOf}
 use Rattle.theory.specs.Certify.{isMaximalFor}
-use Rattle.listing.proofs.ListTests.{Tested, tested-none, tested-all, tested-fits, tested-fails, tested-more, turn-congruence}
+use Rattle.maplist.proofs.ListTests.{Tested, tested-none, tested-all, tested-fits, tested-fails, tested-more, turn-congruence}
 use borrow.Author.Needs.{needs}
 use Rattle.certification.proofs.all_maximal.Statement.{statement}
 use Rattle.certification.proofs.all_maximal.Tie as tie

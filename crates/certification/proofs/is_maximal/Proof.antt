@@ -10,9 +10,9 @@ use Rattle.equivalence.proofs.Maps.{of-isMap, whole-map}
 use Rattle.algebra.specs.Algebra.{algebraOf}
 use Rattle.algebra.proofs.Accepted.{accepted-wellFormed}
 use Rattle.algebra.proofs.Congruences.{congruence-is}
-use Rattle.certification.specs.Closures.{Shrunk}
+use Rattle.certification.specs.InnerClosures.{Shrunk}
 use Rattle.certification.proofs.Closures.{shrunk-none, shrunk-more, shrunk-less, maximal-test}
-use Rattle.listing.proofs.Listings.{Begins, begins-written, begins-canonical}
+use Rattle.maplist.proofs.MapLists.{Begins, begins-written, begins-canonical}
 use borrow.Author.Needs.{needs}
 use Rattle.certification.proofs.is_maximal.Statement.{statement}
 use Rattle.certification.proofs.is_maximal.Tie as tie

@@ -1,4 +1,4 @@
--- `meet_closure`: nothing is done where x or y is no first member; else the closure is made from a copy of the map, and met.
+-- `meet_closure`: nothing is done where x or y is no smallest member; else the closure is made from a copy of the map, and met.
 use native.Mathlib.Omega.{arith}
 use Rattle.equivalence.proofs.Maps.{of-isMap}
 use Rattle.algebra.proofs.Accepted.{accepted-wellFormed}

@@ -6,7 +6,7 @@ use native.Mathlib.Decide.{decLt}
 use native.Mathlib.Omega.{arith}
 use lib.ListN.{length}
 use Rattle.algebra.specs.Algebra.{algebraOf}
-use Rattle.certification.specs.Closures.{Shrunk}
+use Rattle.certification.specs.InnerClosures.{Shrunk}
 use Rattle.certification.proofs.Closures.{shrunk-none, shrunk-more, shrunk-less}
 use borrow.Author.Needs.{needs}
 use Rattle.certification.proofs.meet_closures.Statement.{statement}

@@ -1,6 +1,6 @@
 -- `write_found`: a list that was found is written, by what that promises; of a pair nothing is.
 use borrow.Author.Needs.{needs}
-use Rattle.decomposition.specs.Factored.{foundWritten}
+use Rattle.decomposition.specs.InnerFactored.{foundWritten}
 use Rattle.decomposition.proofs.Factoring.{list-writable, list-written}
 use Rattle.decomposition.proofs.write_found.Statement.{statement}
 use Rattle.decomposition.proofs.write_found.Tie as tie

@@ -32,13 +32,13 @@ refine-requires : tie.Need-refine-requires
 refine-requires c κs =
     let s = c .before .before .before .before .before .before .before in
     let p = is-map s in
-    (s .pre .0, (omega (arith, well-formed s .most), canonical-same (s .args .n) (byte (s .args .m .now)) _ (c .before .before .copy .ensures .first) (record { below = p .low; root = p .named })))
+    (s .pre .0, (omega (arith, well-formed s .most), canonical-same (s .args .n) (byte (s .args .m .now)) _ (c .before .before .copy .ensures .first) (record { below = p .low; named = p .named })))
 
 slice-aggregate-is-inside : tie.Need-slice-aggregate-is-inside
 slice-aggregate-is-inside c = search needs
 
 is-inside-requires : tie.Need-is-inside-requires
-is-inside-requires c κs = let s = c .before .before .before .before .before .before .before .before .before .before in let p = is-map s in (omega (arith, p .long), (omega (arith, well-formed s .most), record { below = p .low; root = p .named }))
+is-inside-requires c κs = let s = c .before .before .before .before .before .before .before .before .before .before in let p = is-map s in (omega (arith, p .long), (omega (arith, well-formed s .most), record { below = p .low; named = p .named }))
 
 returns : tie.Need-returns
 returns c =

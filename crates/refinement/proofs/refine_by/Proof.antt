@@ -4,11 +4,11 @@ use mathlib.Core.Path.{_≡_, refl, sym, _∙_}
 use native.Mathlib.Omega.{arith}
 use lib.ListN.{length}
 use Rattle.equivalence.specs.Equivalence.{byte}
-use Rattle.kernel.specs.Kernel.{names}
+use Rattle.kernel.specs.InnerKernel.{names}
 use Rattle.algebra.specs.Algebra.{Algebra, algebraOf}
-use Rattle.translation.specs.Translations.{Compatible}
+use Rattle.translation.specs.InnerTranslations.{Compatible}
 use Rattle.algebra.proofs.Accepted.{accepted-wellFormed}
-use Rattle.refinement.specs.Splitting.{Lists, Split}
+use Rattle.refinement.specs.InnerSplitting.{Lists, Split}
 use Rattle.kernel.proofs.Names.{names-most, names-full}
 use Rattle.refinement.proofs.Splits.{split-none, split-more}
 use Rattle.refinement.proofs.Compatibility.{represented-again}

@@ -4,7 +4,7 @@ use native.Mathlib.Omega.{arith}
 use Rattle.algebra.proofs.Accepted.{accepted-wellFormed}
 use Rattle.closure.proofs.Collections.{collected-most}
 use Rattle.separation.proofs.TwoBlocks.{names-represent}
-use Rattle.separation.proofs.Settling.{settled-start, settled-end, heeded-none, identity-compatible, rooms-kept}
+use Rattle.separation.proofs.Settling.{settled-start, settled-end, refusals-none, identity-compatible, rooms-kept}
 use borrow.Author.Needs.{needs}
 use Rattle.separation.proofs.separate_in.Statement.{statement}
 use Rattle.separation.proofs.separate_in.Tie as tie
@@ -31,7 +31,7 @@ settle-rows-requires c κs =
       rooms-kept r (omega (arith, k .kept)) (omega (arith, l .kept)) refl,
       record {
         settled = settled-start _ _ _ _ (r .left) (r .right) (s .pre .1 .1 .1) i (identity-compatible _ _ i);
-        heeded = heeded-none _ _ _ _ (s .args .refused .now) (accepted-wellFormed _ (r .accepted) .most) (s .pre .1 .0);
+        refusals = refusals-none _ _ _ _ (s .args .refused .now) (accepted-wellFormed _ (r .accepted) .most) (s .pre .1 .0);
         listed = l .ensures;
       },
     )

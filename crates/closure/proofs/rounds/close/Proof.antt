@@ -5,20 +5,20 @@ use native.Mathlib.Omega.{arith}
 use lib.ListN.{length}
 use Rattle.algebra.proofs.Accepted.{accepted-wellFormed}
 use Rattle.algebra.specs.Algebra.{algebraOf, operations}
-use Rattle.translation.specs.Translations.{Compatible}
+use Rattle.translation.specs.InnerTranslations.{Compatible}
 use Rattle.closure.proofs.Closings.{Running, running-none, running-more, running-compatible, retired-contexts}
 use Rattle.sweep.proofs.Images.{compatible-whole, compatible-images, listed-below}
 use Rattle.sweep.proofs.Queues.{Since, since-none, since-ready, since-more}
 use Rattle.sweep.proofs.Sweeps.{halted-unless, bounded-since}
-use Rattle.sweep.specs.Contexts.{Contexts, Heeds}
-use Rattle.sweep.specs.Queue.{state}
+use Rattle.sweep.specs.InnerContexts.{Contexts, RefusedRightly}
+use Rattle.sweep.specs.InnerQueue.{state}
 use Rattle.equivalence.proofs.Tests.{left, right}
 use Rattle.equivalence.specs.Equivalence.{byte}
 use Rattle.closure.proofs.rounds.close.Statement.{statement}
 use Rattle.closure.proofs.rounds.close.Tie as tie
 
 abbrev Inv-loop : tie.InvT-loop
-Inv-loop m₀ n queue₀ start limit arities cells live₀ used refused v w len₀ count₀ k₀ m queue live len count k = (k ≤ len) × (length live ≡ length live₀) × Contexts n cells live count × Since n (λ g. Compatible (algebraOf n arities cells) g × Heeds n refused v w g) m₀ queue₀ start m queue len × Running (algebraOf n arities cells) v w k (state m queue len) live count
+Inv-loop m₀ n queue₀ start limit arities cells live₀ used refused v w len₀ count₀ k₀ m queue live len count k = (k ≤ len) × (length live ≡ length live₀) × Contexts n cells live count × Since n (λ g. Compatible (algebraOf n arities cells) g × RefusedRightly n refused v w g) m₀ queue₀ start m queue len × Running (algebraOf n arities cells) v w k (state m queue len) live count
 
 abbrev μ-loop : tie.MeasureT-loop
 μ-loop m₀ n queue₀ start limit arities cells live₀ used refused v w len₀ count₀ k₀ m queue live len count k = n - k
@@ -88,7 +88,7 @@ loop-again c =
       omega (arith, d .longer, k),
       c .before .before .retire .kept .0 ∙ l .inv .1,
       retired-contexts (c .before .before .retire .kept .0) (l .inv .2) (c .before .before .retire .ensures),
-      since-more (λ g good h. (compatible-images a (listed-below (l .inv .2)) g (good .0) (byte (l .m) y) y z s (h (byte (l .m) y) y z s (q .canonical .root y s)), good .1)) (l .inv .3) (c .before .before .before .before .before .before .before .before .operations .kept .0) (c .before .before .before .before .before .before .before .before .operations .kept .1 .1 .0) d,
+      since-more (λ g good h. (compatible-images a (listed-below (l .inv .2)) g (good .0) (byte (l .m) y) y z s (h (byte (l .m) y) y z s (q .canonical .named y s)), good .1)) (l .inv .3) (c .before .before .before .before .before .before .before .before .operations .kept .0) (c .before .before .before .before .before .before .before .before .operations .kept .1 .1 .0) d,
       running-more a (accepted-wellFormed a (c .before .before .before .before .before .before .before .before .before .before .before .before .before .before .before .before .before .before .before .before .before .before .before .before .before .pre .1 .1 .1 .0)) (c .before .before .before .before .before .before .before .before .before .before .before .before .before .before .before .before .before .before .before .before .before .before .before .before .before .pre .1 .0 .left) (c .before .before .before .before .before .before .before .before .before .before .before .before .before .before .before .before .before .before .before .before .before .before .before .before .before .pre .1 .0 .right) (l .inv .4) k q d (c .before .before .before .before .before .before .before .before .operations .ensures .1) (c .before .before .retire .ensures),
     )
 

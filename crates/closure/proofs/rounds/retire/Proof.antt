@@ -1,6 +1,6 @@
 -- `retire`: nothing is taken out, or the last takes the place.
 use borrow.Author.Needs.{needs}
-use Rattle.translation.specs.Translations.{result}
+use Rattle.translation.specs.InnerTranslations.{result}
 use Rattle.closure.proofs.Closings.{retired-none, retired-swap}
 use Rattle.equivalence.proofs.Tests.{left}
 use Rattle.closure.proofs.rounds.retire.Statement.{statement}

@@ -5,7 +5,7 @@ use native.Mathlib.Omega.{arith}
 use lib.ListN.{length}
 use lib.Dec.{eqb}
 use Rattle.closure.proofs.Collections.{collected-none, collected-more, collected-most}
-use Rattle.closure.specs.Starts.{Collected}
+use Rattle.closure.specs.InnerStarts.{Collected}
 use Rattle.equivalence.specs.Equivalence.{byte}
 use Rattle.closure.proofs.start.names.Statement.{statement}
 use Rattle.closure.proofs.start.names.Tie as tie

@@ -2,7 +2,7 @@
 use Prim.Native.Nat.{_-_}
 use native.Mathlib.Omega.{arith}
 use Rattle.equivalence.specs.Equivalence.{isMap}
-use Rattle.listing.proofs.ListTests.{Tested, tested-none, tested-all, tested-fits, tested-fails, tested-more}
+use Rattle.maplist.proofs.ListTests.{Tested, tested-none, tested-all, tested-fits, tested-fails, tested-more}
 use borrow.Author.Needs.{needs}
 use Rattle.congruence.proofs.checks.all_maps.Statement.{statement}
 use Rattle.congruence.proofs.checks.all_maps.Tie as tie

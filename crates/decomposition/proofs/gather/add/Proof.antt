@@ -6,7 +6,7 @@ use Rattle.equivalence.proofs.Tests.{not-T-of}
 use Rattle.equivalence.specs.Order.{Pair, firstHeld}
 use Rattle.algebra.proofs.Accepted.{accepted-wellFormed}
 use Rattle.decomposition.proofs.Gathering.{first-below, added-written, step-stop, step-more}
-use Rattle.listing.proofs.Listings.{begins-written, begins-canonical}
+use Rattle.maplist.proofs.MapLists.{begins-written, begins-canonical}
 use Rattle.decomposition.proofs.gather.add.Statement.{statement}
 use Rattle.decomposition.proofs.gather.add.Tie as tie
 

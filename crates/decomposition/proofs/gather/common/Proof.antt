@@ -5,7 +5,7 @@ use borrow.Author.Needs.{needs}
 use Rattle.equivalence.proofs.Tests.{not-T-of}
 use Rattle.equivalence.specs.Order.{Pair, firstHeld}
 use Rattle.decomposition.proofs.Gathering.{first-below}
-use Rattle.decomposition.specs.Gathering.{pairFound}
+use Rattle.decomposition.specs.InnerGathering.{pairFound}
 use Rattle.decomposition.proofs.gather.common.Statement.{statement}
 use Rattle.decomposition.proofs.gather.common.Tie as tie
 

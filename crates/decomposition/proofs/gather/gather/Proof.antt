@@ -11,11 +11,11 @@ use borrow.Author.Tests.{not-true, not-false}
 use borrow.Rule.Slice.PartMut.{same-len-mid}
 use Rattle.equivalence.proofs.Tests.{not-T-of, T-of}
 use Rattle.equivalence.specs.Equivalence.{byte, isIdentity}
-use Rattle.kernel.specs.Kernel.{Canonical}
+use Rattle.kernel.specs.InnerKernel.{Canonical}
 use Rattle.algebra.proofs.Accepted.{accepted-wellFormed}
 use Rattle.algebra.specs.Algebra.{algebraOf}
 use Rattle.decomposition.proofs.Gathering.{Collecting, collecting-start, collecting-canonical, collecting-few, collecting-long, collecting-fits, collecting-more, collecting-all, collecting-stop}
-use Rattle.listing.proofs.Listings.{part-rest}
+use Rattle.maplist.proofs.MapLists.{part-rest}
 use Rattle.decomposition.proofs.gather.gather.Statement.{statement}
 use Rattle.decomposition.proofs.gather.gather.Tie as tie
 

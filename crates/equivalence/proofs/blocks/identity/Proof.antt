@@ -4,7 +4,7 @@ use native.Mathlib.Omega.{arith}
 use lib.ListN.{length, length-set}
 use borrow.Author.Needs.{needs}
 use Rattle.equivalence.specs.Equivalence.{byte}
-use Rattle.kernel.specs.Kernel.{Filled}
+use Rattle.kernel.specs.InnerKernel.{Filled}
 use Rattle.kernel.proofs.Kernels.{filled-none, filled-more}
 use Rattle.equivalence.proofs.blocks.identity.Statement.{statement}
 use Rattle.equivalence.proofs.blocks.identity.Tie as tie

@@ -4,7 +4,7 @@ use native.Mathlib.Omega.{arith}
 use lib.ListN.{length, length-set}
 use borrow.Author.Needs.{needs}
 use Rattle.equivalence.specs.Equivalence.{byte}
-use Rattle.kernel.specs.Kernel.{Filled, relabel}
+use Rattle.kernel.specs.InnerKernel.{Filled, relabel}
 use Rattle.kernel.proofs.Kernels.{filled-none, filled-more}
 use Rattle.equivalence.proofs.blocks.relabel_all.Statement.{statement}
 use Rattle.equivalence.proofs.blocks.relabel_all.Tie as tie

@@ -4,7 +4,7 @@ use native.Mathlib.Omega.{arith}
 use lib.ListN.{length, length-set}
 use borrow.Author.Needs.{needs}
 use Rattle.equivalence.specs.Equivalence.{byte, meet}
-use Rattle.kernel.specs.Kernel.{Filled}
+use Rattle.kernel.specs.InnerKernel.{Filled}
 use Rattle.equivalence.proofs.Meeting.{Seen, seen-none, placed-below, seen-is, seen-more}
 use Rattle.kernel.proofs.Kernels.{filled-none, filled-more}
 use Rattle.equivalence.proofs.lattice.meet_by.Statement.{statement}

@@ -4,7 +4,7 @@ use native.Mathlib.Omega.{arith}
 use lib.ListN.{length}
 use borrow.Author.Needs.{needs}
 use Rattle.equivalence.specs.Equivalence.{byte}
-use Rattle.kernel.specs.Kernel.{Joined}
+use Rattle.kernel.specs.InnerKernel.{Joined}
 use Rattle.equivalence.proofs.Joining.{joined-none, joined-more}
 use Rattle.equivalence.proofs.lattice.unite_all.Statement.{statement}
 use Rattle.equivalence.proofs.lattice.unite_all.Tie as tie

@@ -3,7 +3,7 @@ use mathlib.Core.Path.{_≡_, refl}
 use native.Mathlib.Omega.{arith}
 use borrow.Author.Needs.{needs}
 use Rattle.equivalence.specs.Equivalence.{byte}
-use Rattle.kernel.specs.Kernel.{names}
+use Rattle.kernel.specs.InnerKernel.{names}
 use Rattle.equivalence.proofs.Bytes.{names-more, names-le}
 use Rattle.equivalence.proofs.map.block_count.Statement.{statement}
 use Rattle.equivalence.proofs.map.block_count.Tie as tie

@@ -1,6 +1,6 @@
 use Prim.Native.Nat.{_-_}
 use borrow.Author.Tests.{lt-ltb, le-ltb, eq-eqb, ne-eqb, not-true, not-false}
-use Rattle.kernel.specs.Search.{foremost}
+use Rattle.kernel.specs.InnerSearch.{foremost}
 use Rattle.equivalence.proofs.order.foremost_of.Statement.{statement}
 use Rattle.equivalence.proofs.order.foremost_of.Tie as tie
 

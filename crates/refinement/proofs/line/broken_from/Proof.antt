@@ -4,18 +4,18 @@ use mathlib.Core.Path.{_≡_}
 use native.Mathlib.Omega.{arith}
 use lib.ListN.{length, getD}
 use Rattle.equivalence.specs.Equivalence.{byte}
-use Rattle.refinement.specs.Splitting.{line}
-use Rattle.refinement.proofs.Splits.{passed-more}
+use Rattle.refinement.specs.InnerSplitting.{line}
+use Rattle.refinement.proofs.Splits.{range-more}
 use Rattle.refinement.proofs.line.broken_from.Statement.{statement}
 use Rattle.refinement.proofs.line.broken_from.Tie as tie
 
 abbrev Inv-loop : tie.InvT-loop
-Inv-loop m n cells base d list count start i₀ i = (start ≤ i) × (i ≤ count) × ((k : ℕ) → start ≤ k → k < i → byte m (line cells base d (byte list k)) ≡ byte m (line cells base d (byte m (byte list k))))
+Inv-loop m n cells base d list count start i₀ i = (start ≤ i) × (i ≤ count) × ((k : ℕ) → start ≤ k → k < i → byte m (lineAt cells base d (byte list k)) ≡ byte m (lineAt cells base d (byte m (byte list k))))
 
 abbrev μ-loop : tie.MeasureT-loop
 μ-loop m n cells base d list count start i₀ i = count - i
 
--- what holds in a turn: the element, its first member and their cells are in range
+-- what holds in a turn: the element, its smallest member and their cells are in range
 record Turn (n size base d x first room : ℕ) (image expected : ℕ) : Type 0 where
   small : n ≤ 64
   long : n ≤ room
@@ -103,7 +103,7 @@ loop-less : tie.Need-loop-less Inv-loop μ-loop
 loop-less c = omega arith
 
 loop-again : tie.Need-loop-again Inv-loop μ-loop
-loop-again c = let l = c .before .before .before .before .before .before .before .before .loop in (omega (arith, l .inv .0), omega arith, passed-more _ (l .inv .2) (c .if1 .left))
+loop-again c = let l = c .before .before .before .before .before .before .before .before .loop in (omega (arith, l .inv .0), omega arith, range-more _ (l .inv .2) (c .if1 .left))
 
 returns-2 : tie.Need-returns-2 Inv-loop μ-loop
 returns-2 c = let l = c .before .loop in record { after = omega (arith, l .inv .0, l .inv .1); most = omega arith; kept = λ k p q. l .inv .2 k p (omega arith); found = λ k. absurd (omega arith) }

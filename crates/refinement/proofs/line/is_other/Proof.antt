@@ -2,7 +2,7 @@
 use mathlib.Core.Path.{ap}
 use native.Mathlib.Omega.{arith}
 use borrow.Author.Tests.{eq-eqb, ne-eqb}
-use Rattle.kernel.specs.Kernel.{bit}
+use Rattle.kernel.specs.InnerKernel.{bit}
 use borrow.Author.Needs.{needs}
 use Rattle.refinement.proofs.line.is_other.Statement.{statement}
 use Rattle.refinement.proofs.line.is_other.Tie as tie

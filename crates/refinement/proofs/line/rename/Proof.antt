@@ -4,20 +4,20 @@ use mathlib.Core.Path.{_≡_, refl}
 use native.Mathlib.Omega.{arith}
 use lib.ListN.{length, length-set}
 use Rattle.equivalence.specs.Equivalence.{byte}
-use Rattle.refinement.specs.Splitting.{line, Alike, Seen}
+use Rattle.refinement.specs.InnerSplitting.{line, Alike, FirstsSeen}
 use Rattle.refinement.proofs.Splits.{each-written}
-use Rattle.refinement.proofs.Seeing.{seen-none}
+use Rattle.refinement.proofs.Seeing.{firstsSeen-none}
 use Rattle.refinement.proofs.line.rename.Statement.{statement}
 use Rattle.refinement.proofs.line.rename.Tie as tie
 
 abbrev Inv-loop : tie.InvT-loop
-Inv-loop m next₀ seen₀ n cells base d name x₀ next seen x = (x ≤ n) × (length next ≡ length next₀) × (length seen ≡ length seen₀) × Seen (line cells base d) (byte m) name x (byte seen) × ((z : ℕ) → z < x → Alike (line cells base d) (byte m) name z (byte next z))
+Inv-loop m next₀ seen₀ n cells base d name x₀ next seen x = (x ≤ n) × (length next ≡ length next₀) × (length seen ≡ length seen₀) × FirstsSeen (lineAt cells base d) (byte m) name x (byte seen) × ((z : ℕ) → z < x → Alike (lineAt cells base d) (byte m) name z (byte next z))
 
 abbrev μ-loop : tie.MeasureT-loop
 μ-loop m next₀ seen₀ n cells base d name x₀ next seen x = n - x
 
 loop-holds : tie.Need-loop-holds Inv-loop μ-loop
-loop-holds c = (omega arith, refl, refl, seen-none (c .before .before .before .before .pre .1 .1 .1 .1), λ z l. absurd (omega arith))
+loop-holds c = (omega arith, refl, refl, firstsSeen-none (c .before .before .before .before .pre .1 .1 .1 .1), λ z l. absurd (omega arith))
 
 renamed-requires : tie.Need-renamed-requires Inv-loop μ-loop
 renamed-requires c κs = let p = c .before .before .before .before .before .before .before .pre in let l = c .before .before .loop in (p .0, (p .1 .0, (omega (arith, l .inv .2, p .1 .1 .1 .0), (omega arith, l .inv .3))))

@@ -4,7 +4,7 @@ use native.Mathlib.Omega.{arith}
 use lib.ListN.{length}
 use lib.Seq.{getD-set-same, getD-set-other}
 use Rattle.equivalence.specs.Equivalence.{byte}
-use Rattle.refinement.specs.Splitting.{line}
+use Rattle.refinement.specs.InnerSplitting.{line}
 use Rattle.refinement.proofs.Seeing.{alike-elsewhere, seen-elsewhere, alike-seen, seen-seen, alike-first, seen-first}
 use borrow.Author.Needs.{needs}
 use Rattle.refinement.proofs.line.renamed.Statement.{statement}
@@ -18,10 +18,10 @@ record Image (n base d x size room cell image : ℕ) : Type 0 where
   below : cell < n
   block : image < n
 
-image-of : (s : tie.Start) → let a = s .args in let v = line (a .cells .now) (a .base) (a .d) (a .x) in Image (a .n) (a .base) (a .d) (a .x) (length (a .cells .now)) (length (a .m .now)) v (byte (a .m .now) v)
+image-of : (s : tie.Start) → let a = s .args in let v = lineAt (a .cells .now) (a .base) (a .d) (a .x) in Image (a .n) (a .base) (a .d) (a .x) (length (a .cells .now)) (length (a .m .now)) v (byte (a .m .now) v)
 image-of s =
     let a = s .args in
-    let v = line (a .cells .now) (a .base) (a .d) (a .x) in
+    let v = lineAt (a .cells .now) (a .base) (a .d) (a .x) in
     let p = s .pre .1 .0 (a .x) (s .pre .1 .1 .1 .0) in
     let l = s .pre .0 .below (a .base + a .x * a .d) p in
     record {
@@ -70,7 +70,7 @@ returns-2 c =
     let s = c .before .before .before .before .before .before .before in
     let p = s .pre in
     let a = s .args in
-    let l : byte (a .m .now) (line (a .cells .now) (a .base) (a .d) (a .x)) < 64 = omega (arith, image-of s) in
+    let l : byte (a .m .now) (lineAt (a .cells .now) (a .base) (a .d) (a .x)) < 64 = omega (arith, image-of s) in
     (alike-seen (p .0 .canonical) (p .1 .1 .1 .0) (c .before .before .before .before .before .if1 .left) (p .1 .1 .1 .1) l (c .before .if2 .taken), seen-seen (p .0 .canonical) (p .1 .1 .1 .0) (c .before .before .before .before .before .if1 .left) (p .1 .1 .1 .1) l (c .before .if2 .taken))
 
 cast-seen : tie.Need-cast-seen
@@ -90,7 +90,7 @@ returns-3 c =
     let s = c .before .before .before .before .before .before in
     let p = s .pre in
     let a = s .args in
-    let image = byte (a .m .now) (line (a .cells .now) (a .base) (a .d) (a .x)) in
+    let image = byte (a .m .now) (lineAt (a .cells .now) (a .base) (a .d) (a .x)) in
     let l : image < 64 = omega (arith, image-of s) in
     let none : 64 ≤ byte (a .seen .now) image = omega arith in
     let there : image < length (a .seen .now) = omega (arith, p .1 .1 .0) in (

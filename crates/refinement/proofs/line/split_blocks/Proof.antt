@@ -4,13 +4,13 @@ use mathlib.Core.Path.{_≡_, refl}
 use native.Mathlib.Omega.{arith}
 use lib.ListN.{length}
 use Rattle.equivalence.specs.Equivalence.{byte}
-use Rattle.refinement.specs.Splitting.{line, Keeps, Split}
+use Rattle.refinement.specs.InnerSplitting.{line, Keeps, Split}
 use Rattle.refinement.proofs.Splits.{split-none, split-more, split-said, split-along, kept-both, by-index, lent-again}
 use Rattle.refinement.proofs.line.split_blocks.Statement.{statement}
 use Rattle.refinement.proofs.line.split_blocks.Tie as tie
 
 abbrev Inv-loop : tie.InvT-loop
-Inv-loop m₀ n cells base d list count any₀ i₀ m any i = (i ≤ count) × (length m ≡ length m₀) × Split n (Keeps n (line cells base d)) (λ g. (k : ℕ) → k < i → g (line cells base d (byte list k)) ≡ g (line cells base d (g (byte list k)))) m₀ m
+Inv-loop m₀ n cells base d list count any₀ i₀ m any i = (i ≤ count) × (length m ≡ length m₀) × Split n (Keeps n (lineAt cells base d)) (λ g. (k : ℕ) → k < i → g (lineAt cells base d (byte list k)) ≡ g (lineAt cells base d (g (byte list k)))) m₀ m
 
 abbrev μ-loop : tie.MeasureT-loop
 μ-loop m₀ n cells base d list count any₀ i₀ m any i = count - i
@@ -28,7 +28,7 @@ returns : tie.Need-returns Inv-loop μ-loop
 returns c =
     let l = c .before .before .before .before .loop in
     let a = c .before .before .before .before .before .before .before .before .args in
-    let t = line (a .cells .now) (a .base) (a .d) in
+    let t = lineAt (a .cells .now) (a .base) (a .d) in
     let b = c .before .broken-from .ensures in
     split-said (λ g good. good)
     (λ h. by-index (a .list .now) (a .count) (λ (x : ℕ). byte (l .m) (t x) ≡ byte (l .m) (t (byte (l .m) x))) (λ k lk. kept-both h (b .kept) k (omega (arith, c .if1 .taken))))
@@ -68,7 +68,7 @@ returns-2 : tie.Need-returns-2 Inv-loop μ-loop
 returns-2 c =
     let l = c .before .loop in
     let a = c .before .before .before .before .before .args in
-    let t = line (a .cells .now) (a .base) (a .d) in
+    let t = lineAt (a .cells .now) (a .base) (a .d) in
     split-said (λ g good. good) (λ h. by-index (a .list .now) (a .count) (λ (x : ℕ). byte (l .m) (t x) ≡ byte (l .m) (t (byte (l .m) x))) (λ k lk. h k (omega arith))) (l .inv .2)
 
 pub split-blocks-spec : {M : Type 1} → statement M

@@ -1,4 +1,4 @@
--- `split_line` meets its contract: where no block was split, none of the list became a first member.
+-- `split_line` meets its contract: where no block was split, none of the list became a smallest member.
 use native.Mathlib.Omega.{arith}
 use Rattle.refinement.proofs.Sifting.{sifted-none}
 use borrow.Author.Needs.{needs}

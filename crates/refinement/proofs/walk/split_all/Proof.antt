@@ -3,13 +3,13 @@ use Prim.Native.Nat.{ℕ, _+_, _-_, _^_, _≤_}
 use mathlib.Core.Path.{_≡_, refl, sym}
 use native.Mathlib.Omega.{arith}
 use lib.ListN.{length, getD}
-use Rattle.kernel.specs.Kernel.{Listed}
+use Rattle.kernel.specs.InnerKernel.{Listed}
 use Rattle.equivalence.specs.Equivalence.{byte}
 use Rattle.algebra.specs.Algebra.{Algebra, algebraOf}
-use Rattle.translation.specs.Translations.{tableStart}
+use Rattle.translation.specs.InnerTranslations.{tableStart}
 use Rattle.algebra.proofs.Accepted.{WellFormed, accepted-wellFormed}
 use Rattle.algebra.proofs.Tables.{start-first, start-next}
-use Rattle.refinement.specs.Splitting.{Keeps, KeepsOn, Any, Chosen, Table, Lists, Split}
+use Rattle.refinement.specs.InnerSplitting.{Keeps, KeepsOn, Any, Chosen, Table, Lists, Split}
 use Rattle.refinement.proofs.Splits.{split-none, split-next, split-said}
 use Rattle.refinement.proofs.Tables.{table-from}
 use Rattle.refinement.proofs.Compatibility.{Tables, tables-compatible, compatible-tables, represented-again, table-room, accepted-lent}

@@ -1,4 +1,4 @@
--- `split_chosen` meets its contract: an element that is no first member is not asked for.
+-- `split_chosen` meets its contract: an element that is no smallest member is not asked for.
 use Prim.Native.Nat.{_+_, _*_, _<_}
 use native.Mathlib.Omega.{arith}
 use lib.ListN.{length}

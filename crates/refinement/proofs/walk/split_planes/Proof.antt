@@ -4,21 +4,21 @@ use mathlib.Core.Bool.{true}
 use mathlib.Core.Path.{_≡_, refl}
 use native.Mathlib.Omega.{arith}
 use lib.ListN.{length}
-use Rattle.kernel.specs.Kernel.{Listed}
+use Rattle.kernel.specs.InnerKernel.{Listed}
 use Rattle.equivalence.specs.Equivalence.{byte}
-use Rattle.refinement.specs.Splitting.{Keeps, KeepsOn, Any, Chosen, Lines, Planes, Lists, Split}
+use Rattle.refinement.specs.InnerSplitting.{Keeps, KeepsOn, Any, Chosen, Lines, Planes, Lists, Split}
 use Rattle.refinement.proofs.Splits.{split-none, split-next, split-said, by-index, lent-again}
 use Rattle.refinement.proofs.walk.split_planes.Statement.{statement}
 use Rattle.refinement.proofs.walk.split_planes.Tie as tie
 
 abbrev Inv-loop : tie.InvT-loop
-Inv-loop m₀ n cells base row step d firsts inner live used others₀ left found₀ i₀ m others found i =
+Inv-loop m₀ n cells base row step d named inner live used others₀ left found₀ i₀ m others found i =
     (i ≤ used) × (length m ≡ length m₀) × (length others ≡ length others₀) × Lists n live used others found (byte m)
-    × Split n (Planes (Any n firsts) (Any n inner) (Keeps n) cells base row step d)
-    (λ g. (k : ℕ) → k < i → (firsts ≡ true → g (byte live k) ≡ byte live k) → Lines (Chosen live used inner) (KeepsOn (Listed live used)) cells (base + byte live k * row) step d g) m₀ m
+    × Split n (Planes (Any n named) (Any n inner) (Keeps n) cells base row step d)
+    (λ g. (k : ℕ) → k < i → (named ≡ true → g (byte live k) ≡ byte live k) → Lines (Chosen live used inner) (KeepsOn (Listed live used)) cells (base + byte live k * row) step d g) m₀ m
 
 abbrev μ-loop : tie.MeasureT-loop
-μ-loop m₀ n cells base row step d firsts inner live used others₀ left found₀ i₀ m others found i = used - i
+μ-loop m₀ n cells base row step d named inner live used others₀ left found₀ i₀ m others found i = used - i
 
 loop-holds : tie.Need-loop-holds Inv-loop μ-loop
 loop-holds c = let p = c .before .before .before .before .pre in (omega arith, refl, refl, p .1 .1, split-none (p .0 .canonical) (λ k l. absurd (omega arith)))
@@ -47,7 +47,7 @@ loop-again c =
     let a = s .args in
     let l = c .before .before .before .before .before .before .before .before .before .loop in
     let k = c .before .before .before .before .split-plane .ensures in
-    let Kept : ℕ → (ℕ → ℕ) → Type 0 = λ j g. (a .firsts ≡ true → g (byte (a .live .now) j) ≡ byte (a .live .now) j) → Lines (Chosen (a .live .now) (a .used) (a .inner)) (KeepsOn (Listed (a .live .now) (a .used))) (a .cells .now) (a .base + byte (a .live .now) j * a .row) (a .step) (a .d) g in
+    let Kept : ℕ → (ℕ → ℕ) → Type 0 = λ j g. (a .named ≡ true → g (byte (a .live .now) j) ≡ byte (a .live .now) j) → Lines (Chosen (a .live .now) (a .used) (a .inner)) (KeepsOn (Listed (a .live .now) (a .used))) (a .cells .now) (a .base + byte (a .live .now) j * a .row) (a .step) (a .d) g in
     (omega arith, omega (arith, l .inv .1), omega (arith, l .inv .2), k .1, split-next {Q = Kept} (λ g good. good _ (s .pre .1 .1 .live-elements .below (l .i) (c .before .before .before .before .before .before .before .before .loop-test .taken))) (l .inv .4) (k .0))
 
 same-length : tie.Need-same-length Inv-loop μ-loop
@@ -60,7 +60,7 @@ returns : tie.Need-returns Inv-loop μ-loop
 returns c =
     let a = c .before .before .before .before .before .before .args in
     let l = c .before .loop in
-    let Kept : ℕ → Type 0 = λ r. (a .firsts ≡ true → byte (l .m) r ≡ r) → Lines (Chosen (a .live .now) (a .used) (a .inner)) (KeepsOn (Listed (a .live .now) (a .used))) (a .cells .now) (a .base + r * a .row) (a .step) (a .d) (byte (l .m)) in
+    let Kept : ℕ → Type 0 = λ r. (a .named ≡ true → byte (l .m) r ≡ r) → Lines (Chosen (a .live .now) (a .used) (a .inner)) (KeepsOn (Listed (a .live .now) (a .used))) (a .cells .now) (a .base + r * a .row) (a .step) (a .d) (byte (l .m)) in
     (split-said (λ g good. good) (λ h r k. by-index (a .live .now) (a .used) Kept (λ j lj. h j (omega arith)) r (k .0) (k .1)) (l .inv .4), l .inv .3)
 
 pub split-planes-spec : {M : Type 1} → statement M

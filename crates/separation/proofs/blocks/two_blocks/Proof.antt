@@ -10,11 +10,11 @@ shared-slice-read-r c = search needs
 first-other-requires : tie.Need-first-other-requires
 first-other-requires c κs = search needs
 
-cast-paint : tie.Need-cast-paint
-cast-paint c = search needs
+cast-name-two-blocks : tie.Need-cast-name-two-blocks
+cast-name-two-blocks c = search needs
 
-paint-requires : tie.Need-paint-requires
-paint-requires c κs = search needs
+name-two-blocks-requires : tie.Need-name-two-blocks-requires
+name-two-blocks-requires c κs = search needs
 
 same-length : tie.Need-same-length
 same-length c = search needs
@@ -22,7 +22,7 @@ same-length c = search needs
 returns : tie.Need-returns
 returns c =
     let s = c .before .before .before .before .before .before .before .before in
-    let f = c .before .before .paint .ensures in
+    let f = c .before .before .name_two_blocks .ensures in
     let o = c .before .before .before .before .first-other .ensures in
     let pre = s .pre in (
       painted-two (s .args .n) (s .args .v) _ _ _ (search needs) (omega arith) o (f .first),
@@ -35,7 +35,7 @@ two-blocks-spec =
     (tie.spec
     shared-slice-read-r
     first-other-requires
-    cast-paint
-    paint-requires
+    cast-name-two-blocks
+    name-two-blocks-requires
     same-length
     returns)

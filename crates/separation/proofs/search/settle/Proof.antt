@@ -16,7 +16,7 @@ returns : tie.Need-returns
 returns c =
     let s = c .before .before .before .before .before .before .before in
     let t = s .pre .1 .1 .1 in
-    record { settled = settled-skip _ _ _ _ _ _ (t .settled) (s .pre .1 .0) (s .pre .1 .1 .0) (λ p. absurd (omega (arith, p .1, c .if1 .taken))); heeded = t .heeded; listed = t .listed }
+    record { settled = settled-skip _ _ _ _ _ _ (t .settled) (s .pre .1 .0) (s .pre .1 .1 .0) (λ p. absurd (omega (arith, p .1, c .if1 .taken))); refusals = t .refusals; listed = t .listed }
 
 try-pair-requires : tie.Need-try-pair-requires
 try-pair-requires c κs = search needs

@@ -6,7 +6,7 @@ use lib.ListN.{length}
 use Rattle.algebra.proofs.Accepted.{accepted-wellFormed}
 use Rattle.equivalence.specs.Equivalence.{byte}
 use Rattle.algebra.specs.Algebra.{algebraOf}
-use Rattle.separation.specs.Search.{Standing}
+use Rattle.separation.specs.InnerSearch.{SearchState}
 use Rattle.separation.proofs.Settling.{settled-row, settled-skip-row, rooms-kept}
 use borrow.Author.Needs.{needs}
 use Rattle.separation.proofs.search.settle_row.Statement.{statement}
@@ -15,7 +15,7 @@ use Rattle.separation.proofs.search.settle_row.Tie as tie
 abbrev Inv-loop : tie.InvT-loop
 Inv-loop m₀ names₀ listed n arities cells refused₀ v w x count₀ y₀ m names refused count y =
     (x < y) × (y ≤ n) × (length m ≡ length m₀) × (length names ≡ length names₀) × (length refused ≡ length refused₀)
-    × Standing (algebraOf n arities cells) v w x y refused names count (byte m)
+    × SearchState (algebraOf n arities cells) v w x y refused names count (byte m)
 
 abbrev μ-loop : tie.MeasureT-loop
 μ-loop m₀ names₀ listed n arities cells refused₀ v w x count₀ y₀ m names refused count y = n - y
@@ -30,7 +30,7 @@ returns : tie.Need-returns Inv-loop μ-loop
 returns c =
     let s = c .before .before .before .before .before .before .before in
     let t = s .pre .1 .1 in
-    record { settled = settled-skip-row _ _ _ _ _ (s .pre .1 .0) (c .if1 .taken) (t .settled); heeded = t .heeded; listed = t .listed }
+    record { settled = settled-skip-row _ _ _ _ _ (s .pre .1 .0) (c .if1 .taken) (t .settled); refusals = t .refusals; listed = t .listed }
 
 add-y : tie.Need-add-y Inv-loop μ-loop
 add-y c = search needs
@@ -66,7 +66,7 @@ returns-2 c =
     let l = c .before .loop in
     let t = l .inv .5 in
     let e : l .y ≡ c .before .before .before .before .before .before .before .before .before .args .n = omega arith in
-    record { settled = settled-row _ _ _ _ _ (rw e at (t .settled)); heeded = t .heeded; listed = t .listed }
+    record { settled = settled-row _ _ _ _ _ (rw e at (t .settled)); refusals = t .refusals; listed = t .listed }
 
 pub settle-row-spec : {M : Type 1} → statement M
 settle-row-spec =

@@ -5,7 +5,7 @@ use native.Mathlib.Omega.{arith}
 use lib.ListN.{length}
 use Rattle.equivalence.specs.Equivalence.{byte}
 use Rattle.algebra.specs.Algebra.{algebraOf}
-use Rattle.separation.specs.Search.{Standing}
+use Rattle.separation.specs.InnerSearch.{SearchState}
 use Rattle.separation.proofs.Settling.{rooms-kept}
 use borrow.Author.Needs.{needs}
 use Rattle.separation.proofs.search.settle_rows.Statement.{statement}
@@ -14,7 +14,7 @@ use Rattle.separation.proofs.search.settle_rows.Tie as tie
 abbrev Inv-loop : tie.InvT-loop
 Inv-loop m₀ names₀ listed n arities cells refused₀ v w count₀ x₀ m names refused count x =
     (x ≤ v + 1) × (length m ≡ length m₀) × (length names ≡ length names₀) × (length refused ≡ length refused₀)
-    × Standing (algebraOf n arities cells) v w x (x + 1) refused names count (byte m)
+    × SearchState (algebraOf n arities cells) v w x (x + 1) refused names count (byte m)
 
 abbrev μ-loop : tie.MeasureT-loop
 μ-loop m₀ names₀ listed n arities cells refused₀ v w count₀ x₀ m names refused count x = v + 1 - x

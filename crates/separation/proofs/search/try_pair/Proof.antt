@@ -1,8 +1,8 @@
 -- `try_pair`: the pair is marked, or taken, and then the names are listed anew.
 use native.Mathlib.Omega.{arith}
 use Rattle.algebra.proofs.Accepted.{accepted-wellFormed}
-use Rattle.separation.specs.Search.{Refused}
-use Rattle.separation.proofs.Settling.{settled-take, settled-pass, heeded-up, heeded-mark, copied-whole}
+use Rattle.separation.specs.InnerSearch.{Refused}
+use Rattle.separation.proofs.Settling.{settled-take, settled-pass, refusals-up, refusals-mark, copied-whole}
 use borrow.Author.Needs.{needs}
 use borrow.Author.Tests.{not-true, not-false}
 use Rattle.separation.proofs.search.try_pair.Statement.{statement}
@@ -26,7 +26,7 @@ extend-apart-requires c κs =
     let k = c .before .before .before .before .copy in
     let same = copied-whole 64 (s .args .m .now) (k .last .1 .0) (r .map-room) (omega (arith, k .kept)) (k .ensures) in
     rw same
-    (r .accepted, (omega (arith, w .most, r .map-room), (t .settled .canonical, (t .settled .compatible, (omega (arith, r .names-room), (t .listed, (omega (arith, s .pre .1 .0, s .pre .1 .1 .0), (s .pre .1 .1 .0, (r .left, (r .right, t .heeded))))))))))
+    (r .accepted, (omega (arith, w .most, r .map-room), (t .settled .canonical, (t .settled .compatible, (omega (arith, r .names-room), (t .listed, (omega (arith, s .pre .1 .0, s .pre .1 .1 .0), (s .pre .1 .1 .0, (r .left, (r .right, t .refusals))))))))))
 
 mul-refused : tie.Need-mul-refused
 mul-refused c = let s = c .before .before .before .before .before .before .before .before .before .before .before .before .before .before .before in let w = accepted-wellFormed _ (s .pre .0 .accepted) in omega (arith, w .most, s .pre .1 .0, s .pre .1 .1 .0)
@@ -61,7 +61,7 @@ returns c =
     let refused : Refused _ (s .args .v) (s .args .w) _ (s .args .x) (s .args .y) = λ g good up h. e .joined (not-true _ (c .if1 .taken)) g good (up, h) in
     record {
       settled = settled-pass _ _ _ _ _ _ (t .settled) (s .pre .1 .0) (s .pre .1 .1 .0) refused;
-      heeded = heeded-mark _ _ _ _ (s .args .refused .now) _ _ (w .most) (s .pre .1 .1 .0) refused (t .heeded);
+      refusals = refusals-mark _ _ _ _ (s .args .refused .now) _ _ (w .most) (s .pre .1 .1 .0) refused (t .refusals);
       listed = t .listed;
     }
 
@@ -101,7 +101,7 @@ returns-2 c =
     let taken = copied-whole 64 (x .last .0) (back .last .1 .0) (omega (arith, k .kept, x .kept)) (omega (arith, r .map-room, back .kept)) (back .ensures) in
     record {
       settled = rw taken (settled-take _ _ _ _ _ _ (t .settled) (s .pre .1 .0) (s .pre .1 .1 .0) _ d (e .apart yes));
-      heeded = rw taken (heeded-up _ _ _ _ _ (s .args .refused .now) (d .good .0) (t .heeded));
+      refusals = rw taken (refusals-up _ _ _ _ _ (s .args .refused .now) (d .good .0) (t .refusals));
       listed = c .before .before .names .ensures;
     }
 

@@ -3,7 +3,7 @@ use Prim.Native.Nat.{_-_}
 use mathlib.Core.Path.{_≡_}
 use native.Mathlib.Omega.{arith}
 use Rattle.sweep.proofs.Sweeps.{line-cell, passed-none, passed-more}
-use Rattle.sweep.specs.Contexts.{Passed}
+use Rattle.sweep.specs.InnerContexts.{Passed}
 use Rattle.equivalence.specs.Equivalence.{byte}
 use Rattle.sweep.proofs.lines.apart_from.Statement.{statement}
 use Rattle.sweep.proofs.lines.apart_from.Tie as tie

@@ -4,14 +4,14 @@ use Prim.Native.Nat.{_-_, _≤_}
 use native.Mathlib.Omega.{arith}
 use Rattle.sweep.proofs.Queues.{Since, since-none, since-ready, since-more, grown-more}
 use Rattle.sweep.proofs.Sweeps.{line-cell, line-more, line-passed, line-whole, halted-unless, joined-kept, bounded-grown}
-use Rattle.sweep.specs.Contexts.{OnLine, Unless, Heeds}
+use Rattle.sweep.specs.InnerContexts.{JoinsLine, Unless, RefusedRightly}
 use Rattle.equivalence.specs.Equivalence.{byte, inside}
 use Rattle.sweep.proofs.lines.line.Statement.{statement}
 use Rattle.sweep.proofs.lines.line.Tie as tie
 
 abbrev Inv-loop : tie.InvT-loop
 Inv-loop m₀ n queue₀ start limit cells live count stride p q refused v w len₀ i₀ m queue len i =
-    (i ≤ count) × Since n (λ g. OnLine cells live count stride p q g × Heeds n refused v w g) m₀ queue₀ start m queue len × Unless v w (OnLine cells live i stride p q) (byte m)
+    (i ≤ count) × Since n (λ g. JoinsLine cells live count stride p q g × RefusedRightly n refused v w g) m₀ queue₀ start m queue len × Unless v w (JoinsLine cells live i stride p q) (byte m)
 
 abbrev μ-loop : tie.MeasureT-loop
 μ-loop m₀ n queue₀ start limit cells live count stride p q refused v w len₀ i₀ m queue len i = count - i
@@ -109,7 +109,7 @@ returns-2 c =
     let d = c .before .before .before .before .before .before .before .step in
     let e = grown-more (λ g good h. (good .0 j k, good .1)) (l .inv .1 .grown) (d .ensures .0) in (
       e,
-      halted-unless (OnLine (s .args .cells .now) (s .args .live .now) (s .args .count) (s .args .stride) (s .args .p) (s .args .q)) (d .ensures .0 .queued .canonical) (bounded-grown (s .pre .1 .0) e)
+      halted-unless (JoinsLine (s .args .cells .now) (s .args .live .now) (s .args .count) (s .args .stride) (s .args .p) (s .args .q)) (d .ensures .0 .queued .canonical) (bounded-grown (s .pre .1 .0) e)
           (line-whole (s .pre .1 .1 .0) (s .pre .1 .1 .1 .0) (s .pre .1 .1 .1 .1)) (c .before .halted .ensures (c .if2 .taken)),
     )
 

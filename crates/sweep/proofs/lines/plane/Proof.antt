@@ -3,14 +3,14 @@ use Prim.Native.Nat.{ℕ, _+_, _*_, _-_, _≤_, _<_}
 use native.Mathlib.Omega.{arith}
 use Rattle.sweep.proofs.Queues.{Since, since-none, since-ready, since-more}
 use Rattle.sweep.proofs.Sweeps.{plane-line, plane-more, plane-whole, halted-unless, joined-kept, bounded-since}
-use Rattle.sweep.specs.Contexts.{OnLine, OnPlane, Unless, Heeds}
+use Rattle.sweep.specs.InnerContexts.{JoinsLine, JoinsPlane, Unless, RefusedRightly}
 use Rattle.equivalence.proofs.Tests.{left, right}
 use Rattle.equivalence.specs.Equivalence.{byte, inside}
 use Rattle.sweep.proofs.lines.plane.Statement.{statement}
 use Rattle.sweep.proofs.lines.plane.Tie as tie
 
 abbrev Inv-loop : tie.InvT-loop
-Inv-loop m₀ n queue₀ start limit cells live count row step p q refused v w len₀ i₀ m queue len i = (i ≤ count) × Since n (λ g. OnPlane cells live count row step p q g × Heeds n refused v w g) m₀ queue₀ start m queue len × Unless v w (λ g. (k : ℕ) → k < i → OnLine cells live count step (p + byte live k * row) (q + byte live k * row) g) (byte m)
+Inv-loop m₀ n queue₀ start limit cells live count row step p q refused v w len₀ i₀ m queue len i = (i ≤ count) × Since n (λ g. JoinsPlane cells live count row step p q g × RefusedRightly n refused v w g) m₀ queue₀ start m queue len × Unless v w (λ g. (k : ℕ) → k < i → JoinsLine cells live count step (p + byte live k * row) (q + byte live k * row) g) (byte m)
 
 abbrev μ-loop : tie.MeasureT-loop
 μ-loop m₀ n queue₀ start limit cells live count row step p q refused v w len₀ i₀ m queue len i = count - i
@@ -30,7 +30,7 @@ same-length-2 c = omega arith
 returns : tie.Need-returns Inv-loop μ-loop
 returns c = (
   c .before .before .before .before .loop .inv .1 .grown,
-  halted-unless (OnPlane (c .before .before .before .before .before .before .before .before .before .before .args .cells .now) (c .before .before .before .before .before .before .before .before .before .before .args .live .now) (c .before .before .before .before .before .before .before .before .before .before .args .count) (c .before .before .before .before .before .before .before .before .before .before .args .row) (c .before .before .before .before .before .before .before .before .before .before .args .step) (c .before .before .before .before .before .before .before .before .before .before .args .p) (c .before .before .before .before .before .before .before .before .before .before .args .q)) (c .before .before .before .before .loop .inv .1 .grown .queued .canonical)
+  halted-unless (JoinsPlane (c .before .before .before .before .before .before .before .before .before .before .args .cells .now) (c .before .before .before .before .before .before .before .before .before .before .args .live .now) (c .before .before .before .before .before .before .before .before .before .before .args .count) (c .before .before .before .before .before .before .before .before .before .before .args .row) (c .before .before .before .before .before .before .before .before .before .before .args .step) (c .before .before .before .before .before .before .before .before .before .before .args .p) (c .before .before .before .before .before .before .before .before .before .before .args .q)) (c .before .before .before .before .loop .inv .1 .grown .queued .canonical)
       (bounded-since (c .before .before .before .before .before .before .before .before .before .before .pre .1 .0) (c .before .before .before .before .loop .inv .1)) (plane-whole (c .before .before .before .before .before .before .before .before .before .before .pre .1 .1 .0) (c .before .before .before .before .before .before .before .before .before .before .pre .1 .1 .1 .0) (c .before .before .before .before .before .before .before .before .before .before .pre .1 .1 .1 .1)) (c .before .halted .ensures (c .if1 .taken)),
 )
 

@@ -2,7 +2,7 @@
 use native.Mathlib.Omega.{arith}
 use Rattle.sweep.proofs.Queues.{grown-more, grown-first, ready-grown}
 use Rattle.sweep.proofs.Sweeps.{line-kept, line-whole, halted-unless, joined-kept, bounded-grown, binary-fits, binary-place}
-use Rattle.sweep.specs.Contexts.{OnTable}
+use Rattle.sweep.specs.InnerContexts.{JoinsTable}
 use Rattle.equivalence.proofs.Tests.{left, right}
 use Rattle.sweep.proofs.tables.binary.Statement.{statement}
 use Rattle.sweep.proofs.tables.binary.Tie as tie
@@ -39,7 +39,7 @@ returns c =
     let d = c .before .before .before .before .before .before .before .line .ensures .0 in
     let fits = binary-fits (p .1 .1 .1) in (
       grown-first (λ g good h. (good .0 .0, good .1)) d,
-      halted-unless (OnTable (s .args .n) (s .args .cells .now) (s .args .live .now) (s .args .count) (s .args .o) 2 (s .args .x) (s .args .y)) (d .queued .canonical) (bounded-grown (p .1 .0) d)
+      halted-unless (JoinsTable (s .args .n) (s .args .cells .now) (s .args .live .now) (s .args .count) (s .args .o) 2 (s .args .x) (s .args .y)) (d .queued .canonical) (bounded-grown (p .1 .0) d)
           (λ e. (line-whole x (fits .0 .0) (fits .0 .1) e, line-whole x (fits .1 .0) (fits .1 .1) e)) (c .before .halted .ensures (c .if1 .taken)),
     )
 

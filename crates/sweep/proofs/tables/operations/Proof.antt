@@ -3,21 +3,21 @@ use Prim.Native.Nat.{_-_, _≤_}
 use mathlib.Core.Path.{_≡_, sym}
 use native.Mathlib.Omega.{arith}
 use lib.ListN.{length, take}
-use Rattle.kernel.specs.Kernel.{Listed}
+use Rattle.kernel.specs.InnerKernel.{Listed}
 use Rattle.algebra.proofs.Accepted.{accepted-wellFormed}
 use Rattle.algebra.proofs.Tables.{start-next, start-first, start-room}
 use Rattle.algebra.specs.Algebra.{algebraOf, cellCount, operations}
 use Rattle.sweep.proofs.Images.{operation-fits, operation-table, operations-more, operations-whole}
 use Rattle.sweep.proofs.Queues.{Since, since-none, since-ready, since-more}
 use Rattle.sweep.proofs.Sweeps.{halted-unless, joined-kept, bounded-since}
-use Rattle.sweep.specs.Contexts.{OperationsIn, Unless, Heeds}
+use Rattle.sweep.specs.InnerContexts.{OperationsIn, Unless, RefusedRightly}
 use Rattle.equivalence.proofs.Tests.{left, right}
 use Rattle.equivalence.specs.Equivalence.{byte}
 use Rattle.sweep.proofs.tables.operations.Statement.{statement}
 use Rattle.sweep.proofs.tables.operations.Tie as tie
 
 abbrev Inv-loop : tie.InvT-loop
-Inv-loop m₀ n queue₀ start limit arities cells live count x y refused v w len₀ o₀ j₀ m queue len o j = (j ≤ length arities) × (o ≡ cellCount n (take j arities)) × Since n (λ g. OperationsIn (algebraOf n arities cells) (length arities) (Listed live count) x y g × Heeds n refused v w g) m₀ queue₀ start m queue len × Unless v w (OperationsIn (algebraOf n arities cells) j (Listed live count) x y) (byte m)
+Inv-loop m₀ n queue₀ start limit arities cells live count x y refused v w len₀ o₀ j₀ m queue len o j = (j ≤ length arities) × (o ≡ cellCount n (take j arities)) × Since n (λ g. OperationsIn (algebraOf n arities cells) (length arities) (Listed live count) x y g × RefusedRightly n refused v w g) m₀ queue₀ start m queue len × Unless v w (OperationsIn (algebraOf n arities cells) j (Listed live count) x y) (byte m)
 
 abbrev μ-loop : tie.MeasureT-loop
 μ-loop m₀ n queue₀ start limit arities cells live count x y refused v w len₀ o₀ j₀ m queue len o j = length arities - j

@@ -1,3 +1,0 @@
-pub mod Quotient
-pub mod Numbers
-pub mod Tables

@@ -1,0 +1,3 @@
+pub mod MapLists
+pub mod ListTests
+pub mod Suffixes

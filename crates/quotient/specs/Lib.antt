@@ -1,0 +1,3 @@
+pub mod Quotient
+pub mod InnerNumbers
+pub mod InnerTables

@@ -1,0 +1,148 @@
+// The tables over blocks. An operation's table begins at `from` in the cells, its quotient's at `to` in the lent bytes. `numbers` has each
+// element's block number and `names` each block's smallest member, at which the cells are read.
+ghost use mathlib.Core.Path.{_≡_};
+ghost use Prim.Native.Nat.{_+_, _*_, _<_, _≤_};
+ghost use lib.ListN.{length};
+ghost use Rattle.equivalence.specs.Equivalence.{byte};
+ghost use Rattle.quotient.specs.InnerTables.{concatUpTo, cellDivided, rowDivided, divided, dividedAt, sourceOf, SourceRight, Fits, RowFits, AllFit};
+ghost use Rattle.equivalence.specs.Lent.{laid};
+use crate::numbers::block_of;
+use equivalence::Element;
+
+// Arity 0: the block of the constant.
+fn divide_cell(cells: &[u8], from: usize, numbers: &[u8], out: &mut [u8], to: usize)
+    requires { do ⌜ from < (← ⟦cells.len()⟧) ⌝ }
+    requires { ⌜ byte (now cells) from < length (now numbers) ⌝ }
+    requires { do ⌜ to < (← ⟦out.len()⟧) ⌝ }
+    ensures { λ _. ⌜ now (out .exit) ≡ laid (now (out .entry)) to (cellDivided (now (cells .entry)) (now (numbers .entry)) from) ⌝ }
+{
+    let e = Element(cells[from]);
+    let block = block_of(numbers, e);
+    out[to] = block.0;
+}
+
+// Arity 1: a cell for each block.
+fn divide_row(
+    b: usize,
+    cells: &[u8],
+    from: usize,
+    numbers: &[u8],
+    names: &[u8],
+    out: &mut [u8],
+    to: usize,
+)
+    requires { ⌜ RowFits b (now cells) (now numbers) (now names) from (now out) to ⌝ }
+    ensures { λ _. ⌜ now (out .exit) ≡ laid (now (out .entry)) to (rowDivided b (now (cells .entry)) (now (numbers .entry)) (now (names .entry)) from) ⌝ }
+{
+    let mut k = 0;
+    let mut at = to;
+    while k < b {
+        let first = names[k] as usize;
+        divide_cell(cells, from + first, numbers, out, at);
+        at += 1;
+        k += 1;
+    }
+}
+
+// Arity 2: a row for each block of the first argument.
+fn divide_plane(
+    n: usize,
+    b: usize,
+    cells: &[u8],
+    from: usize,
+    numbers: &[u8],
+    names: &[u8],
+    out: &mut [u8],
+    to: usize,
+)
+    requires { ⌜ SourceRight (sourceOf n b (now cells) (now numbers) (now names)) ⌝ }
+    requires { ⌜ Fits (sourceOf n b (now cells) (now numbers) (now names)) 2 from (now out) to ⌝ }
+    ensures { λ _. ⌜ now (out .exit) ≡ laid (now (out .entry)) to (divided (sourceOf n b (now (cells .entry)) (now (numbers .entry)) (now (names .entry))) 2 from) ⌝ }
+{
+    let mut k = 0;
+    let mut at = to;
+    while k < b {
+        let first = names[k] as usize;
+        divide_row(b, cells, from + first * n, numbers, names, out, at);
+        at += b;
+        k += 1;
+    }
+}
+
+// Arity 3: a plane for each block of the first argument.
+fn divide_cube(
+    n: usize,
+    b: usize,
+    cells: &[u8],
+    from: usize,
+    numbers: &[u8],
+    names: &[u8],
+    out: &mut [u8],
+    to: usize,
+)
+    requires { ⌜ SourceRight (sourceOf n b (now cells) (now numbers) (now names)) ⌝ }
+    requires { ⌜ Fits (sourceOf n b (now cells) (now numbers) (now names)) 3 from (now out) to ⌝ }
+    ensures { λ _. ⌜ now (out .exit) ≡ laid (now (out .entry)) to (divided (sourceOf n b (now (cells .entry)) (now (numbers .entry)) (now (names .entry))) 3 from) ⌝ }
+{
+    let plane = n * n;
+    let square = b * b;
+    let mut k = 0;
+    let mut at = to;
+    while k < b {
+        let first = names[k] as usize;
+        divide_plane(n, b, cells, from + first * plane, numbers, names, out, at);
+        at += square;
+        k += 1;
+    }
+}
+
+// The table of an operation of any arity.
+fn divide_table(
+    s: usize,
+    n: usize,
+    b: usize,
+    cells: &[u8],
+    from: usize,
+    numbers: &[u8],
+    names: &[u8],
+    out: &mut [u8],
+    to: usize,
+)
+    requires { ⌜ s ≤ 3 ⌝ }
+    requires { ⌜ SourceRight (sourceOf n b (now cells) (now numbers) (now names)) ⌝ }
+    requires { ⌜ Fits (sourceOf n b (now cells) (now numbers) (now names)) s from (now out) to ⌝ }
+    ensures { λ _. ⌜ now (out .exit) ≡ laid (now (out .entry)) to (divided (sourceOf n b (now (cells .entry)) (now (numbers .entry)) (now (names .entry))) s from) ⌝ }
+{
+    match s {
+        0 => divide_cell(cells, from, numbers, out, to),
+        1 => divide_row(b, cells, from, numbers, names, out, to),
+        2 => divide_plane(n, b, cells, from, numbers, names, out, to),
+        _ => divide_cube(n, b, cells, from, numbers, names, out, to),
+    }
+}
+
+// The tables of all operations, one after the other.
+pub fn divide_tables(
+    n: usize,
+    b: usize,
+    arities: &[u8],
+    cells: &[u8],
+    numbers: &[u8],
+    names: &[u8],
+    out: &mut [u8],
+)
+    requires { ⌜ SourceRight (sourceOf n b (now cells) (now numbers) (now names)) ⌝ }
+    requires { ⌜ AllFit (sourceOf n b (now cells) (now numbers) (now names)) (now arities) (now out) ⌝ }
+    ensures { λ _. ⌜ now (out .exit) ≡ laid (now (out .entry)) 0 (concatUpTo (dividedAt (sourceOf n b (now (cells .entry)) (now (numbers .entry)) (now (names .entry))) (now (arities .entry))) (length (now (arities .entry)))) ⌝ }
+{
+    let mut j = 0;
+    let mut from = 0;
+    let mut to = 0;
+    while j < arities.len() {
+        let s = arities[j] as usize;
+        divide_table(s, n, b, cells, from, numbers, names, out, to);
+        from += algebra::power(n, s);
+        to += algebra::power(b, s);
+        j += 1;
+    }
+}
