@@ -19,7 +19,7 @@ JoinsPairs ps g = (j : ℕ) → 2 * j + 1 < length ps → g (byte ps (2 * j)) �
 abbrev pub Extends : ℕ → (ℕ → ℕ) → ℕ → ℕ → (ℕ → ℕ) → Type 0
 Extends n f x y g = Within n f g × (g x ≡ g y)
 
--- every congruence above f joins v and w where it joins a marked pair
+-- every congruence above f joins v and w where it joins a refused pair
 abbrev pub RefusedRightlyAbove : Algebra → List ℕ → ℕ → ℕ → (ℕ → ℕ) → Type 0
 RefusedRightlyAbove a table v w f = (g : ℕ → ℕ) → Compatible a g → Within (a .size) f g → RefusedRightly (a .size) table v w g
 

@@ -91,7 +91,7 @@ fn extend_in(
 {
     equivalence::blocks::identity(live, n);
     let old = start::others(m, n, queue);
-    let len = sweep::queue::join(m, n, queue, old, x as u8, y as u8);
+    let len = sweep::queue::merge_queued(m, n, queue, old, x as u8, y as u8);
     let all = rounds::close(
         m,
         n,
@@ -156,7 +156,7 @@ fn try_in(
     requires { ⌜ NamesListed n (byte (now m)) (now live) count ⌝ }
     ensures { λ r. ⌜ Tried (algebraIn n (arities .entry) (cells .entry)) x y v w (byte (now (m .entry))) (byte (now (m .exit))) r ⌝ }
 {
-    let len = sweep::queue::join(m, n, queue, 0, x as u8, y as u8);
+    let len = sweep::queue::merge_queued(m, n, queue, 0, x as u8, y as u8);
     rounds::close(
         m,
         n,

@@ -18,7 +18,7 @@ pub fn seed(m: &mut [u8], n: usize, queue: &mut [u8], pairs: &[u8]) -> usize
     let mut len = 0;
     let mut j = 0;
     while j < count {
-        len = sweep::queue::join(m, n, queue, len, pairs[2 * j], pairs[2 * j + 1]);
+        len = sweep::queue::merge_queued(m, n, queue, len, pairs[2 * j], pairs[2 * j + 1]);
         j += 1;
     }
     len

@@ -15,7 +15,7 @@ use Rattle.algebra.proofs.Accepted.{WellFormed}
 use Rattle.algebra.proofs.Congruences.{cells-below}
 use Rattle.algebra.proofs.Tables.{start-room}
 use Rattle.translation.proofs.Places.{place-one, place-two, place-three}
-use Rattle.refinement.specs.InnerSplitting.{line, Keeps, KeepsOn, Any, Chosen, Table, MapLent, Represented}
+use Rattle.refinement.specs.InnerSplitting.{lineAt, Keeps, KeepsOn, Any, Chosen, Table, MapLent, Represented}
 use Rattle.refinement.proofs.Splits.{keeps-by-first}
 use Rattle.kernel.proofs.Names.{name-back}
 

@@ -31,7 +31,7 @@ pub record Settled (a : Algebra) (v w x y : ℕ) (f : ℕ → ℕ) : Type 0 wher
   pub refused : (p q : ℕ) → p < q → q < a .size → Before p q x y → ¬ (f p ≡ f q)
       → (g : ℕ → ℕ) → Compatible a g → KeepsBefore (a .size) f g p q → g p ≡ g q → g v ≡ g w
 
--- where the search stands: the pairs before (x, y) are settled, every congruence above f joins v and w where it joins a marked pair, and the names of f are listed
+-- where the search stands: the pairs before (x, y) are settled, every congruence above f joins v and w where it joins a refused pair, and the names of f are listed
 pub record SearchState (a : Algebra) (v w x y : ℕ) (table names : List ℕ) (count : ℕ) (f : ℕ → ℕ) : Type 0 where
   pub settled : Settled a v w x y f
   pub refusals : RefusedRightlyAbove a table v w f

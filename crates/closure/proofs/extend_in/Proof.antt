@@ -19,14 +19,14 @@ identity-requires c κs = (c .before .before .before .before .before .before .pr
 others-requires : tie.Need-others-requires
 others-requires c κs = (c .before .before .before .before .before .before .before .before .before .before .before .pre .1 .0, (c .before .before .before .before .before .before .before .before .before .before .before .pre .1 .1 .0, accepted-wellFormed (algebraOf (c .before .before .before .before .before .before .before .before .before .before .before .args .n) (c .before .before .before .before .before .before .before .before .before .before .before .args .arities .now) (c .before .before .before .before .before .before .before .before .before .before .before .args .cells .now)) (c .before .before .before .before .before .before .before .before .before .before .before .pre .0) .most))
 
-cast-join : tie.Need-cast-join
-cast-join c = omega (arith, c .before .before .before .before .before .before .before .before .before .before .before .before .before .before .before .before .pre .1 .1 .1 .1 .1 .0, accepted-wellFormed (algebraOf (c .before .before .before .before .before .before .before .before .before .before .before .before .before .before .before .before .args .n) (c .before .before .before .before .before .before .before .before .before .before .before .before .before .before .before .before .args .arities .now) (c .before .before .before .before .before .before .before .before .before .before .before .before .before .before .before .before .args .cells .now)) (c .before .before .before .before .before .before .before .before .before .before .before .before .before .before .before .before .pre .0) .most)
+cast-merge-queued : tie.Need-cast-merge-queued
+cast-merge-queued c = omega (arith, c .before .before .before .before .before .before .before .before .before .before .before .before .before .before .before .before .pre .1 .1 .1 .1 .1 .0, accepted-wellFormed (algebraOf (c .before .before .before .before .before .before .before .before .before .before .before .before .before .before .before .before .args .n) (c .before .before .before .before .before .before .before .before .before .before .before .before .before .before .before .before .args .arities .now) (c .before .before .before .before .before .before .before .before .before .before .before .before .before .before .before .before .args .cells .now)) (c .before .before .before .before .before .before .before .before .before .before .before .before .before .before .before .before .pre .0) .most)
 
-cast-join-2 : tie.Need-cast-join-2
-cast-join-2 c = omega (arith, c .before .before .before .before .before .before .before .before .before .before .before .before .before .before .before .before .pre .1 .1 .1 .1 .1 .1, accepted-wellFormed (algebraOf (c .before .before .before .before .before .before .before .before .before .before .before .before .before .before .before .before .args .n) (c .before .before .before .before .before .before .before .before .before .before .before .before .before .before .before .before .args .arities .now) (c .before .before .before .before .before .before .before .before .before .before .before .before .before .before .before .before .args .cells .now)) (c .before .before .before .before .before .before .before .before .before .before .before .before .before .before .before .before .pre .0) .most)
+cast-merge-queued-2 : tie.Need-cast-merge-queued-2
+cast-merge-queued-2 c = omega (arith, c .before .before .before .before .before .before .before .before .before .before .before .before .before .before .before .before .pre .1 .1 .1 .1 .1 .1, accepted-wellFormed (algebraOf (c .before .before .before .before .before .before .before .before .before .before .before .before .before .before .before .before .args .n) (c .before .before .before .before .before .before .before .before .before .before .before .before .before .before .before .before .args .arities .now) (c .before .before .before .before .before .before .before .before .before .before .before .before .before .before .before .before .args .cells .now)) (c .before .before .before .before .before .before .before .before .before .before .before .before .before .before .before .before .pre .0) .most)
 
-join-requires : tie.Need-join-requires
-join-requires c κs = (others-ready (c .before .before .before .before .before .before .before .before .before .before .before .before .before .before .before .before .pre .1 .0) (omega (arith, c .before .before .before .before .others .kept .1 .1 .0, c .before .before .before .before .before .before .before .before .before .before .before .before .before .before .before .before .pre .1 .1 .0)) (c .before .before .before .before .before .before .before .before .before .before .before .before .before .before .before .before .pre .1 .1 .1 .1 .0) (c .before .before .before .before .others .ensures), (c .before .before .before .before .before .before .before .before .before .before .before .before .before .before .before .before .pre .1 .1 .1 .1 .1 .0, c .before .before .before .before .before .before .before .before .before .before .before .before .before .before .before .before .pre .1 .1 .1 .1 .1 .1))
+merge-queued-requires : tie.Need-merge-queued-requires
+merge-queued-requires c κs = (others-ready (c .before .before .before .before .before .before .before .before .before .before .before .before .before .before .before .before .pre .1 .0) (omega (arith, c .before .before .before .before .others .kept .1 .1 .0, c .before .before .before .before .before .before .before .before .before .before .before .before .before .before .before .before .pre .1 .1 .0)) (c .before .before .before .before .before .before .before .before .before .before .before .before .before .before .before .before .pre .1 .1 .1 .1 .0) (c .before .before .before .before .others .ensures), (c .before .before .before .before .before .before .before .before .before .before .before .before .before .before .before .before .pre .1 .1 .1 .1 .1 .0, c .before .before .before .before .before .before .before .before .before .before .before .before .before .before .before .before .pre .1 .1 .1 .1 .1 .1))
 
 sub-close : tie.Need-sub-close
 sub-close c = omega (arith, accepted-wellFormed (algebraOf (c .before .before .before .before .before .before .before .before .before .before .before .before .before .before .before .before .before .before .before .before .before .before .before .args .n) (c .before .before .before .before .before .before .before .before .before .before .before .before .before .before .before .before .before .before .before .before .before .before .before .args .arities .now) (c .before .before .before .before .before .before .before .before .before .before .before .before .before .before .before .before .before .before .before .before .before .before .before .args .cells .now)) (c .before .before .before .before .before .before .before .before .before .before .before .before .before .before .before .before .before .before .before .before .before .before .before .pre .0) .some)
@@ -37,11 +37,11 @@ close-requires c κs =
     let a = algebraOf n (c .before .before .before .before .before .before .before .before .before .before .before .before .before .before .before .before .before .before .before .before .before .before .before .before .args .arities .now) (c .before .before .before .before .before .before .before .before .before .before .before .before .before .before .before .before .before .before .before .before .before .before .before .before .args .cells .now) in
     let z = accepted-wellFormed a (c .before .before .before .before .before .before .before .before .before .before .before .before .before .before .before .before .before .before .before .before .before .before .before .before .pre .0) .some in
     let h = c .before .before .before .before .before .before .before .before .before .before .before .before .others .ensures in
-    let d = c .before .before .before .before .before .before .before .join .ensures .0 in
+    let d = c .before .before .before .before .before .before .before .merge-queued .ensures .0 in
     let total = others-total (byte (c .before .before .before .before .before .before .before .before .before .before .before .before .before .before .before .before .before .before .before .before .before .before .before .before .args .m .now)) h in (
       record {
-        map-room = omega (arith, c .before .before .before .before .before .before .before .join .kept .0, c .before .before .before .before .before .before .before .before .before .before .before .before .before .before .before .before .before .before .before .before .before .before .before .before .pre .1 .0);
-        queue-room = omega (arith, c .before .before .before .before .before .before .before .before .before .before .before .before .others .kept .1 .1 .0, c .before .before .before .before .before .before .before .join .kept .1 .1 .0, c .before .before .before .before .before .before .before .before .before .before .before .before .before .before .before .before .before .before .before .before .before .before .before .before .pre .1 .1 .0);
+        map-room = omega (arith, c .before .before .before .before .before .before .before .merge-queued .kept .0, c .before .before .before .before .before .before .before .before .before .before .before .before .before .before .before .before .before .before .before .before .before .before .before .before .pre .1 .0);
+        queue-room = omega (arith, c .before .before .before .before .before .before .before .before .before .before .before .before .others .kept .1 .1 .0, c .before .before .before .before .before .before .before .merge-queued .kept .1 .1 .0, c .before .before .before .before .before .before .before .before .before .before .before .before .before .before .before .before .before .before .before .before .before .before .before .before .pre .1 .1 .0);
         most = omega (arith, d .blocks, total);
         queued = d .queued;
       },
@@ -59,7 +59,7 @@ close-requires c κs =
     )
 
 sub-result : tie.Need-sub-result
-sub-result c = omega (arith, c .before .before .before .before .before .before .before .before .before .before .before .before .before .before .join .ensures .0 .longer, c .before .before .before .before .before .before .close .ensures .0 .longer)
+sub-result c = omega (arith, c .before .before .before .before .before .before .before .before .before .before .before .before .before .before .merge-queued .ensures .0 .longer, c .before .before .before .before .before .before .close .ensures .0 .longer)
 
 same-length : tie.Need-same-length
 same-length c = search needs
@@ -73,11 +73,11 @@ same-length-3 c = search needs
 returns : tie.Need-returns
 returns c =
     let a = algebraOf (c .before .before .before .before .before .before .before .before .before .before .before .before .before .before .before .before .before .before .before .before .before .before .before .before .before .before .before .before .before .before .before .args .n) (c .before .before .before .before .before .before .before .before .before .before .before .before .before .before .before .before .before .before .before .before .before .before .before .before .before .before .before .before .before .before .before .args .arities .now) (c .before .before .before .before .before .before .before .before .before .before .before .before .before .before .before .before .before .before .before .before .before .before .before .before .before .before .before .before .before .before .before .args .cells .now) in
-    let d = c .before .before .before .before .before .before .before .before .before .before .before .before .before .before .join .ensures .0 in
+    let d = c .before .before .before .before .before .before .before .before .before .before .before .before .before .before .merge-queued .ensures .0 in
     let e = c .before .before .before .before .before .before .close .ensures .0 in
     let p = c .before .before .before .before .before .before .before .before .before .before .before .before .before .before .before .before .before .before .before .before .before .before .before .before .before .before .before .before .before .before .before .pre .1 .1 .1 .1 .1 in (
       grown-closed a (λ g good. good) d (grown-first (λ g good h. (good, λ p q lp lq k i. refl)) e) (c .before .before .before .before .before .before .close .ensures .1 (λ j. j .two refl))
-          (λ b h lb lh z. e .within b h lb lh (d .within b h lb lh z), e .within (c .before .before .before .before .before .before .before .before .before .before .before .before .before .before .before .before .before .before .before .before .before .before .before .before .before .before .before .before .before .before .before .args .x) (c .before .before .before .before .before .before .before .before .before .before .before .before .before .before .before .before .before .before .before .before .before .before .before .before .before .before .before .before .before .before .before .args .y) (p .0) (p .1) (c .before .before .before .before .before .before .before .before .before .before .before .before .before .before .join .ensures .1)),
+          (λ b h lb lh z. e .within b h lb lh (d .within b h lb lh z), e .within (c .before .before .before .before .before .before .before .before .before .before .before .before .before .before .before .before .before .before .before .before .before .before .before .before .before .before .before .before .before .before .before .args .x) (c .before .before .before .before .before .before .before .before .before .before .before .before .before .before .before .before .before .before .before .before .before .before .before .before .before .before .before .before .before .before .before .args .y) (p .0) (p .1) (c .before .before .before .before .before .before .before .before .before .before .before .before .before .before .merge-queued .ensures .1)),
       (omega (arith, e .blocks, d .blocks, d .longer, e .longer), λ z l. e .rest z l ∙ d .rest z l),
     )
 
@@ -87,9 +87,9 @@ extend-in-spec =
     (tie.spec
     identity-requires
     others-requires
-    cast-join
-    cast-join-2
-    join-requires
+    cast-merge-queued
+    cast-merge-queued-2
+    merge-queued-requires
     sub-close
     close-requires
     sub-result

@@ -12,18 +12,18 @@ use Rattle.equivalence.specs.Equivalence.{byte}
 use Rattle.closure.proofs.try_in.Statement.{statement}
 use Rattle.closure.proofs.try_in.Tie as tie
 
-cast-join : tie.Need-cast-join
-cast-join c =
+cast-merge-queued : tie.Need-cast-merge-queued
+cast-merge-queued c =
     let s = c .before .before .before .before .before .before .before .before in
     omega (arith, s .pre .1 .1 .1 .1 .1 .1 .0, accepted-wellFormed (algebraOf (s .args .n) (s .args .arities .now) (s .args .cells .now)) (s .pre .0) .most)
 
-cast-join-2 : tie.Need-cast-join-2
-cast-join-2 c =
+cast-merge-queued-2 : tie.Need-cast-merge-queued-2
+cast-merge-queued-2 c =
     let s = c .before .before .before .before .before .before .before .before in
     omega (arith, s .pre .1 .1 .1 .1 .1 .1 .1 .0, accepted-wellFormed (algebraOf (s .args .n) (s .args .arities .now) (s .args .cells .now)) (s .pre .0) .most)
 
-join-requires : tie.Need-join-requires
-join-requires c κs =
+merge-queued-requires : tie.Need-merge-queued-requires
+merge-queued-requires c κs =
     let p = c .before .before .before .before .before .before .before .before .pre in
     let q = p .1 .1 .1 .1 in
     (canonical-ready (p .1 .0) (p .1 .1 .0) (q .0), (q .1 .1 .0, q .1 .1 .1 .0))
@@ -41,7 +41,7 @@ close-requires c κs =
     let a = algebraOf (s .args .n) (s .args .arities .now) (s .args .cells .now) in
     let q = s .pre .1 .1 .1 .1 in
     let h = q .1 .1 .1 .1 .1 .1 .1 in
-    let j = c .before .before .before .before .before .before .before .join in
+    let j = c .before .before .before .before .before .before .before .merge-queued in
     let d = j .ensures .0 in
     let f = byte (s .args .m .now) in
     let total = names-total f h in
@@ -71,7 +71,7 @@ returns : tie.Need-returns
 returns c =
     let s = c .before .before .before .before .before .before .before .before .before .before .before .before .before .before .before .before .before .before .before .before .before .before .before in
     let q = s .pre .1 .1 .1 .1 .1 .1 in
-    let d = c .before .before .before .before .before .before .before .before .before .before .before .before .before .before .join .ensures in
+    let d = c .before .before .before .before .before .before .before .before .before .before .before .before .before .before .merge-queued .ensures in
     let e = c .before .before .before .before .before .before .close .ensures in
     grown-tried (algebraOf (s .args .n) (s .args .arities .now) (s .args .cells .now)) (q .0) (q .1 .0) refl (d .0) (d .1)
     (grown-first (λ g good h. (good, q .1 .1 .1 .1 .0 g good (λ a b la lb i. h a b la lb (d .0 .within a b la lb i)))) (e .0)) (e .1)
@@ -80,9 +80,9 @@ pub try-in-spec : {M : Type 1} → statement M
 try-in-spec =
     tie.close
     (tie.spec
-    cast-join
-    cast-join-2
-    join-requires
+    cast-merge-queued
+    cast-merge-queued-2
+    merge-queued-requires
     sub-close
     close-requires
     same-length

@@ -20,23 +20,23 @@ abbrev μ-loop : tie.MeasureT-loop
 loop-holds : tie.Need-loop-holds Inv-loop μ-loop
 loop-holds c = (omega arith, refl, since-none (JoinsPairs (c .before .before .before .args .pairs .now)) _ _ (c .before .before .before .pre .0), λ i l. absurd (omega arith))
 
-mul-join : tie.Need-mul-join Inv-loop μ-loop
-mul-join c = omega arith
+mul-merge-queued : tie.Need-mul-merge-queued Inv-loop μ-loop
+mul-merge-queued c = omega arith
 
-shared-slice-read-join : tie.Need-shared-slice-read-join Inv-loop μ-loop
-shared-slice-read-join c = omega arith
+shared-slice-read-merge-queued : tie.Need-shared-slice-read-merge-queued Inv-loop μ-loop
+shared-slice-read-merge-queued c = omega arith
 
-mul-join-2 : tie.Need-mul-join-2 Inv-loop μ-loop
-mul-join-2 c = omega arith
+mul-merge-queued-2 : tie.Need-mul-merge-queued-2 Inv-loop μ-loop
+mul-merge-queued-2 c = omega arith
 
-add-join : tie.Need-add-join Inv-loop μ-loop
-add-join c = omega arith
+add-merge-queued : tie.Need-add-merge-queued Inv-loop μ-loop
+add-merge-queued c = omega arith
 
-shared-slice-read-join-2 : tie.Need-shared-slice-read-join-2 Inv-loop μ-loop
-shared-slice-read-join-2 c = omega arith
+shared-slice-read-merge-queued-2 : tie.Need-shared-slice-read-merge-queued-2 Inv-loop μ-loop
+shared-slice-read-merge-queued-2 c = omega arith
 
-join-requires : tie.Need-join-requires Inv-loop μ-loop
-join-requires c κs = (since-ready (c .before .before .before .before .before .before .before .before .before .pre .0) (c .before .before .before .before .before .loop .inv .2), (c .before .before .before .before .before .before .before .before .before .pre .1 (2 * c .before .before .before .before .before .loop .j) (omega arith), c .before .before .before .before .before .before .before .before .before .pre .1 (2 * c .before .before .before .before .before .loop .j + 1) (omega arith)))
+merge-queued-requires : tie.Need-merge-queued-requires Inv-loop μ-loop
+merge-queued-requires c κs = (since-ready (c .before .before .before .before .before .before .before .before .before .pre .0) (c .before .before .before .before .before .loop .inv .2), (c .before .before .before .before .before .before .before .before .before .pre .1 (2 * c .before .before .before .before .before .loop .j) (omega arith), c .before .before .before .before .before .before .before .before .before .pre .1 (2 * c .before .before .before .before .before .loop .j + 1) (omega arith)))
 
 add-j : tie.Need-add-j Inv-loop μ-loop
 add-j c = omega arith
@@ -48,8 +48,8 @@ loop-again : tie.Need-loop-again Inv-loop μ-loop
 loop-again c = (
   omega arith,
   omega arith,
-  since-more (λ g good h. good (c .before .before .before .before .before .before .before .before .before .before .loop .j) (omega arith)) (c .before .before .before .before .before .before .before .before .before .before .loop .inv .2) (c .before .before .before .before .join .kept .0) (c .before .before .before .before .join .kept .1 .1 .0) (c .before .before .before .before .join .ensures .0),
-  pairs-more (c .before .before .before .before .before .before .before .before .before .before .before .before .before .before .args .pairs .now) (c .before .before .before .before .before .before .before .before .before .before .before .before .before .before .pre .1) (omega arith) (c .before .before .before .before .join .ensures .0 .within) (c .before .before .before .before .join .ensures .1) (c .before .before .before .before .before .before .before .before .before .before .loop .inv .3),
+  since-more (λ g good h. good (c .before .before .before .before .before .before .before .before .before .before .loop .j) (omega arith)) (c .before .before .before .before .before .before .before .before .before .before .loop .inv .2) (c .before .before .before .before .merge-queued .kept .0) (c .before .before .before .before .merge-queued .kept .1 .1 .0) (c .before .before .before .before .merge-queued .ensures .0),
+  pairs-more (c .before .before .before .before .before .before .before .before .before .before .before .before .before .before .args .pairs .now) (c .before .before .before .before .before .before .before .before .before .before .before .before .before .before .pre .1) (omega arith) (c .before .before .before .before .merge-queued .ensures .0 .within) (c .before .before .before .before .merge-queued .ensures .1) (c .before .before .before .before .before .before .before .before .before .before .loop .inv .3),
 )
 
 same-length : tie.Need-same-length Inv-loop μ-loop
@@ -68,12 +68,12 @@ seed-spec =
     Inv-loop
     μ-loop
     loop-holds
-    mul-join
-    shared-slice-read-join
-    mul-join-2
-    add-join
-    shared-slice-read-join-2
-    join-requires
+    mul-merge-queued
+    shared-slice-read-merge-queued
+    mul-merge-queued-2
+    add-merge-queued
+    shared-slice-read-merge-queued-2
+    merge-queued-requires
     add-j
     loop-less
     loop-again

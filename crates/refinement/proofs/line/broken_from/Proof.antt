@@ -4,7 +4,7 @@ use mathlib.Core.Path.{_≡_}
 use native.Mathlib.Omega.{arith}
 use lib.ListN.{length, getD}
 use Rattle.equivalence.specs.Equivalence.{byte}
-use Rattle.refinement.specs.InnerSplitting.{line}
+use Rattle.refinement.specs.InnerSplitting.{lineAt}
 use Rattle.refinement.proofs.Splits.{range-more}
 use Rattle.refinement.proofs.line.broken_from.Statement.{statement}
 use Rattle.refinement.proofs.line.broken_from.Tie as tie

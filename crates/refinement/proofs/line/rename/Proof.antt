@@ -4,7 +4,7 @@ use mathlib.Core.Path.{_≡_, refl}
 use native.Mathlib.Omega.{arith}
 use lib.ListN.{length, length-set}
 use Rattle.equivalence.specs.Equivalence.{byte}
-use Rattle.refinement.specs.InnerSplitting.{line, Alike, FirstsSeen}
+use Rattle.refinement.specs.InnerSplitting.{lineAt, Alike, FirstsSeen}
 use Rattle.refinement.proofs.Splits.{each-written}
 use Rattle.refinement.proofs.Seeing.{firstsSeen-none}
 use Rattle.refinement.proofs.line.rename.Statement.{statement}

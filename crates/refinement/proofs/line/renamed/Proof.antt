@@ -4,7 +4,7 @@ use native.Mathlib.Omega.{arith}
 use lib.ListN.{length}
 use lib.Seq.{getD-set-same, getD-set-other}
 use Rattle.equivalence.specs.Equivalence.{byte}
-use Rattle.refinement.specs.InnerSplitting.{line}
+use Rattle.refinement.specs.InnerSplitting.{lineAt}
 use Rattle.refinement.proofs.Seeing.{alike-elsewhere, seen-elsewhere, alike-seen, seen-seen, alike-first, seen-first}
 use borrow.Author.Needs.{needs}
 use Rattle.refinement.proofs.line.renamed.Statement.{statement}

@@ -4,7 +4,7 @@ use mathlib.Core.Path.{_≡_, refl}
 use native.Mathlib.Omega.{arith}
 use lib.ListN.{length}
 use Rattle.equivalence.specs.Equivalence.{byte}
-use Rattle.refinement.specs.InnerSplitting.{line, Keeps, Split}
+use Rattle.refinement.specs.InnerSplitting.{lineAt, Keeps, Split}
 use Rattle.refinement.proofs.Splits.{split-none, split-more, split-said, split-along, kept-both, by-index, lent-again}
 use Rattle.refinement.proofs.line.split_blocks.Statement.{statement}
 use Rattle.refinement.proofs.line.split_blocks.Tie as tie

@@ -6,7 +6,7 @@ use native.Mathlib.Omega.{arith}
 use lib.ListN.{length}
 use Rattle.kernel.specs.InnerKernel.{Listed}
 use Rattle.equivalence.specs.Equivalence.{byte}
-use Rattle.refinement.specs.InnerSplitting.{line, Keeps, KeepsOn, Any, Lines, Lists, Split}
+use Rattle.refinement.specs.InnerSplitting.{lineAt, Keeps, KeepsOn, Any, Lines, Lists, Split}
 use Rattle.refinement.proofs.Splits.{split-none, split-next, split-said, names-kept, by-index, lent-again}
 use Rattle.refinement.proofs.Sifting.{kept-after, lists-after, all-names}
 use Rattle.refinement.proofs.walk.split_lines.Statement.{statement}

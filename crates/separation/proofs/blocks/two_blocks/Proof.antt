@@ -22,7 +22,7 @@ same-length c = search needs
 returns : tie.Need-returns
 returns c =
     let s = c .before .before .before .before .before .before .before .before in
-    let f = c .before .before .name_two_blocks .ensures in
+    let f = c .before .before .name-two-blocks .ensures in
     let o = c .before .before .before .before .first-other .ensures in
     let pre = s .pre in (
       painted-two (s .args .n) (s .args .v) _ _ _ (search needs) (omega arith) o (f .first),
