@@ -88,7 +88,8 @@ module _ {n k : ℕ} {bytes : List ℕ} (listed : MapsListed n k bytes) {p : Map
   pub turn-both : {r : Bool} (q : Map → Bool) → r ≡ q (between at (at + n) bytes) → r ≡ (isMap n (between at (at + n) bytes) && q (between at (at + n) bytes))
   turn-both q e = let m : Map = between at (at + n) bytes in e ∙ and-true {a = isMap n m} (sym (true-is (isMap n m) turn-map))
 
-module _ {a : Algebra} {k : ℕ} {bytes : List ℕ} (all : T (every (λ m. isMap (a .size) m && isCongruence a m) (mapList (a .size) k bytes))) {p : Map → Bool} {i at : ℕ} (t : Tested p (a .size) k bytes i at) (l : i < k) where
+module _ {a : Algebra} {k : ℕ} {bytes : List ℕ} (all : T (every (λ m. isMap (a .size) m && isCongruence a m) (mapList (a .size) k bytes)))
+    {p : Map → Bool} {i at : ℕ} (t : Tested p (a .size) k bytes i at) (l : i < k) where
   pub turn-congruence : Congruence a (between at (at + a .size) bytes)
   turn-congruence =
       let n : ℕ = a .size in

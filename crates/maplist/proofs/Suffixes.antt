@@ -13,7 +13,8 @@ use Rattle.equivalence.specs.Lent.{stretch, written, laid}
 use Rattle.equivalence.proofs.Maps.{IsMap, whole-map}
 use Rattle.equivalence.proofs.Meets.{meet-map, meetAll-map}
 use Rattle.maplist.specs.InnerMapLists.{mapList, MapsListed, SuffixMeets}
-use Rattle.maplist.proofs.MapLists.{Begins, begins-is, begins-written, begins-canonical, begins-meet, meet-comm, mapList-length, mapList-from, listed-map, listed-room, listed-begins, laid-stretch, laid-later}
+use Rattle.maplist.proofs.MapLists.{Begins, begins-is, begins-written, begins-canonical, begins-meet, meet-comm}
+use Rattle.maplist.proofs.MapLists.{mapList-length, mapList-from, listed-map, listed-room, listed-begins, laid-stretch, laid-later}
 use Rattle.equivalence.proofs.Laying.{laid-length}
 
 pub record Suffixes (n k : ℕ) (maps : List ℕ) (i at : ℕ) (met bytes : List ℕ) : Type 0 where

@@ -17,7 +17,7 @@ use Rattle.algebra.proofs.Arguments.{Args, of-arguments, args-map, place-law}
 use Rattle.algebra.proofs.Tables.{operationAt, value-at}
 use Rattle.quotient.specs.InnerNumbers.{Numbered}
 use Rattle.quotient.specs.Quotient.{quotientTable, quotientCells}
-use Rattle.quotient.specs.InnerTables.{concatUpTo, Source, sourceOf, divided, dividedAt, SourceRight, AllFit}
+use Rattle.quotient.specs.InnerTables.{concatUpTo, AllDivided, Source, sourceOf, divided, dividedAt, SourceRight, AllFit}
 use Rattle.quotient.proofs.Operations.{cellCount-more, cellCount-part}
 
 -- two functions that agree on a list's members make one list of it
@@ -118,7 +118,7 @@ module _ (a : Algebra) (ok : WellFormed a) (m : Map) (p : IsMap (a .size) m) (nu
       table-at g (length (a .arities)) j [] l ∙ table-is j l ∙ ap (quotientTable n m) (sym (operations-at n (a .arities) (a .cells) j none l))
       ∙ sym (map-at (quotientTable n m) ops j none [] (omega (arith, operations-long n (a .arities) (a .cells))))))
 
-  pub written-quotient : (lent out : List ℕ) → out ≡ laid lent 0 (concatUpTo (dividedAt (sourceOf (a .size) b (a .cells) numbers names) (a .arities)) (length (a .arities))) → out ≡ written (quotientCells a m) lent
+  pub written-quotient : (lent out : List ℕ) → AllDivided (sourceOf (a .size) b (a .cells) numbers names) (a .arities) lent out → out ≡ written (quotientCells a m) lent
   unfolding laid source
   written-quotient lent out e = e ∙ ap (λ (new : List ℕ). written new lent) cells-are
 

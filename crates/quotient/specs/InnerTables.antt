@@ -1,8 +1,11 @@
 -- The tables of a quotient as the walk over them writes them, from the first argument inwards.
 use Prim.Native.Nat.{ℕ, zero, suc, _+_, _*_, _^_, _≤_, _<_}
 use mathlib.Core.List.{List, [], _∷_, map}
+use mathlib.Core.Path.{_≡_}
 use lib.ListN.{length, getD, take}
+use denote.Ref.{RefT, now}
 use Rattle.equivalence.specs.Lists.{upTo, concat}
+use Rattle.equivalence.specs.Lent.{laid}
 use Rattle.equivalence.specs.Equivalence.{byte}
 use Rattle.algebra.specs.Algebra.{cellCount}
 
@@ -29,6 +32,10 @@ pub record Source : Type 0 where
 -- the source that a call is handed
 abbrev pub sourceOf : ℕ → ℕ → List ℕ → List ℕ → List ℕ → Source
 sourceOf n b cells numbers names = record { size = n; blocks = b; cells = cells; numbers = numbers; names = names }
+
+-- the same, handed in lent slices
+abbrev pub sourceIn : ℕ → ℕ → RefT (List ℕ) → RefT (List ℕ) → RefT (List ℕ) → Source
+sourceIn n b cells numbers names = sourceOf n b (now cells) (now numbers) (now names)
 
 -- the table over blocks of the operation of arity s whose table begins at `from`: one block of a first argument after the other, each read at its smallest member
 unfoldable pub divided : Source → ℕ → ℕ → List ℕ
@@ -59,6 +66,10 @@ pub record RowFits (b : ℕ) (cells numbers names : List ℕ) (from : ℕ) (lent
 -- the table over blocks of operation j, whose table begins behind those of the operations before it
 abbrev pub dividedAt : Source → List ℕ → ℕ → List ℕ
 dividedAt q arities j = divided q (getD arities j 0) (cellCount (q .size) (take j arities))
+
+-- the tables over blocks of all operations, one after the other, were laid at the start of the lent bytes
+abbrev pub AllDivided : Source → List ℕ → List ℕ → List ℕ → Type 0
+AllDivided q arities lent after = after ≡ laid lent 0 (concatUpTo (dividedAt q arities) (length arities))
 
 -- no arity is above 3, the tables lie within the cells, and their quotients' within the lent bytes
 pub record AllFit (q : Source) (arities lent : List ℕ) : Type 0 where

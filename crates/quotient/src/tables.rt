@@ -4,7 +4,7 @@ ghost use mathlib.Core.Path.{_≡_};
 ghost use Prim.Native.Nat.{_+_, _*_, _<_, _≤_};
 ghost use lib.ListN.{length};
 ghost use Rattle.equivalence.specs.Equivalence.{byte};
-ghost use Rattle.quotient.specs.InnerTables.{concatUpTo, cellDivided, rowDivided, divided, dividedAt, sourceOf, SourceRight, Fits, RowFits, AllFit};
+ghost use Rattle.quotient.specs.InnerTables.{sourceIn, cellDivided, rowDivided, divided, AllDivided, SourceRight, Fits, RowFits, AllFit};
 ghost use Rattle.equivalence.specs.Lent.{laid};
 use crate::numbers::block_of;
 use equivalence::Element;
@@ -55,9 +55,9 @@ fn divide_plane(
     out: &mut [u8],
     to: usize,
 )
-    requires { ⌜ SourceRight (sourceOf n b (now cells) (now numbers) (now names)) ⌝ }
-    requires { ⌜ Fits (sourceOf n b (now cells) (now numbers) (now names)) 2 from (now out) to ⌝ }
-    ensures { λ _. ⌜ now (out .exit) ≡ laid (now (out .entry)) to (divided (sourceOf n b (now (cells .entry)) (now (numbers .entry)) (now (names .entry))) 2 from) ⌝ }
+    requires { ⌜ SourceRight (sourceIn n b cells numbers names) ⌝ }
+    requires { ⌜ Fits (sourceIn n b cells numbers names) 2 from (now out) to ⌝ }
+    ensures { λ _. ⌜ now (out .exit) ≡ laid (now (out .entry)) to (divided (sourceIn n b (cells .entry) (numbers .entry) (names .entry)) 2 from) ⌝ }
 {
     let mut k = 0;
     let mut at = to;
@@ -80,9 +80,9 @@ fn divide_cube(
     out: &mut [u8],
     to: usize,
 )
-    requires { ⌜ SourceRight (sourceOf n b (now cells) (now numbers) (now names)) ⌝ }
-    requires { ⌜ Fits (sourceOf n b (now cells) (now numbers) (now names)) 3 from (now out) to ⌝ }
-    ensures { λ _. ⌜ now (out .exit) ≡ laid (now (out .entry)) to (divided (sourceOf n b (now (cells .entry)) (now (numbers .entry)) (now (names .entry))) 3 from) ⌝ }
+    requires { ⌜ SourceRight (sourceIn n b cells numbers names) ⌝ }
+    requires { ⌜ Fits (sourceIn n b cells numbers names) 3 from (now out) to ⌝ }
+    ensures { λ _. ⌜ now (out .exit) ≡ laid (now (out .entry)) to (divided (sourceIn n b (cells .entry) (numbers .entry) (names .entry)) 3 from) ⌝ }
 {
     let plane = n * n;
     let square = b * b;
@@ -109,9 +109,9 @@ fn divide_table(
     to: usize,
 )
     requires { ⌜ s ≤ 3 ⌝ }
-    requires { ⌜ SourceRight (sourceOf n b (now cells) (now numbers) (now names)) ⌝ }
-    requires { ⌜ Fits (sourceOf n b (now cells) (now numbers) (now names)) s from (now out) to ⌝ }
-    ensures { λ _. ⌜ now (out .exit) ≡ laid (now (out .entry)) to (divided (sourceOf n b (now (cells .entry)) (now (numbers .entry)) (now (names .entry))) s from) ⌝ }
+    requires { ⌜ SourceRight (sourceIn n b cells numbers names) ⌝ }
+    requires { ⌜ Fits (sourceIn n b cells numbers names) s from (now out) to ⌝ }
+    ensures { λ _. ⌜ now (out .exit) ≡ laid (now (out .entry)) to (divided (sourceIn n b (cells .entry) (numbers .entry) (names .entry)) s from) ⌝ }
 {
     match s {
         0 => divide_cell(cells, from, numbers, out, to),
@@ -131,9 +131,9 @@ pub fn divide_tables(
     names: &[u8],
     out: &mut [u8],
 )
-    requires { ⌜ SourceRight (sourceOf n b (now cells) (now numbers) (now names)) ⌝ }
-    requires { ⌜ AllFit (sourceOf n b (now cells) (now numbers) (now names)) (now arities) (now out) ⌝ }
-    ensures { λ _. ⌜ now (out .exit) ≡ laid (now (out .entry)) 0 (concatUpTo (dividedAt (sourceOf n b (now (cells .entry)) (now (numbers .entry)) (now (names .entry))) (now (arities .entry))) (length (now (arities .entry)))) ⌝ }
+    requires { ⌜ SourceRight (sourceIn n b cells numbers names) ⌝ }
+    requires { ⌜ AllFit (sourceIn n b cells numbers names) (now arities) (now out) ⌝ }
+    ensures { λ _. ⌜ AllDivided (sourceIn n b (cells .entry) (numbers .entry) (names .entry)) (now (arities .entry)) (now (out .entry)) (now (out .exit)) ⌝ }
 {
     let mut j = 0;
     let mut from = 0;

@@ -50,7 +50,9 @@ returns c =
     let w = c .before .before .before .before .before .before .before .meet-with in
     let k = c .before .before .before .before .before .before .before .before .before .before .before .before .before in
     let e = w .ensures ∙ ap (λ (m : List ℕ). written (meet (k .args .n) (k .args .met .now) m) (k .args .met .now)) (part-rest (k .args .at) (k .args .maps .now)) in
-    (e, copied-laid (k .args .at) (k .args .suffixes .now) (c .before .before .copy .last .1 .0) (begins-written _ _ e (meet-map _ _ _)) (meet-map _ _ _) (k .pre .1 .1 .1 .0) (c .before .before .copy .kept .1 .0) (c .before .before .copy .ensures))
+    let r = c .before .before .copy in
+    let front = begins-written _ _ e (meet-map _ _ _) in
+    (e, copied-laid (k .args .at) (k .args .suffixes .now) (r .last .1 .0) front (meet-map _ _ _) (k .pre .1 .1 .1 .0) (r .kept .1 .0) (r .ensures))
 
 pub meet-back-spec : {M : Type 1} → statement M
 meet-back-spec =

@@ -25,7 +25,8 @@ same-length c = search needs
 
 returns : tie.Need-returns
 returns c =
-    copied-written _ _ (begins-written _ _ (c .before .before .before .before .before .before .meet-into .ensures) (meet-map _ _ _)) (meet-map _ _ _) (omega arith) (search needs) (c .before .before .copy .ensures)
+    let front = begins-written _ _ (c .before .before .before .before .before .before .meet-into .ensures) (meet-map _ _ _) in
+    copied-written _ _ front (meet-map _ _ _) (omega arith) (search needs) (c .before .before .copy .ensures)
 
 pub meet-with-spec : {M : Type 1} → statement M
 meet-with-spec =

@@ -40,14 +40,17 @@ loop-holds : tie.Need-loop-holds Inv-loop μ-loop
 loop-holds c =
     let k = c .before .before .before .before .before .before .before .before .before .before .before in
     let at = k .args .count * k .args .n in
-    let e = ap (putMid at (length (k .args .suffixes .now) - at) (k .args .suffixes .now)) (c .before .before .whole-into2 .ensures) ∙ put-laid at (k .args .suffixes .now) (whole (k .args .n)) (omega arith) in
+    let lent = k .args .suffixes .now in
+    let e = ap (putMid at (length lent - at) lent) (c .before .before .whole-into2 .ensures) ∙ put-laid at lent (whole (k .args .n)) (omega arith) in
     ((refl, refl), suffixes-start (k .args .suffixes .now) _ (k .pre .0) (k .pre .1 .1) (c .before .before .before .before .before .before .whole-into .ensures) e)
 
 sub-i : tie.Need-sub-i Inv-loop μ-loop
 sub-i c = search needs
 
 sub-at : tie.Need-sub-at Inv-loop μ-loop
-sub-at c = let l = c .before .loop in omega (arith, l .inv .1 .place, mul-le-mul-right (c .before .before .before .before .before .before .before .before .before .before .before .before .before .args .n) (c .loop-test .taken))
+sub-at c =
+    let k = c .before .before .before .before .before .before .before .before .before .before .before .before .before in
+    omega (arith, c .before .loop .inv .1 .place, mul-le-mul-right (k .args .n) (c .loop-test .taken))
 
 meet-back-requires : tie.Need-meet-back-requires Inv-loop μ-loop
 meet-back-requires c κs =
@@ -62,8 +65,10 @@ loop-less c = search needs
 loop-again : tie.Need-loop-again Inv-loop μ-loop
 loop-again c =
     let w = c .before .before .before .before .meet-back in
-    let l = c .before .before .before .before .before .before .before .before .loop in
-    ((w .kept .1 .1 .1 .0 ∙ l .inv .0 .0, w .kept .1 .1 .1 .1 .0 ∙ l .inv .0 .1), suffixes-more (l .inv .1) (c .before .before .before .before .before .before .before .loop-test .taken) (w .ensures .0) (w .ensures .1))
+    let test = c .before .before .before .before .before .before .before in
+    let l = test .before .loop in
+    let more = suffixes-more (l .inv .1) (test .loop-test .taken) (w .ensures .0) (w .ensures .1) in
+    ((w .kept .1 .1 .1 .0 ∙ l .inv .0 .0, w .kept .1 .1 .1 .1 .0 ∙ l .inv .0 .1), more)
 
 same-length : tie.Need-same-length Inv-loop μ-loop
 same-length c = search needs

@@ -33,8 +33,10 @@ divide-tables-requires c κs =
     let r = c .before .before .before .before .before .number-blocks in
     let a = algebraOf (s .args .n) (s .args .arities .now) (s .args .cells .now) in
     let ok = accepted-wellFormed a (s .pre .0) in
-    let p = of-isMap (s .args .n) (s .args .map .now) (s .pre .1 .0) in
-    (numbered-sound a ok (s .args .map .now) p _ _ _ (r .ensures) (omega (arith, ok .most, r .kept .1 .1 .0)) (omega (arith, ok .most, r .kept .1 .1 .1 .0)), numbered-fits a ok (s .args .map .now) p _ _ _ (r .ensures) _ (s .pre .1 .1))
+    let p = of-isMap (s .args .n) (s .args .map .now) (s .pre .1 .0) in (
+      numbered-sound a ok (s .args .map .now) p _ _ _ (r .ensures) (omega (arith, ok .most, r .kept .1 .1 .0)) (omega (arith, ok .most, r .kept .1 .1 .1 .0)),
+      numbered-fits a ok (s .args .map .now) p _ _ _ (r .ensures) _ (s .pre .1 .1),
+    )
 
 cast-result : tie.Need-cast-result
 cast-result c =

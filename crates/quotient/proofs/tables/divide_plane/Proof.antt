@@ -34,7 +34,10 @@ divide-row-requires : tie.Need-divide-row-requires Inv-loop μ-loop
 divide-row-requires c κs = let r = c .before .before .before .loop .inv in fits-row (r .sound) (walked-fits r _ (c .before .before .loop-test .taken) refl)
 
 add-at : tie.Need-add-at Inv-loop μ-loop
-add-at c = let s = c .before .before .before .before .before .before in omega (arith, walked-fits (s .loop .inv) _ (c .before .before .before .before .before .loop-test .taken) refl .target, s .loop .inv .tall)
+add-at c =
+    let test = c .before .before .before .before .before in
+    let w = test .before .loop .inv in
+    omega (arith, walked-fits w _ (test .loop-test .taken) refl .target, w .tall)
 
 add-k : tie.Need-add-k Inv-loop μ-loop
 add-k c = search needs
@@ -43,7 +46,9 @@ loop-less : tie.Need-loop-less Inv-loop μ-loop
 loop-less c = search needs
 
 loop-again : tie.Need-loop-again Inv-loop μ-loop
-loop-again c = walked-more (c .before .before .before .before .before .before .loop .inv) _ _ (c .before .before .before .before .before .loop-test .taken) refl (laid-row _ _ _ _ _ (c .before .before .divide-row .ensures))
+loop-again c =
+    let test = c .before .before .before .before .before in
+    walked-more (test .before .loop .inv) _ _ (test .loop-test .taken) refl (laid-row _ _ _ _ _ (c .before .before .divide-row .ensures))
 
 same-length : tie.Need-same-length Inv-loop μ-loop
 same-length c = c .before .loop .inv .laid .long

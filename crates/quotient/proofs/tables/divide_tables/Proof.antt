@@ -35,7 +35,9 @@ power-requires c κs =
     (omega (arith, s .inv .sound .few, s .inv .sound .most), s .inv .fits .arity (s .j) (c .before .before .before .before .before .loop-test .taken))
 
 add-from : tie.Need-add-from Inv-loop μ-loop
-add-from c = omega (arith, divided-fits (c .before .before .before .before .before .before .before .loop .inv) (c .before .before .before .before .before .before .loop-test .taken) .source, c .power .ensures)
+add-from c =
+    let test = c .before .before .before .before .before .before in
+    omega (arith, divided-fits (test .before .loop .inv) (test .loop-test .taken) .source, c .power .ensures)
 
 power-requires-2 : tie.Need-power-requires-2 Inv-loop μ-loop
 power-requires-2 c κs =
@@ -43,7 +45,9 @@ power-requires-2 c κs =
     (omega (arith, s .inv .sound .few, s .inv .sound .most), s .inv .fits .arity (s .j) (c .before .before .before .before .before .before .loop-test .taken))
 
 add-to : tie.Need-add-to Inv-loop μ-loop
-add-to c = omega (arith, divided-fits (c .before .before .before .before .before .before .before .before .loop .inv) (c .before .before .before .before .before .before .before .loop-test .taken) .target, c .power2 .ensures)
+add-to c =
+    let test = c .before .before .before .before .before .before .before in
+    omega (arith, divided-fits (test .before .loop .inv) (test .loop-test .taken) .target, c .power2 .ensures)
 
 add-j : tie.Need-add-j Inv-loop μ-loop
 add-j c = search needs
@@ -52,7 +56,9 @@ loop-less : tie.Need-loop-less Inv-loop μ-loop
 loop-less c = search needs
 
 loop-again : tie.Need-loop-again Inv-loop μ-loop
-loop-again c = divided-more (c .before .before .before .before .before .before .before .before .loop .inv) (c .before .before .before .before .before .before .before .loop-test .taken) _ _ _ (c .before .before .before .before .divide-table .ensures) (c .before .power .ensures) (c .power2 .ensures)
+loop-again c =
+    let test = c .before .before .before .before .before .before .before in
+    divided-more (test .before .loop .inv) (test .loop-test .taken) _ _ _ (c .before .before .before .before .divide-table .ensures) (c .before .power .ensures) (c .power2 .ensures)
 
 same-length : tie.Need-same-length Inv-loop μ-loop
 same-length c = c .before .loop .inv .laid .long
