@@ -7,8 +7,8 @@ use native.Mathlib.Decide.{ℕ-discrete}
 use native.Mathlib.Numerals.{add-one}
 use native.Mathlib.Omega.{arith}
 use lib.Dec.{T, eqb, eqb→eq}
-use lib.ListN.{length, set, length-append, length-set, List·getD-append}
-use lib.Seq.{getD-set-same, getD-set-other, getD-at}
+use lib.ListN.{length, take, set, length-append, length-set, List·getD-append}
+use lib.Seq.{getD-set-same, getD-set-other, getD-at, getD-take, length-take-le}
 use borrow.Author.Tests.{eq-eqb, ne-eqb}
 use Rattle.equivalence.specs.Equivalence.{Map, byte, isMap, namesOf, blocks, blockOf}
 use Rattle.kernel.specs.InnerKernel.{bit}
@@ -19,14 +19,14 @@ use Rattle.equivalence.proofs.Tests.{eq→eqb}
 use Rattle.quotient.specs.InnerNumbers.{Numbered}
 
 -- an element that is its own name is one smallest member more
-roots-more : (m : Map) (x : ℕ) → byte m x ≡ x → namesOf (suc x) m ≡ namesOf x m ++ (x ∷ [])
+namesOf-more : (m : Map) (x : ℕ) → byte m x ≡ x → namesOf (suc x) m ≡ namesOf x m ++ (x ∷ [])
 unfolding namesOf upTo keep
-roots-more m x e = rw (keep-append (λ y. eqb (byte m y) y) (upTo x) (x ∷ []), keep-yes (λ y. eqb (byte m y) y) x [] (eq→eqb (byte m x) x e))
+namesOf-more m x e = rw (keep-append (λ y. eqb (byte m y) y) (upTo x) (x ∷ []), keep-yes (λ y. eqb (byte m y) y) x [] (eq→eqb (byte m x) x e))
 
 -- and another element is none
-roots-same : (m : Map) (x : ℕ) → (byte m x ≡ x → ⊥) → namesOf (suc x) m ≡ namesOf x m ++ []
+namesOf-same : (m : Map) (x : ℕ) → (byte m x ≡ x → ⊥) → namesOf (suc x) m ≡ namesOf x m ++ []
 unfolding namesOf upTo keep
-roots-same m x h =
+namesOf-same m x h =
     rw (keep-append (λ y. eqb (byte m y) y) (upTo x) (x ∷ []), keep-no (λ y. eqb (byte m y) y) x [] (λ t. h (eqb→eq (byte m x) x t)))
 
 numbered-none : (m : Map) (numbers names : List ℕ) → Numbered 0 m numbers names 0
@@ -56,17 +56,17 @@ module _ (n : ℕ) (m : Map) (p : IsMap n m) (x : ℕ) (lx : x < n) (numbers nam
   unfolding blocks
   numbered-more v e = elim (ℕ-discrete (byte m x) x) [
     | yes f ↦ rw (eq-eqb (byte m x) x f) (record {
-      count = rw (add-one x, roots-more m x f, length-append (namesOf x m) (x ∷ [])) (omega (arith, r .count));
+      count = rw (add-one x, namesOf-more m x f, length-append (namesOf x m) (x ∷ [])) (omega (arith, r .count));
       number = λ y l. number-old v y (e ∙ number-new) l;
-      first = λ k l. rw (add-one x, roots-more m x f) (elim (ℕ-discrete k b) [
+      first = λ k l. rw (add-one x, namesOf-more m x f) (elim (ℕ-discrete k b) [
         | yes g ↦ rw g (getD-set-same names b x 0 lf ∙ sym (getD-at (namesOf x m) x [] 0 b (sym (r .count))))
         | no g ↦ getD-set-other names b k x 0 g ∙ r .first k (omega arith) ∙ sym (List·getD-append (namesOf x m) (x ∷ []) 0 k (omega (arith, r .count)))
       ]);
     })
     | no f ↦ rw (ne-eqb (byte m x) x f) (record {
-      count = rw (add-one x, roots-same m x f, length-append (namesOf x m) []) (omega (arith, r .count));
+      count = rw (add-one x, namesOf-same m x f, length-append (namesOf x m) []) (omega (arith, r .count));
       number = λ y l. number-old v y (e ∙ number-new) l;
-      first = λ k l. rw (add-one x, roots-same m x f)
+      first = λ k l. rw (add-one x, namesOf-same m x f)
           (getD-set-other names b k x 0 (omega arith) ∙ r .first k (omega arith) ∙ sym (List·getD-append (namesOf x m) [] 0 k (omega (arith, r .count))));
     })
   ]
@@ -105,3 +105,14 @@ numbering-more {n} {m} {numbers₀} {firsts₀} {numbers} {names} {b} {x} {v} {d
   names-long = length-set names b x ∙ s .names-long;
   numbered = rw f (numbered-more n m (s .map) x l numbers names b (s .numbered) (omega arith) (omega arith) v e);
 }
+
+-- the smallest members alone, as many as there are blocks
+pub numbered-front : (n : ℕ) (m : Map) (numbers names : List ℕ) (b k : ℕ) → k ≡ b → b ≤ length names → Numbered n m numbers names b
+    → Numbered n m numbers (take k names) (length (take k names))
+numbered-front n m numbers names b k e h r =
+    let long : length (take k names) ≡ b = length-take-le k names (omega arith) ∙ e in
+    record {
+      count = long ∙ r .count;
+      number = r .number;
+      first = λ j l. let i : j < b = rw long at l in getD-take k names j 0 (omega arith) ∙ r .first j i;
+    }

@@ -28,11 +28,11 @@ cellCount-part n [] (suc j) = omega arith
 cellCount-part n (s ∷ rest) zero = omega arith
 cellCount-part n (s ∷ rest) (suc j) = omega (arith, cellCount-part n rest j)
 
-joined-count : (q : Source) (arities : List ℕ) (j : ℕ) → j ≤ length arities → length (concatUpTo (dividedAt q arities) j) ≡ cellCount (q .blocks) (take j arities)
-joined-count q arities zero l = ap length (concatUpTo-none (dividedAt q arities)) ∙ sym (cellCount-none (q .blocks) arities)
-joined-count q arities (suc j) l =
+concatUpTo-count : (q : Source) (arities : List ℕ) (j : ℕ) → j ≤ length arities → length (concatUpTo (dividedAt q arities) j) ≡ cellCount (length (q .names)) (take j arities)
+concatUpTo-count q arities zero l = ap length (concatUpTo-none (dividedAt q arities)) ∙ sym (cellCount-none (length (q .names)) arities)
+concatUpTo-count q arities (suc j) l =
     rw (concatUpTo-more (dividedAt q arities) j, length-append (concatUpTo (dividedAt q arities) j) (dividedAt q arities j))
-    (omega (arith, joined-count q arities j (omega arith), divided-long q (getD arities j 0) (cellCount (q .size) (take j arities)), cellCount-more (q .blocks) arities j l))
+    (omega (arith, concatUpTo-count q arities j (omega arith), divided-long q (getD arities j 0) (cellCount (q .size) (take j arities)), cellCount-more (length (q .names)) arities j l))
 
 -- the first j operations are divided: the next one's table begins at `from`, and its quotient's at `to`
 pub record Divided (q : Source) (arities lent out : List ℕ) (j from to : ℕ) : Type 0 where
@@ -49,10 +49,10 @@ module _ {q : Source} {arities lent out : List ℕ} {j from to : ℕ} (r : Divid
   pub divided-fits : Fits q (getD arities j 0) from out to
   divided-fits = record {
     source = omega (arith, r .start, r .fits .source, cellCount-more (q .size) arities j l, cellCount-part (q .size) arities (suc j));
-    target = omega (arith, r .laid .place, r .laid .long, joined-count q arities j (r .upto), r .fits .target, cellCount-more (q .blocks) arities j l, cellCount-part (q .blocks) arities (suc j));
+    target = omega (arith, r .laid .place, r .laid .long, concatUpTo-count q arities j (r .upto), r .fits .target, cellCount-more (length (q .names)) arities j l, cellCount-part (length (q .names)) arities (suc j));
   }
 
-  pub divided-more : (out′ : List ℕ) (w v : ℕ) → out′ ≡ laid out to (divided q (getD arities j 0) from) → w ≡ q .size ^ getD arities j 0 → v ≡ q .blocks ^ getD arities j 0
+  pub divided-more : (out′ : List ℕ) (w v : ℕ) → out′ ≡ laid out to (divided q (getD arities j 0) from) → w ≡ q .size ^ getD arities j 0 → v ≡ length (q .names) ^ getD arities j 0
       → Divided q arities lent out′ (j + 1) (from + w) (to + v)
   divided-more out′ w v e d h =
       let long : length (dividedAt q arities j) ≡ v = divided-long q (getD arities j 0) (cellCount (q .size) (take j arities)) ∙ sym h in

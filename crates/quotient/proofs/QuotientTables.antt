@@ -35,24 +35,24 @@ abbrev cellAt : Source → ℕ → List ℕ → ℕ
 cellAt q from bs = byte (q .numbers) (byte (q .cells) (from + place (q .size) (map (byte (q .names)) bs)))
 
 -- the cells with block k as the first argument
-first-argument : (q : Source) (s from k : ℕ) → map (cellAt q (from + byte (q .names) k * q .size ^ s)) (arguments (q .blocks) s) ≡ map (cellAt q from) (map (λ t. k ∷ t) (arguments (q .blocks) s))
+first-argument : (q : Source) (s from k : ℕ) → map (cellAt q (from + byte (q .names) k * q .size ^ s)) (arguments (length (q .names)) s) ≡ map (cellAt q from) (map (λ t. k ∷ t) (arguments (length (q .names)) s))
 unfolding place
 first-argument q s from k =
-    map-same (cellAt q (from + byte (q .names) k * q .size ^ s)) (λ t. cellAt q from (k ∷ t)) (arguments (q .blocks) s)
-    (λ t i. let e : length (map (byte (q .names)) t) ≡ s = length-map t (byte (q .names)) ∙ of-arguments (q .blocks) s t i .long in
+    map-same (cellAt q (from + byte (q .names) k * q .size ^ s)) (λ t. cellAt q from (k ∷ t)) (arguments (length (q .names)) s)
+    (λ t i. let e : length (map (byte (q .names)) t) ≡ s = length-map t (byte (q .names)) ∙ of-arguments (length (q .names)) s t i .long in
     rw e (ap (λ (c : ℕ). byte (q .numbers) (byte (q .cells) c)) (omega arith)))
-    ∙ sym (map-map (cellAt q from) (λ t. k ∷ t) (arguments (q .blocks) s))
+    ∙ sym (map-map (cellAt q from) (λ t. k ∷ t) (arguments (length (q .names)) s))
 
 -- the walk writes the cell at each list of blocks, in the order of places
-divided-cells : (q : Source) (s from : ℕ) → divided q s from ≡ map (cellAt q from) (arguments (q .blocks) s)
+divided-cells : (q : Source) (s from : ℕ) → divided q s from ≡ map (cellAt q from) (arguments (length (q .names)) s)
 unfolding divided concatUpTo arguments place
 divided-cells q zero from = ap (λ (c : ℕ). byte (q .numbers) (byte (q .cells) c) ∷ []) (omega arith)
 divided-cells q (suc s) from =
     ap concat
-    (map-same (λ k. divided q s (from + byte (q .names) k * q .size ^ s)) (λ k. map (cellAt q from) (map (λ t. k ∷ t) (arguments (q .blocks) s))) (upTo (q .blocks))
+    (map-same (λ k. divided q s (from + byte (q .names) k * q .size ^ s)) (λ k. map (cellAt q from) (map (λ t. k ∷ t) (arguments (length (q .names)) s))) (upTo (length (q .names)))
     (λ k i. divided-cells q s (from + byte (q .names) k * q .size ^ s) ∙ first-argument q s from k))
-    ∙ ap concat (sym (map-map (map (cellAt q from)) (λ k. map (λ t. k ∷ t) (arguments (q .blocks) s)) (upTo (q .blocks))))
-    ∙ sym (map-concat (cellAt q from) (map (λ k. map (λ t. k ∷ t) (arguments (q .blocks) s)) (upTo (q .blocks))))
+    ∙ ap concat (sym (map-map (map (cellAt q from)) (λ k. map (λ t. k ∷ t) (arguments (length (q .names)) s)) (upTo (length (q .names)))))
+    ∙ sym (map-concat (cellAt q from) (map (λ k. map (λ t. k ∷ t) (arguments (length (q .names)) s)) (upTo (length (q .names)))))
 
 -- operation j stands at number j
 operations-at : (n : ℕ) (arities cells : List ℕ) (j : ℕ) (d : Operation) → j < length arities
@@ -69,15 +69,15 @@ unfolding operationsOf
 operations-long n [] cells = refl
 operations-long n (s ∷ rest) cells = ap suc (operations-long n rest (drop (n ^ s) cells))
 
-module _ (a : Algebra) (ok : WellFormed a) (m : Map) (p : IsMap (a .size) m) (numbers names : List ℕ) (b : ℕ) (r : Numbered (a .size) m numbers names b) where
+module _ (a : Algebra) (ok : WellFormed a) (m : Map) (p : IsMap (a .size) m) (numbers names : List ℕ) (r : Numbered (a .size) m numbers names (length names)) where
   source : Source
-  source = sourceOf (a .size) b (a .cells) numbers names
+  source = sourceOf (a .size) (a .cells) numbers names
 
-  first-below : (k : ℕ) → k < b → byte names k < a .size
+  first-below : (k : ℕ) → k < length names → byte names k < a .size
   first-below k l = rw (r .first k l) (smallest-below (a .size) m p k (rw (r .count) at l) .0)
 
   -- one cell: the smallest members are the blocks' and the number is that of the result's block
-  cell-is : (j : ℕ) → j < length (a .arities) → (bs : List ℕ) → Args b (getD (a .arities) j 0) bs
+  cell-is : (j : ℕ) → j < length (a .arities) → (bs : List ℕ) → Args (length names) (getD (a .arities) j 0) bs
       → cellAt source (cellCount (a .size) (take j (a .arities))) bs ≡ blockOf m (value (a .size) (operationAt a j) (map (smallest (a .size) m) bs))
   unfolding source
   cell-is j l bs h =
@@ -88,7 +88,7 @@ module _ (a : Algebra) (ok : WellFormed a) (m : Map) (p : IsMap (a .size) m) (nu
       ext-getD 0 xs (map (smallest n m) bs) (length-map bs (byte names) ∙ sym (length-map bs (smallest n m)))
       (λ i k. let g : i < length bs = rw (length-map bs (byte names)) at k in
       map-at (byte names) bs i 0 0 g ∙ r .first (getD bs i 0) (h .below i (omega (arith, h .long))) ∙ sym (map-at (smallest n m) bs i 0 0 g)) in
-      let here : Args n s xs = args-map b n s (byte names) first-below bs h in
+      let here : Args n s xs = args-map (length names) n s (byte names) first-below bs h in
       let at : ℕ = cellCount n (take j (a .arities)) + place n xs in
       let in-cells : at < length (a .cells) =
       omega (arith, place-law n s xs here .0, ok .filled, cellCount-more n (a .arities) j l, cellCount-part n (a .arities) (suc j)) in
@@ -100,8 +100,8 @@ module _ (a : Algebra) (ok : WellFormed a) (m : Map) (p : IsMap (a .size) m) (nu
   table-is j l =
       let s : ℕ = getD (a .arities) j 0 in
       divided-cells source s (cellCount (a .size) (take j (a .arities)))
-      ∙ map-same (cellAt source (cellCount (a .size) (take j (a .arities)))) (λ bs. blockOf m (value (a .size) (operationAt a j) (map (smallest (a .size) m) bs))) (arguments b s)
-      (λ bs i. cell-is j l bs (of-arguments b s bs i))
+      ∙ map-same (cellAt source (cellCount (a .size) (take j (a .arities)))) (λ bs. blockOf m (value (a .size) (operationAt a j) (map (smallest (a .size) m) bs))) (arguments (length names) s)
+      (λ bs i. cell-is j l bs (of-arguments (length names) s bs i))
       ∙ ap (λ (k : ℕ). map (λ bs. blockOf m (value (a .size) (operationAt a j) (map (smallest (a .size) m) bs))) (arguments k s)) (r .count)
 
   cells-are : concatUpTo (dividedAt source (a .arities)) (length (a .arities)) ≡ quotientCells a m
@@ -118,19 +118,18 @@ module _ (a : Algebra) (ok : WellFormed a) (m : Map) (p : IsMap (a .size) m) (nu
       table-at g (length (a .arities)) j [] l ∙ table-is j l ∙ ap (quotientTable n m) (sym (operations-at n (a .arities) (a .cells) j none l))
       ∙ sym (map-at (quotientTable n m) ops j none [] (omega (arith, operations-long n (a .arities) (a .cells))))))
 
-  pub written-quotient : (lent out : List ℕ) → AllDivided (sourceOf (a .size) b (a .cells) numbers names) (a .arities) lent out → out ≡ written (quotientCells a m) lent
+  pub written-quotient : (lent out : List ℕ) → AllDivided (sourceOf (a .size) (a .cells) numbers names) (a .arities) lent out → out ≡ written (quotientCells a m) lent
   unfolding laid source
   written-quotient lent out e = e ∙ ap (λ (new : List ℕ). written new lent) cells-are
 
-  pub numbered-sound : a .size ≤ length numbers → a .size ≤ length names → SourceRight (sourceOf (a .size) b (a .cells) numbers names)
-  numbered-sound ln lf = record {
+  pub numbered-sound : a .size ≤ length numbers → SourceRight (sourceOf (a .size) (a .cells) numbers names)
+  numbered-sound ln = record {
     most = ok .most;
     few = omega (arith, r .count, blocks-le (a .size) m);
     cell = ok .below;
     first = first-below;
     numbers = ln;
-    names = omega (arith, r .count, blocks-le (a .size) m);
   }
 
-  pub numbered-fits : (lent : List ℕ) → cellCount (blocks (a .size) m) (a .arities) ≤ length lent → AllFit (sourceOf (a .size) b (a .cells) numbers names) (a .arities) lent
+  pub numbered-fits : (lent : List ℕ) → cellCount (blocks (a .size) m) (a .arities) ≤ length lent → AllFit (sourceOf (a .size) (a .cells) numbers names) (a .arities) lent
   numbered-fits lent h = record { arity = ok .arity; source = omega (arith, ok .filled); target = rw (r .count) h }

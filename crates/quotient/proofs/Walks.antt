@@ -50,12 +50,12 @@ tablesLaid-more {g} {lent} {to} {out} {k} {at} out′ s h e =
 
 -- ---- the walk over the blocks of a first argument
 
-pub divided-long : (q : Source) (s from : ℕ) → length (divided q s from) ≡ q .blocks ^ s
+pub divided-long : (q : Source) (s from : ℕ) → length (divided q s from) ≡ length (q .names) ^ s
 unfolding divided concatUpTo
-divided-long q zero from = sym (pow-zero (q .blocks))
+divided-long q zero from = sym (pow-zero (length (q .names)))
 divided-long q (suc s) from =
-    stretches (λ k. divided q s (from + byte (q .names) k * q .size ^ s)) (q .blocks ^ s) (λ k. divided-long q s (from + byte (q .names) k * q .size ^ s)) (q .blocks)
-    ∙ sym (pow-succ' (q .blocks) s)
+    stretches (λ k. divided q s (from + byte (q .names) k * q .size ^ s)) (length (q .names) ^ s) (λ k. divided-long q s (from + byte (q .names) k * q .size ^ s)) (length (q .names))
+    ∙ sym (pow-succ' (length (q .names)) s)
 
 -- the table with block k as its first argument
 abbrev pub inner : Source → ℕ → ℕ → ℕ → List ℕ
@@ -66,29 +66,29 @@ pub record Walked (q : Source) (s w v from : ℕ) (lent : List ℕ) (to : ℕ) (
   pub sound : SourceRight q
   pub fits : Fits q (suc s) from lent to
   pub wide : w ≡ q .size ^ s
-  pub tall : v ≡ q .blocks ^ s
-  pub upto : k ≤ q .blocks
+  pub tall : v ≡ length (q .names) ^ s
+  pub upto : k ≤ length (q .names)
   pub laid : TablesLaid (inner q s from) lent to out k at
 
-pub walked-start : {q : Source} {s w v from : ℕ} {lent : List ℕ} {to : ℕ} → SourceRight q → Fits q (suc s) from lent to → w ≡ q .size ^ s → v ≡ q .blocks ^ s
+pub walked-start : {q : Source} {s w v from : ℕ} {lent : List ℕ} {to : ℕ} → SourceRight q → Fits q (suc s) from lent to → w ≡ q .size ^ s → v ≡ length (q .names) ^ s
     → Walked q s w v from lent to lent 0 to
 walked-start {q} {s} {w} {v} {from} {lent} {to} ok f e d =
     record { sound = ok; fits = f; wide = e; tall = d; upto = omega arith; laid = tablesLaid-start (inner q s from) lent to }
 
 module _ {q : Source} {s w v from : ℕ} {lent : List ℕ} {to : ℕ} {out : List ℕ} {k at : ℕ} (r : Walked q s w v from lent to out k at) where
   -- the next inner table lies within the cells, and its quotient's within the lent bytes
-  pub walked-fits : (start : ℕ) → k < q .blocks → start ≡ from + byte (q .names) k * w → Fits q s start out at
+  pub walked-fits : (start : ℕ) → k < length (q .names) → start ≡ from + byte (q .names) k * w → Fits q s start out at
   unfolding concatUpTo
   walked-fits start l e =
-      let long : length (concat (map (inner q s from) (upTo k))) ≡ k * q .blocks ^ s =
-      stretches (inner q s from) (q .blocks ^ s) (λ i. divided-long q s (from + byte (q .names) i * q .size ^ s)) k in
+      let long : length (concat (map (inner q s from) (upTo k))) ≡ k * length (q .names) ^ s =
+      stretches (inner q s from) (length (q .names) ^ s) (λ i. divided-long q s (from + byte (q .names) i * q .size ^ s)) k in
       let i : start ≡ from + byte (q .names) k * q .size ^ s = e ∙ ap (λ (z : ℕ). from + byte (q .names) k * z) (r .wide) in
       record {
         source = omega (arith, r .fits .source, pow-succ' (q .size) s, suc-mul (byte (q .names) k) (q .size ^ s), mul-le-mul-right (q .size ^ s) (r .sound .first k l));
-        target = omega (arith, r .fits .target, r .laid .place, r .laid .long, pow-succ' (q .blocks) s, suc-mul k (q .blocks ^ s), mul-le-mul-right (q .blocks ^ s) l);
+        target = omega (arith, r .fits .target, r .laid .place, r .laid .long, pow-succ' (length (q .names)) s, suc-mul k (length (q .names) ^ s), mul-le-mul-right (length (q .names) ^ s) l);
       }
 
-  pub walked-more : (start : ℕ) (out′ : List ℕ) → k < q .blocks → start ≡ from + byte (q .names) k * w → out′ ≡ laid out at (divided q s start)
+  pub walked-more : (start : ℕ) (out′ : List ℕ) → k < length (q .names) → start ≡ from + byte (q .names) k * w → out′ ≡ laid out at (divided q s start)
       → Walked q s w v from lent to out′ (k + 1) (at + v)
   walked-more start out′ l e h =
       let long : length (inner q s from k) ≡ v = divided-long q s (from + byte (q .names) k * q .size ^ s) ∙ sym (r .tall) in
@@ -102,28 +102,28 @@ module _ {q : Source} {s w v from : ℕ} {lent : List ℕ} {to : ℕ} {out : Lis
         laid = rw (← long) (tablesLaid-more out′ (r .laid) (omega (arith, long, r .tall, walked-fits start l e .target, r .laid .long)) (h ∙ ap (λ (z : ℕ). laid out at (divided q s z)) i));
       }
 
-  pub walked-all : q .blocks ≤ k → out ≡ laid lent to (divided q (suc s) from)
+  pub walked-all : length (q .names) ≤ k → out ≡ laid lent to (divided q (suc s) from)
   unfolding divided
-  walked-all l = let e : k ≡ q .blocks = omega (arith, r .upto) in r .laid .laid ∙ ap (λ (i : ℕ). laid lent to (concatUpTo (inner q s from) i)) e
+  walked-all l = let e : k ≡ length (q .names) = omega (arith, r .upto) in r .laid .laid ∙ ap (λ (i : ℕ). laid lent to (concatUpTo (inner q s from) i)) e
 
 -- ---- a row
 
 -- a row whose argument has gone through k blocks
-pub record RowWalked (b : ℕ) (cells numbers names : List ℕ) (from : ℕ) (lent : List ℕ) (to : ℕ) (out : List ℕ) (k at : ℕ) : Type 0 where
-  pub fits : RowFits b cells numbers names from lent to
-  pub upto : k ≤ b
+pub record RowWalked (cells numbers names : List ℕ) (from : ℕ) (lent : List ℕ) (to : ℕ) (out : List ℕ) (k at : ℕ) : Type 0 where
+  pub fits : RowFits cells numbers names from lent to
+  pub upto : k ≤ length names
   pub place : at ≡ to + k
   pub laid : TablesLaid (λ i. cellDivided cells numbers (from + byte names i)) lent to out k at
 
-pub row-start : {b : ℕ} {cells numbers names : List ℕ} {from : ℕ} {lent : List ℕ} {to : ℕ} → RowFits b cells numbers names from lent to
-    → RowWalked b cells numbers names from lent to lent 0 to
-row-start {b} {cells} {numbers} {names} {from} {lent} {to} f =
+pub row-start : {cells numbers names : List ℕ} {from : ℕ} {lent : List ℕ} {to : ℕ} → RowFits cells numbers names from lent to
+    → RowWalked cells numbers names from lent to lent 0 to
+row-start {cells} {numbers} {names} {from} {lent} {to} f =
     record { fits = f; upto = omega arith; place = omega arith; laid = tablesLaid-start (λ i. cellDivided cells numbers (from + byte names i)) lent to }
 
-module _ {b : ℕ} {cells numbers names : List ℕ} {from : ℕ} {lent : List ℕ} {to : ℕ} {out : List ℕ} {k at : ℕ}
-    (r : RowWalked b cells numbers names from lent to out k at) where
-  pub row-more : (out′ : List ℕ) → k < b → out′ ≡ laid out at (cellDivided cells numbers (from + byte names k))
-      → RowWalked b cells numbers names from lent to out′ (k + 1) (at + 1)
+module _ {cells numbers names : List ℕ} {from : ℕ} {lent : List ℕ} {to : ℕ} {out : List ℕ} {k at : ℕ}
+    (r : RowWalked cells numbers names from lent to out k at) where
+  pub row-more : (out′ : List ℕ) → k < length names → out′ ≡ laid out at (cellDivided cells numbers (from + byte names k))
+      → RowWalked cells numbers names from lent to out′ (k + 1) (at + 1)
   row-more out′ l e = record {
     fits = r .fits;
     upto = omega arith;
@@ -131,28 +131,27 @@ module _ {b : ℕ} {cells numbers names : List ℕ} {from : ℕ} {lent : List �
     laid = tablesLaid-more out′ (r .laid) (omega (arith, r .fits .target, r .place)) e;
   }
 
-  pub row-all : b ≤ k → out ≡ laid lent to (rowDivided b cells numbers names from)
+  pub row-all : length names ≤ k → out ≡ laid lent to (rowDivided cells numbers names from)
   row-all l =
       r .laid .laid
       ∙ ap (λ (i : ℕ). laid lent to (concatUpTo (λ j. cellDivided cells numbers (from + byte names j)) i)) (omega (arith, r .upto))
 
 -- a row is a table of arity 1
-row-divided : (q : Source) (from : ℕ) → rowDivided (q .blocks) (q .cells) (q .numbers) (q .names) from ≡ divided q 1 from
+row-divided : (q : Source) (from : ℕ) → rowDivided (q .cells) (q .numbers) (q .names) from ≡ divided q 1 from
 unfolding divided
 row-divided q from = simp (pow-zero, mul-one)
 
-pub laid-row : (q : Source) (from : ℕ) (lent : List ℕ) (to : ℕ) (out : List ℕ) → out ≡ laid lent to (rowDivided (q .blocks) (q .cells) (q .numbers) (q .names) from)
+pub laid-row : (q : Source) (from : ℕ) (lent : List ℕ) (to : ℕ) (out : List ℕ) → out ≡ laid lent to (rowDivided (q .cells) (q .numbers) (q .names) from)
     → out ≡ laid lent to (divided q 1 from)
 laid-row q from lent to out e = e ∙ ap (laid lent to) (row-divided q from)
 
-pub fits-row : {q : Source} {from : ℕ} {lent : List ℕ} {to : ℕ} → SourceRight q → Fits q 1 from lent to → RowFits (q .blocks) (q .cells) (q .numbers) (q .names) from lent to
+pub fits-row : {q : Source} {from : ℕ} {lent : List ℕ} {to : ℕ} → SourceRight q → Fits q 1 from lent to → RowFits (q .cells) (q .numbers) (q .names) from lent to
 fits-row {q} {from} ok f =
-    let below : (k : ℕ) → k < q .blocks → from + byte (q .names) k < length (q .cells) = λ k l. omega (arith, f .source, power-one (q .size), ok .first k l) in
+    let below : (k : ℕ) → k < length (q .names) → from + byte (q .names) k < length (q .cells) = λ k l. omega (arith, f .source, power-one (q .size), ok .first k l) in
     record {
-      enough = ok .names;
       cell = below;
       number = λ k l. omega (arith, ok .cell (from + byte (q .names) k) (below k l), ok .numbers);
-      target = omega (arith, f .target, power-one (q .blocks));
+      target = omega (arith, f .target, power-one (length (q .names)));
     }
 
 -- a cell is a table of arity 0
@@ -160,4 +159,4 @@ pub fits-cell : {q : Source} {from : ℕ} {lent : List ℕ} {to : ℕ} → Sourc
     → (from < length (q .cells)) × ((byte (q .cells) from < length (q .numbers)) × (to < length lent))
 fits-cell {q} {from} ok f =
     let l : from < length (q .cells) = omega (arith, f .source, pow-zero (q .size)) in
-    (l, (omega (arith, ok .cell from l, ok .numbers), omega (arith, f .target, pow-zero (q .blocks))))
+    (l, (omega (arith, ok .cell from l, ok .numbers), omega (arith, f .target, pow-zero (length (q .names)))))

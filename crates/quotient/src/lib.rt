@@ -27,6 +27,6 @@ pub fn divide(n: usize, arities: &[u8], cells: &[u8], map: &[u8], out: &mut [u8]
     let mut block_numbers = [0; 64];
     let mut names = [0; 64];
     let b = numbers::number_blocks(n, map, &mut block_numbers, &mut names);
-    tables::divide_tables(n, b, arities, cells, &block_numbers, &names, out);
+    tables::divide_tables(n, arities, cells, &block_numbers, &names[0..b], out);
     b as u8
 }

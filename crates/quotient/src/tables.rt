@@ -1,5 +1,5 @@
 // The tables over blocks. An operation's table begins at `from` in the cells, its quotient's at `to` in the lent bytes. `numbers` has each
-// element's block number and `names` each block's smallest member, at which the cells are read.
+// element's block number and `names`, as long as there are blocks, each block's smallest member, at which the cells are read.
 ghost use mathlib.Core.Path.{_≡_};
 ghost use Prim.Native.Nat.{_+_, _*_, _<_, _≤_};
 ghost use lib.ListN.{length};
@@ -22,21 +22,13 @@ fn divide_cell(cells: &[u8], from: usize, numbers: &[u8], out: &mut [u8], to: us
 }
 
 // Arity 1: a cell for each block.
-fn divide_row(
-    b: usize,
-    cells: &[u8],
-    from: usize,
-    numbers: &[u8],
-    names: &[u8],
-    out: &mut [u8],
-    to: usize,
-)
-    requires { ⌜ RowFits b (now cells) (now numbers) (now names) from (now out) to ⌝ }
-    ensures { λ _. ⌜ now (out .exit) ≡ laid (now (out .entry)) to (rowDivided b (now (cells .entry)) (now (numbers .entry)) (now (names .entry)) from) ⌝ }
+fn divide_row(cells: &[u8], from: usize, numbers: &[u8], names: &[u8], out: &mut [u8], to: usize)
+    requires { ⌜ RowFits (now cells) (now numbers) (now names) from (now out) to ⌝ }
+    ensures { λ _. ⌜ now (out .exit) ≡ laid (now (out .entry)) to (rowDivided (now (cells .entry)) (now (numbers .entry)) (now (names .entry)) from) ⌝ }
 {
     let mut k = 0;
     let mut at = to;
-    while k < b {
+    while k < names.len() {
         let first = names[k] as usize;
         divide_cell(cells, from + first, numbers, out, at);
         at += 1;
@@ -47,7 +39,6 @@ fn divide_row(
 // Arity 2: a row for each block of the first argument.
 fn divide_plane(
     n: usize,
-    b: usize,
     cells: &[u8],
     from: usize,
     numbers: &[u8],
@@ -55,16 +46,16 @@ fn divide_plane(
     out: &mut [u8],
     to: usize,
 )
-    requires { ⌜ SourceRight (sourceIn n b cells numbers names) ⌝ }
-    requires { ⌜ Fits (sourceIn n b cells numbers names) 2 from (now out) to ⌝ }
-    ensures { λ _. ⌜ now (out .exit) ≡ laid (now (out .entry)) to (divided (sourceIn n b (cells .entry) (numbers .entry) (names .entry)) 2 from) ⌝ }
+    requires { ⌜ SourceRight (sourceIn n cells numbers names) ⌝ }
+    requires { ⌜ Fits (sourceIn n cells numbers names) 2 from (now out) to ⌝ }
+    ensures { λ _. ⌜ now (out .exit) ≡ laid (now (out .entry)) to (divided (sourceIn n (cells .entry) (numbers .entry) (names .entry)) 2 from) ⌝ }
 {
     let mut k = 0;
     let mut at = to;
-    while k < b {
+    while k < names.len() {
         let first = names[k] as usize;
-        divide_row(b, cells, from + first * n, numbers, names, out, at);
-        at += b;
+        divide_row(cells, from + first * n, numbers, names, out, at);
+        at += names.len();
         k += 1;
     }
 }
@@ -72,7 +63,6 @@ fn divide_plane(
 // Arity 3: a plane for each block of the first argument.
 fn divide_cube(
     n: usize,
-    b: usize,
     cells: &[u8],
     from: usize,
     numbers: &[u8],
@@ -80,17 +70,17 @@ fn divide_cube(
     out: &mut [u8],
     to: usize,
 )
-    requires { ⌜ SourceRight (sourceIn n b cells numbers names) ⌝ }
-    requires { ⌜ Fits (sourceIn n b cells numbers names) 3 from (now out) to ⌝ }
-    ensures { λ _. ⌜ now (out .exit) ≡ laid (now (out .entry)) to (divided (sourceIn n b (cells .entry) (numbers .entry) (names .entry)) 3 from) ⌝ }
+    requires { ⌜ SourceRight (sourceIn n cells numbers names) ⌝ }
+    requires { ⌜ Fits (sourceIn n cells numbers names) 3 from (now out) to ⌝ }
+    ensures { λ _. ⌜ now (out .exit) ≡ laid (now (out .entry)) to (divided (sourceIn n (cells .entry) (numbers .entry) (names .entry)) 3 from) ⌝ }
 {
     let plane = n * n;
-    let square = b * b;
+    let square = names.len() * names.len();
     let mut k = 0;
     let mut at = to;
-    while k < b {
+    while k < names.len() {
         let first = names[k] as usize;
-        divide_plane(n, b, cells, from + first * plane, numbers, names, out, at);
+        divide_plane(n, cells, from + first * plane, numbers, names, out, at);
         at += square;
         k += 1;
     }
@@ -98,9 +88,8 @@ fn divide_cube(
 
 // The table of an operation of any arity.
 fn divide_table(
-    s: usize,
     n: usize,
-    b: usize,
+    s: usize,
     cells: &[u8],
     from: usize,
     numbers: &[u8],
@@ -109,40 +98,39 @@ fn divide_table(
     to: usize,
 )
     requires { ⌜ s ≤ 3 ⌝ }
-    requires { ⌜ SourceRight (sourceIn n b cells numbers names) ⌝ }
-    requires { ⌜ Fits (sourceIn n b cells numbers names) s from (now out) to ⌝ }
-    ensures { λ _. ⌜ now (out .exit) ≡ laid (now (out .entry)) to (divided (sourceIn n b (cells .entry) (numbers .entry) (names .entry)) s from) ⌝ }
+    requires { ⌜ SourceRight (sourceIn n cells numbers names) ⌝ }
+    requires { ⌜ Fits (sourceIn n cells numbers names) s from (now out) to ⌝ }
+    ensures { λ _. ⌜ now (out .exit) ≡ laid (now (out .entry)) to (divided (sourceIn n (cells .entry) (numbers .entry) (names .entry)) s from) ⌝ }
 {
     match s {
         0 => divide_cell(cells, from, numbers, out, to),
-        1 => divide_row(b, cells, from, numbers, names, out, to),
-        2 => divide_plane(n, b, cells, from, numbers, names, out, to),
-        _ => divide_cube(n, b, cells, from, numbers, names, out, to),
+        1 => divide_row(cells, from, numbers, names, out, to),
+        2 => divide_plane(n, cells, from, numbers, names, out, to),
+        _ => divide_cube(n, cells, from, numbers, names, out, to),
     }
 }
 
 // The tables of all operations, one after the other.
 pub fn divide_tables(
     n: usize,
-    b: usize,
     arities: &[u8],
     cells: &[u8],
     numbers: &[u8],
     names: &[u8],
     out: &mut [u8],
 )
-    requires { ⌜ SourceRight (sourceIn n b cells numbers names) ⌝ }
-    requires { ⌜ AllFit (sourceIn n b cells numbers names) (now arities) (now out) ⌝ }
-    ensures { λ _. ⌜ AllDivided (sourceIn n b (cells .entry) (numbers .entry) (names .entry)) (now (arities .entry)) (now (out .entry)) (now (out .exit)) ⌝ }
+    requires { ⌜ SourceRight (sourceIn n cells numbers names) ⌝ }
+    requires { ⌜ AllFit (sourceIn n cells numbers names) (now arities) (now out) ⌝ }
+    ensures { λ _. ⌜ AllDivided (sourceIn n (cells .entry) (numbers .entry) (names .entry)) (now (arities .entry)) (now (out .entry)) (now (out .exit)) ⌝ }
 {
     let mut j = 0;
     let mut from = 0;
     let mut to = 0;
     while j < arities.len() {
         let s = arities[j] as usize;
-        divide_table(s, n, b, cells, from, numbers, names, out, to);
+        divide_table(n, s, cells, from, numbers, names, out, to);
         from += algebra::power(n, s);
-        to += algebra::power(b, s);
+        to += algebra::power(names.len(), s);
         j += 1;
     }
 }

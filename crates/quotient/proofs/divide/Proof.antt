@@ -1,10 +1,12 @@
 -- `quotient::divide` meets its contract. The blocks are numbered, the tables are walked, and what the walk writes is the quotient's cells.
+use Prim.Native.Nat.{_-_}
 use native.Mathlib.Omega.{arith}
 use borrow.Author.Needs.{needs}
 use Rattle.equivalence.proofs.BlockNumbers.{blocks-le}
 use Rattle.equivalence.proofs.Maps.{of-isMap}
 use Rattle.algebra.specs.Algebra.{algebraOf}
 use Rattle.algebra.proofs.Accepted.{accepted-wellFormed}
+use Rattle.quotient.proofs.Numbering.{numbered-front}
 use Rattle.quotient.proofs.QuotientTables.{written-quotient, numbered-sound, numbered-fits}
 use Rattle.quotient.proofs.divide.Statement.{statement}
 use Rattle.quotient.proofs.divide.Tie as tie
@@ -18,43 +20,57 @@ slice-aggregate-number-blocks-2 c = search needs
 number-blocks-requires : tie.Need-number-blocks-requires
 number-blocks-requires c κs =
     let s = c .before .before .before .before .before .before in
-    let ok = accepted-wellFormed (algebraOf (s .args .n) (s .args .arities .now) (s .args .cells .now)) (s .pre .0) in
+    let a = algebraOf (s .args .n) (s .args .arities .now) (s .args .cells .now) in
+    let ok = accepted-wellFormed a (s .pre .0) in
     (ok .most, (ok .most, (ok .most, s .pre .1 .0)))
 
 slice-aggregate-divide-tables : tie.Need-slice-aggregate-divide-tables
 slice-aggregate-divide-tables c = search needs
 
-slice-aggregate-divide-tables-2 : tie.Need-slice-aggregate-divide-tables-2
-slice-aggregate-divide-tables-2 c = search needs
+sub-divide-tables : tie.Need-sub-divide-tables
+sub-divide-tables c = search needs
+
+part-divide-tables-start : tie.Need-part-divide-tables-start
+part-divide-tables-start c = search needs
+
+part-divide-tables-end : tie.Need-part-divide-tables-end
+part-divide-tables-end c =
+    let s = c .before .before .before .before .before .before .before .before .before .before .before in
+    let a = algebraOf (s .args .n) (s .args .arities .now) (s .args .cells .now) in
+    let ok = accepted-wellFormed a (s .pre .0) in
+    omega (arith, ok .most, c .before .before .before .before .number-blocks .ensures .count, blocks-le (s .args .n) (s .args .map .now), c .before .before .before .before .number-blocks .kept .1 .1 .1 .0)
 
 divide-tables-requires : tie.Need-divide-tables-requires
 divide-tables-requires c κs =
-    let s = c .before .before .before .before .before .before .before .before .before .before .before .before in
-    let r = c .before .before .before .before .before .number-blocks in
+    let s = c .before .before .before .before .before .before .before .before .before .before .before .before .before in
     let a = algebraOf (s .args .n) (s .args .arities .now) (s .args .cells .now) in
     let ok = accepted-wellFormed a (s .pre .0) in
-    let p = of-isMap (s .args .n) (s .args .map .now) (s .pre .1 .0) in (
-      numbered-sound a ok (s .args .map .now) p _ _ _ (r .ensures) (omega (arith, ok .most, r .kept .1 .1 .0)) (omega (arith, ok .most, r .kept .1 .1 .1 .0)),
-      numbered-fits a ok (s .args .map .now) p _ _ _ (r .ensures) _ (s .pre .1 .1),
-    )
+    let r = c .before .before .before .before .before .before .number-blocks in
+    let p = of-isMap (s .args .n) (s .args .map .now) (s .pre .1 .0) in
+    let few = blocks-le (s .args .n) (s .args .map .now) in
+    let front = numbered-front _ _ _ _ _ (r .result - 0) (omega arith) (omega (arith, ok .most, few, r .ensures .count, r .kept .1 .1 .1 .0)) (r .ensures) in
+    (numbered-sound a ok (s .args .map .now) p _ _ front (omega (arith, ok .most, r .kept .1 .1 .0)), numbered-fits a ok (s .args .map .now) p _ _ front _ (s .pre .1 .1))
 
 cast-result : tie.Need-cast-result
 cast-result c =
-    let s = c .before .before .before .before .before .before .before .before .before .before .before .before .before .before .before in
-    let ok = accepted-wellFormed (algebraOf (s .args .n) (s .args .arities .now) (s .args .cells .now)) (s .pre .0) in
-    omega (arith, ok .most, c .before .before .before .before .before .before .before .before .number-blocks .ensures .count, blocks-le (s .args .n) (s .args .map .now))
+    let s = c .before .before .before .before .before .before .before .before .before .before .before .before .before .before .before .before in
+    let a = algebraOf (s .args .n) (s .args .arities .now) (s .args .cells .now) in
+    let ok = accepted-wellFormed a (s .pre .0) in
+    omega (arith, ok .most, c .before .before .before .before .before .before .before .before .before .number-blocks .ensures .count, blocks-le (s .args .n) (s .args .map .now))
 
 same-length : tie.Need-same-length
 same-length c = search needs
 
 returns : tie.Need-returns
 returns c =
-    let s = c .before .before .before .before .before .before .before .before .before .before .before .before .before .before .before in
-    let r = c .before .before .before .before .before .before .before .before .number-blocks in
+    let s = c .before .before .before .before .before .before .before .before .before .before .before .before .before .before .before .before in
     let a = algebraOf (s .args .n) (s .args .arities .now) (s .args .cells .now) in
     let ok = accepted-wellFormed a (s .pre .0) in
+    let r = c .before .before .before .before .before .before .before .before .before .number-blocks in
     let p = of-isMap (s .args .n) (s .args .map .now) (s .pre .1 .0) in
-    (written-quotient a ok (s .args .map .now) p _ _ _ (r .ensures) _ _ (c .before .before .divide-tables .ensures), r .ensures .count)
+    let few = blocks-le (s .args .n) (s .args .map .now) in
+    let front = numbered-front _ _ _ _ _ (r .result - 0) (omega arith) (omega (arith, ok .most, few, r .ensures .count, r .kept .1 .1 .1 .0)) (r .ensures) in
+    (written-quotient a ok (s .args .map .now) p _ _ front _ _ (c .before .before .divide-tables .ensures), r .ensures .count)
 
 pub divide-spec : {M : Type 1} → statement M
 divide-spec =
@@ -64,7 +80,9 @@ divide-spec =
     slice-aggregate-number-blocks-2
     number-blocks-requires
     slice-aggregate-divide-tables
-    slice-aggregate-divide-tables-2
+    sub-divide-tables
+    part-divide-tables-start
+    part-divide-tables-end
     divide-tables-requires
     cast-result
     same-length

@@ -3,6 +3,7 @@ use Prim.Native.Nat.{_-_, _≤_}
 use mathlib.Core.Path.{refl, sym}
 use native.Mathlib.Nat.{mul-le-mul}
 use native.Mathlib.Omega.{arith}
+use lib.ListN.{length}
 use borrow.Author.Needs.{needs}
 use Rattle.algebra.proofs.Powers.{power-two}
 use Rattle.quotient.specs.InnerTables.{sourceOf}
@@ -11,10 +12,10 @@ use Rattle.quotient.proofs.tables.divide_cube.Statement.{statement}
 use Rattle.quotient.proofs.tables.divide_cube.Tie as tie
 
 abbrev Inv-loop : tie.InvT-loop
-Inv-loop n b cells from numbers names out₀ to plane square k₀ at₀ out k at = Walked (sourceOf n b cells numbers names) 2 plane square from out₀ to out k at
+Inv-loop n cells from numbers names out₀ to plane square k₀ at₀ out k at = Walked (sourceOf n cells numbers names) 2 plane square from out₀ to out k at
 
 abbrev μ-loop : tie.MeasureT-loop
-μ-loop n b cells from numbers names out₀ to plane square k₀ at₀ out k at = b - k
+μ-loop n cells from numbers names out₀ to plane square k₀ at₀ out k at = length names - k
 
 mul-plane : tie.Need-mul-plane Inv-loop μ-loop
 mul-plane c = let s = c .before .before .before .before in omega (arith, mul-le-mul (s .pre .0 .most) (s .pre .0 .most))
@@ -22,14 +23,14 @@ mul-plane c = let s = c .before .before .before .before in omega (arith, mul-le-
 mul-square : tie.Need-mul-square Inv-loop μ-loop
 mul-square c =
     let s = c .before .before .before .before in
-    let l : s .args .b ≤ 64 = omega (arith, s .pre .0 .few, s .pre .0 .most) in
+    let l : length (s .args .names .now) ≤ 64 = omega (arith, s .pre .0 .few, s .pre .0 .most) in
     omega (arith, mul-le-mul l l)
 
 loop-holds : tie.Need-loop-holds Inv-loop μ-loop
-loop-holds c = let s = c .before .before .before .before in walked-start (s .pre .0) (s .pre .1) (sym (power-two (s .args .n))) (sym (power-two (s .args .b)))
+loop-holds c = let s = c .before .before .before .before in walked-start (s .pre .0) (s .pre .1) (sym (power-two (s .args .n))) (sym (power-two (length (s .args .names .now))))
 
 shared-slice-read-first : tie.Need-shared-slice-read-first Inv-loop μ-loop
-shared-slice-read-first c = omega (arith, c .before .before .loop .inv .sound .names)
+shared-slice-read-first c = search needs
 
 cast-first : tie.Need-cast-first Inv-loop μ-loop
 cast-first c = omega (arith, c .shared-slice-known4 .given (c .before .before .loop .k))

@@ -2,6 +2,7 @@
 use Prim.Native.Nat.{_-_}
 use mathlib.Core.Path.{refl, sym}
 use native.Mathlib.Omega.{arith}
+use lib.ListN.{length}
 use borrow.Author.Needs.{needs}
 use Rattle.algebra.proofs.Powers.{power-one}
 use Rattle.quotient.specs.InnerTables.{sourceOf}
@@ -10,16 +11,16 @@ use Rattle.quotient.proofs.tables.divide_plane.Statement.{statement}
 use Rattle.quotient.proofs.tables.divide_plane.Tie as tie
 
 abbrev Inv-loop : tie.InvT-loop
-Inv-loop n b cells from numbers names out₀ to k₀ at₀ out k at = Walked (sourceOf n b cells numbers names) 1 n b from out₀ to out k at
+Inv-loop n cells from numbers names out₀ to k₀ at₀ out k at = Walked (sourceOf n cells numbers names) 1 n (length names) from out₀ to out k at
 
 abbrev μ-loop : tie.MeasureT-loop
-μ-loop n b cells from numbers names out₀ to k₀ at₀ out k at = b - k
+μ-loop n cells from numbers names out₀ to k₀ at₀ out k at = length names - k
 
 loop-holds : tie.Need-loop-holds Inv-loop μ-loop
-loop-holds c = let s = c .before .before .before .before in walked-start (s .pre .0) (s .pre .1) (sym (power-one (s .args .n))) (sym (power-one (s .args .b)))
+loop-holds c = let s = c .before .before .before .before in walked-start (s .pre .0) (s .pre .1) (sym (power-one (s .args .n))) (sym (power-one (length (s .args .names .now))))
 
 shared-slice-read-first : tie.Need-shared-slice-read-first Inv-loop μ-loop
-shared-slice-read-first c = omega (arith, c .before .before .loop .inv .sound .names)
+shared-slice-read-first c = search needs
 
 cast-first : tie.Need-cast-first Inv-loop μ-loop
 cast-first c = omega (arith, c .shared-slice-known4 .given (c .before .before .loop .k))

@@ -1,22 +1,23 @@
 -- `quotient::tables::divide_row` meets its contract. The invariant: the cells of k blocks are laid. The measure is the number of blocks left.
 use Prim.Native.Nat.{_-_}
 use native.Mathlib.Omega.{arith}
+use lib.ListN.{length}
 use borrow.Author.Needs.{needs}
 use Rattle.quotient.proofs.Walks.{RowWalked, row-start, row-more, row-all}
 use Rattle.quotient.proofs.tables.divide_row.Statement.{statement}
 use Rattle.quotient.proofs.tables.divide_row.Tie as tie
 
 abbrev Inv-loop : tie.InvT-loop
-Inv-loop b cells from numbers names out₀ to k₀ at₀ out k at = RowWalked b cells numbers names from out₀ to out k at
+Inv-loop cells from numbers names out₀ to k₀ at₀ out k at = RowWalked cells numbers names from out₀ to out k at
 
 abbrev μ-loop : tie.MeasureT-loop
-μ-loop b cells from numbers names out₀ to k₀ at₀ out k at = b - k
+μ-loop cells from numbers names out₀ to k₀ at₀ out k at = length names - k
 
 loop-holds : tie.Need-loop-holds Inv-loop μ-loop
 loop-holds c = row-start (c .before .before .before .before .pre)
 
 shared-slice-read-first : tie.Need-shared-slice-read-first Inv-loop μ-loop
-shared-slice-read-first c = omega (arith, c .before .before .loop .inv .fits .enough)
+shared-slice-read-first c = search needs
 
 cast-first : tie.Need-cast-first Inv-loop μ-loop
 cast-first c = omega (arith, c .shared-slice-known4 .given (c .before .before .loop .k))

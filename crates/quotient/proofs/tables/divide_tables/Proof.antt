@@ -9,10 +9,10 @@ use Rattle.quotient.proofs.tables.divide_tables.Statement.{statement}
 use Rattle.quotient.proofs.tables.divide_tables.Tie as tie
 
 abbrev Inv-loop : tie.InvT-loop
-Inv-loop n b arities cells numbers names out₀ j₀ from₀ to₀ out j from to = Divided (sourceOf n b cells numbers names) arities out₀ out j from to
+Inv-loop n arities cells numbers names out₀ j₀ from₀ to₀ out j from to = Divided (sourceOf n cells numbers names) arities out₀ out j from to
 
 abbrev μ-loop : tie.MeasureT-loop
-μ-loop n b arities cells numbers names out₀ j₀ from₀ to₀ out j from to = length arities - j
+μ-loop n arities cells numbers names out₀ j₀ from₀ to₀ out j from to = length arities - j
 
 loop-holds : tie.Need-loop-holds Inv-loop μ-loop
 loop-holds c = let s = c .before .before .before .before .before in divided-start (s .pre .0) (s .pre .1)
