@@ -15,7 +15,8 @@ use Rattle.equivalence.specs.Equivalence.{Map, byte, holds, mapOf, identity, wh
 use Rattle.equivalence.proofs.AllMaps.{maps-sound, maps-complete}
 use Rattle.equivalence.proofs.Joins.{join-law}
 use Rattle.equivalence.proofs.Lists.{every-of, of-every, keep-member, of-keep, below-of, of-below}
-use Rattle.equivalence.proofs.Maps.{Holds, holds-of, of-holds, IsMap, isMap-of, of-isMap, Inside, IsEquivalence, mapOf-holds, of-mapOf, mapOf-map, identity-map, identity-discrete, whole-map, whole-holds}
+use Rattle.equivalence.proofs.Maps.{Holds, holds-of, of-holds, IsMap, isMap-of, of-isMap, Inside, IsEquivalence, mapOf-holds}
+use Rattle.equivalence.proofs.Maps.{of-mapOf, mapOf-map, identity-map, identity-discrete, whole-map, whole-holds}
 use Rattle.equivalence.proofs.Meets.{meet-map, meet-holds, of-meet}
 use Rattle.equivalence.proofs.Tests.{implies, implied}
 use Rattle.algebra.specs.Algebra.{Algebra, Operation, operationsOf, operations, arguments, place, value}
@@ -23,9 +24,14 @@ use Rattle.algebra.specs.Congruence.{respects, isCongruence, Congruence,
 use Rattle.algebra.proofs.Accepted.{WellFormed}
 use Rattle.algebra.proofs.Arguments.{Args, arguments-of, of-arguments, args-set}
 
-abbrev pub Respects : ℕ → Map → Operation → Type 0
-Respects n m f =
+-- one argument replaced by an equivalent element gives an equivalent result
+abbrev pub OneByOne : ℕ → Map → Operation → Type 0
+OneByOne n m f =
     (xs : List ℕ) → Args n (f .arity) xs → (i y : ℕ) → i < f .arity → y < n → Holds m (getD xs i 0) y → Holds m (value n f xs) (value n f (set xs i y))
+
+-- what `respects` says: `respects-of` and `of-respects` alone see its text
+abbrev pub Respects : ℕ → Map → Operation → Type 0
+Respects n m f = OneByOne n m f
 
 pub respects-of : (n : ℕ) (m : Map) (f : Operation) → Respects n m f → T (respects n m f)
 unfolding respects
@@ -63,6 +69,14 @@ congruence-of a m c =
       map = isMap-of (a .size) m (c .map);
       respects = every-of (respects (a .size) m) (operations a) (λ f i. respects-of (a .size) m f (c .respects f i));
     }
+
+-- What goes by one argument at a time cites these two, and not the definition: every congruence does so, and in a well-formed algebra what does so is
+-- a congruence.
+pub respects-one : (a : Algebra) (m : Map) → IsCongruence a m → (f : Operation) → Member f (operations a) → OneByOne (a .size) m f
+respects-one a m c f i = c .respects f i
+
+pub congruence-by-one : (a : Algebra) → WellFormed a → (m : Map) → IsMap (a .size) m → ((f : Operation) → Member f (operations a) → OneByOne (a .size) m f) → IsCongruence a m
+congruence-by-one a w m p h = record { map = p; respects = h }
 
 pub member-congruences : (a : Algebra) (m : Map) → IsCongruence a m → Member m (congruences a)
 unfolding congruences
@@ -166,17 +180,15 @@ module _ (a : Algebra) (c : WellFormed a) (d e : Map) (p : IsCongruence a d) (q 
           (from x y
           (s (value (a .size) f (set xs i x)) (value (a .size) f (set xs i y)) (value-below a c f m (set xs i x)) (value-below a c f m (set xs i y))
           (subst (λ (z : List ℕ). Holds g (value (a .size) f (set xs i x)) (value (a .size) f z)) (set-set xs i x y)
-          (r .respects f m (set xs i x) (args-set (a .size) (f .arity) xs h i x j) i y l o
+          (respects-one a g r f m (set xs i x) (args-set (a .size) (f .arity) xs h i x j) i y l o
           (rw (getD-set-same xs i x 0 (omega (arith, h .long))) t)))))
 
   pub join-congruence : IsCongruence a (join (a .size) d e)
   join-congruence =
-      record {
-        map = join-law (a .size) d e .map;
-        respects = λ f m xs h i y l k g.
-            subst (λ (z : List ℕ). Holds (join (a .size) d e) (value (a .size) f z) (value (a .size) f (set xs i y))) (set-getD xs i 0)
-            (along f m xs h i l (getD xs i 0) y (h .below i l) k g);
-      }
+      congruence-by-one a c (join (a .size) d e) (join-law (a .size) d e .map)
+      (λ f m xs h i y l k g.
+      subst (λ (z : List ℕ). Holds (join (a .size) d e) (value (a .size) f z) (value (a .size) f (set xs i y))) (set-getD xs i 0)
+      (along f m xs h i l (getD xs i 0) y (h .below i l) k g))
 
 module _ (a : Algebra) (m : Map) (c : IsCongruence a m) (f : Operation) (i : Member f (operations a)) where
   many : (pre xs ys : List ℕ) → Args (a .size) (f .arity) (pre ++ xs) → length xs ≡ length ys → ((j : ℕ) → j < length ys → getD ys j 0 < a .size)
@@ -188,7 +200,7 @@ module _ (a : Algebra) (m : Map) (c : IsCongruence a m) (f : Operation) (i : Mem
       let k : length pre < f .arity = omega (arith, h .long, length-append pre (x ∷ xs)) in
       let b : y < a .size = l 0 (omega arith) in
       let one : Holds m (value (a .size) f (pre ++ (x ∷ xs))) (value (a .size) f (set (pre ++ (x ∷ xs)) (length pre) y)) =
-      c .respects f i (pre ++ (x ∷ xs)) h (length pre) y k b (rw (getD-append-seam pre x xs 0) (g 0 (omega arith))) in
+      respects-one a m c f i (pre ++ (x ∷ xs)) h (length pre) y k b (rw (getD-append-seam pre x xs 0) (g 0 (omega arith))) in
       let s : set (pre ++ (x ∷ xs)) (length pre) y ≡ (pre ++ (y ∷ [])) ++ xs = set-append-seam pre x xs y ∙ sym (append-snoc pre y xs) in
       let rest : Holds m (value (a .size) f ((pre ++ (y ∷ [])) ++ xs)) (value (a .size) f ((pre ++ (y ∷ [])) ++ ys)) =
       many (pre ++ (y ∷ [])) xs ys (subst (λ (z : List ℕ). Args (a .size) (f .arity) z) s (args-set (a .size) (f .arity) (pre ++ (x ∷ xs)) h (length pre) y b))

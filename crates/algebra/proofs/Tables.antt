@@ -3,13 +3,13 @@ use Prim.Native.Nat.{ℕ, zero, suc, _+_, _*_, _^_, _≤_, _<_}
 use mathlib.Core.List.{List, [], _∷_, _++_, List·Memᴰ as Member, List·Memᴰ·head as here, List·Memᴰ·tail as there, List·Memᴰ·not-nil as not-nil, List·Memᴰ·cases-cons as cases-cons}
 use mathlib.Core.Logic.{inl, inr}
 use mathlib.Core.Path.{_≡_, refl, sym, ap, subst, _∙_}
-use native.Mathlib.Nat.{pow-le-pow-left, pow-le-pow-right}
 use native.Mathlib.Numerals.{add-one}
 use native.Mathlib.Omega.{arith}
 use lib.ListN.{length, getD, take, drop, take-append-drop}
 use lib.Seq.{getD-take, getD-drop, take-suc, take-all, drop-drop}
 use Rattle.algebra.specs.Algebra.{Algebra, Operation, cellCount, operationsOf, operations, place, value}
 use Rattle.algebra.proofs.Arguments.{Args, place-law}
+use Rattle.algebra.proofs.Powers.{power-small}
 
 -- operation j: its cells begin behind those of the operations before it
 unfoldable pub operationAt : Algebra → ℕ → Operation
@@ -75,6 +75,14 @@ start-first n arities = refl
 pub start-last : (n : ℕ) (arities : List ℕ) (j : ℕ) → length arities ≤ j → cellCount n (take j arities) ≡ cellCount n arities
 start-last n arities j l = ap (cellCount n) (take-all j arities l)
 
+-- the sum over the tables below j: with the next, and at the end
+pub summed-more : (n : ℕ) (arities : List ℕ) (j : ℕ) {sum p : ℕ} → j < length arities → sum ≡ cellCount n (take j arities) → p ≡ n ^ getD arities j 0
+    → sum + p ≡ cellCount n (take (j + 1) arities)
+summed-more n arities j l e g = omega (arith, start-next n arities j l)
+
+pub summed-all : (n : ℕ) (arities : List ℕ) (j : ℕ) {sum : ℕ} → length arities ≤ j → sum ≡ cellCount n (take j arities) → sum ≡ cellCount n arities
+summed-all n arities j l e = e ∙ start-last n arities j l
+
 -- a table ends within the cells
 pub start-room : (n : ℕ) (arities : List ℕ) (j : ℕ) → j < length arities → cellCount n (take j arities) + n ^ getD arities j 0 ≤ cellCount n arities
 start-room n arities j l =
@@ -82,13 +90,14 @@ start-room n arities j l =
     ap (cellCount n) (sym (take-append-drop (j + 1) arities)) ∙ cellCount-append n (take (j + 1) arities) (drop (j + 1) arities) in
     omega (arith, start-next n arities j l)
 
--- powers of n stay small
-pub power-small : (n i : ℕ) → n ≤ 64 → i ≤ 3 → n ^ i ≤ 262144
-power-small n i l li =
-    let a : 64 ^ i ≤ 64 ^ 3 = pow-le-pow-right (omega arith) li in
-    omega (arith, pow-le-pow-left l i)
+-- powers stay small, and so do the sums over at most 16 tables
+module _ (n : ℕ) (arities : List ℕ) (l : n ≤ 64) (h : (i : ℕ) → i < length arities → getD arities i 0 ≤ 3) where
+  pub cellCount-small : (j : ℕ) → j ≤ length arities → cellCount n (take j arities) ≤ 262144 * j
+  cellCount-small zero k = omega (arith, start-first n arities)
+  cellCount-small (suc j) k =
+      rw (← add-one j)
+      (omega (arith, start-next n arities j (omega arith), cellCount-small j (omega arith), power-small n (getD arities j 0) l (h j (omega arith))))
 
-pub cellCount-small : (n : ℕ) (arities : List ℕ) (j : ℕ) → n ≤ 64 → j ≤ length arities → ((i : ℕ) → i < length arities → getD arities i 0 ≤ 3) → cellCount n (take j arities) ≤ 262144 * j
-cellCount-small n arities zero l k h = omega (arith, start-first n arities)
-cellCount-small n arities (suc j) l k h =
-    rw (← add-one j) (omega (arith, start-next n arities j (omega arith), cellCount-small n arities j l (omega arith) h, power-small n (getD arities j 0) l (h j (omega arith))))
+  pub summed-small : (j : ℕ) {sum p : ℕ} → length arities ≤ 16 → j < length arities → sum ≡ cellCount n (take j arities) → p ≡ n ^ getD arities j 0
+      → sum + p ≤ 262144 * 16
+  summed-small j most k e g = omega (arith, summed-more n arities j k e g, cellCount-small (j + 1) (omega arith))

@@ -5,23 +5,15 @@ ghost use lib.ListN.{length, getD};
 ghost use Rattle.equivalence.specs.Refusal.{lowest};
 ghost use Rattle.algebra.specs.Algebra.{algebraIn, cellCount};
 ghost use Rattle.algebra.specs.Accepted.{algebraTests};
-ghost use Rattle.kernel.specs.InnerLargest.{Larger, Largest};
+ghost use Rattle.kernel.specs.InnerLargest.{Largest};
+pub use equivalence::blocks::larger;
 
-// The largest number of elements, of operations, of arguments and of cells.
-const MAX_SIZE: usize = 64;
+// The largest number of operations, of arguments of one, and of cells of all tables together; of elements: `equivalence::checks::MAX_SIZE`.
+pub const MAX_OPERATIONS: usize = 16;
 
-const MAX_OPERATIONS: usize = 16;
+pub const MAX_ARITY: u8 = 3;
 
-const MAX_ARITY: u8 = 3;
-
-const MAX_CELLS: usize = 32768;
-
-// The larger of two.
-pub fn larger(a: u8, b: u8) -> u8
-    ensures { λ r. ⌜ Larger a b r ⌝ }
-{
-    if a < b { b } else { a }
-}
+pub const MAX_CELLS: usize = 32768;
 
 // The largest byte of s, or 0. The whole slice is read without an early exit, so that the loop can take many bytes at a time.
 fn largest(s: &[u8]) -> u8
@@ -71,10 +63,7 @@ pub fn cell_count(n: usize, arities: &[u8]) -> usize
 pub fn check(n: usize, arities: &[u8], cells: &[u8]) -> equivalence::Check
     ensures { λ r. ⌜ r ≡ lowest (algebraTests (algebraIn n (arities .entry) (cells .entry))) ⌝ }
 {
-    if n < 1 {
-        return equivalence::Check::Failed(equivalence::Refusal::Size);
-    }
-    if n > MAX_SIZE {
+    if !equivalence::checks::is_size(n) {
         return equivalence::Check::Failed(equivalence::Refusal::Size);
     }
     if arities.len() > MAX_OPERATIONS {

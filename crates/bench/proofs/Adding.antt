@@ -28,7 +28,7 @@ use Rattle.bench.specs.InnerGrowth.{MapGrown, SheetGrown}
 use Rattle.bench.specs.Promises.{LeastExtension}
 use Rattle.bench.specs.State.{mapOn, sheetOf, withSheet, withMap, raisedBy, blocksLost}
 use Rattle.bench.proofs.SheetMaps.{mapOn-sheetWith, withMap-same}
-use Rattle.bench.proofs.Testing.{done, refused, benched-cases, benched-append, Clearable, clear-passed, Addable, add-passed}
+use Rattle.bench.proofs.Testing.{doneWith, refused, benched-cases, benched-append, Clearable, clear-passed, Addable, add-passed}
 use Rattle.bench.specs.declared.Bench.{Bench}
 use Rattle.bench.specs.declared.Sheet.{Sheet}
 
@@ -37,7 +37,7 @@ module _ (b : Bench) (a : Algebra) (k x y : ℕ) where
   abbrev pub afterAdd : Bench
   afterAdd = raisedBy (lostByAdd b a k x y) (withMap b k (mapByAdd b a k x y))
 
-  pub add-cases : (Addable b a k x y × (addCall b a k x y ≡ done afterAdd)) ⊎ ((r : Refusal) × (addCall b a k x y ≡ refused r b))
+  pub add-cases : (Addable b a k x y × (addCall b a k x y ≡ doneWith afterAdd)) ⊎ ((r : Refusal) × (addCall b a k x y ≡ refused r b))
   unfolding addCall
   add-cases =
       elim (benched-cases (addTests b a k x y) afterAdd b) [
@@ -103,7 +103,7 @@ cleared-map b k p eight =
     ap (mapOn (b .n)) (withMap-same b k (identity (b .n)) (omega (arith, eight, p .sheet)))
     ∙ mapOn-sheetWith (b .n) (identity (b .n)) (sheetOf b k) (identity-map (b .n) .long)
 
-pub clear-cases : (b : Bench) (k : ℕ) → (Clearable b k × (clearCall b k ≡ done (withMap b k (identity (b .n))))) ⊎ ((r : Refusal) × (clearCall b k ≡ refused r b))
+pub clear-cases : (b : Bench) (k : ℕ) → (Clearable b k × (clearCall b k ≡ doneWith (withMap b k (identity (b .n))))) ⊎ ((r : Refusal) × (clearCall b k ≡ refused r b))
 unfolding clearCall
 clear-cases b k =
     elim (benched-cases (clearTests b k) (withMap b k (identity (b .n))) b) [

@@ -18,7 +18,7 @@ use Rattle.equivalence.proofs.Outcomes.{refusal-injective, success-apart}
 use Rattle.bench.specs.Calls.{sheetTest, benchTest, tallyTest, benched, startTests, startCall, placeTests, handedTests, addTests, addCall, clearTests, clearCall}
 use Rattle.bench.specs.Outcome.{answerOutcome}
 use Rattle.bench.specs.Reasons.{BenchReasons}
-use Rattle.bench.proofs.Testing.{done, refused}
+use Rattle.bench.proofs.Testing.{doneWith, refused}
 use Rattle.bench.specs.declared.Answer.the-variants.{Done, Refused}
 use Rattle.bench.specs.declared.Bench.{Bench}
 
@@ -44,7 +44,7 @@ refused-apart r s e = cc
 done-never : (r : Refusal) → ¬ (Done ≡ Refused r)
 done-never r e = let z : _≡_ {A = ℕ} 0 1 = cc in omega arith
 
-answer-by : (new other : Bench) (c : Check) → answered (λ r. refused r other) c (done new) .answer ≡ answered Refused c Done
+answer-by : (new other : Bench) (c : Check) → answered (λ r. refused r other) c (doneWith new) .answer ≡ answered Refused c Done
 unfolding answered
 answer-by new other Passed = refl
 answer-by new other (Failed r) = refl

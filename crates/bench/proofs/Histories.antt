@@ -26,7 +26,7 @@ use Rattle.bench.specs.State.{mapOn, zeroSheet, eightOf, freshBench, she
 use Rattle.bench.proofs.Adding.{afterAdd, add-cases, afterAdd-map, added-least, cleared-map, clear-cases}
 use Rattle.bench.proofs.SheetMaps.{mapOn-sheetWith}
 use Rattle.bench.proofs.Promises.{withMap-only, add-only, fresh-sheet}
-use Rattle.bench.proofs.Testing.{done, refused, benched-passed, Addable, Clearable}
+use Rattle.bench.proofs.Testing.{doneWith, refused, benched-passed, Addable, Clearable}
 use Rattle.bench.specs.declared.Bench.{Bench}
 use Rattle.bench.specs.declared.Benched.{Benched}
 
@@ -70,7 +70,7 @@ record Kept (h : History) : Type 0 where
   tally : h .bench .tally ≡ lostAfter 8 (h .made)
   eight : length (h .bench .sheets) ≡ 8
 
-start-kept : (h : History) (n : ℕ) → Kept (gave h (Start n) (done (freshBench n)))
+start-kept : (h : History) (n : ℕ) → Kept (gave h (Start n) (doneWith (freshBench n)))
 unfolding isDone onSheet sheetAfter lostAfter freshBench eightOf
 start-kept h n =
     record {
@@ -109,7 +109,7 @@ module _ (h : History) (p : Kept h) (c : Call) (k : ℕ) (m : Map) (more : ℕ) 
         | no e ↦ rw (q .others j e, q .only .size, q .only .others j e) (p .maps j o)
       ]
 
-  changed-kept : Kept (gave h c (done b))
+  changed-kept : Kept (gave h c (doneWith b))
   unfolding isDone sheetAfter
   changed-kept =
       record {
@@ -142,7 +142,7 @@ module _ (h : History) (p : Kept h) where
     unfolding lostByAdd
     more-lost = rw (new-map, old-map, ← p .size k, q .placed .faultless .size)
 
-    add-changed : addCall (h .bench) a k x y ≡ done (afterAdd (h .bench) a k x y)
+    add-changed : addCall (h .bench) a k x y ≡ doneWith (afterAdd (h .bench) a k x y)
         → Changed h (Add a k x y) k (mapByAdd (h .bench) a k x y) (lostByAdd (h .bench) a k x y) (afterAdd (h .bench) a k x y)
     unfolding onSheet raisedBy withMap withSheet
     add-changed e =
@@ -169,7 +169,7 @@ module _ (h : History) (p : Kept h) where
 
 -- ---- every call keeps it
 
-start-gave : (n : ℕ) → lowest (startTests n) ≡ Passed → startCall n ≡ done (freshBench n)
+start-gave : (n : ℕ) → lowest (startTests n) ≡ Passed → startCall n ≡ doneWith (freshBench n)
 unfolding startCall
 start-gave n e = benched-passed (startTests n) (freshBench n) _ e
 

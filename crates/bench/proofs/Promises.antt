@@ -1,7 +1,6 @@
 -- What the calls promise, proved of their definitions: a refusal alters nothing, a call touches its own sheet alone and no byte past n, and what
 -- each gives where it is accepted.
 use Prim.Native.Nat.{ℕ, zero, suc, _≤_, _<_}
-use mathlib.Core.List.{[]}
 use mathlib.Core.Logic.{inl, inr}
 use mathlib.Core.Path.{_≡_, refl, sym, ap, _∙_}
 use native.Mathlib.Omega.{arith}
@@ -16,7 +15,7 @@ use Rattle.bench.specs.Promises.{OnlySheet, StartPromise, AddPromise, Cl
 use Rattle.bench.specs.State.{mapOn, zeroSheet, sheetWith, eightOf, zeroBench, freshBench, noSheet, sheetOf, withSheet, withMap, raisedBy}
 use Rattle.bench.proofs.Adding.{afterAdd, add-cases, added-length, afterAdd-map, added-least, cleared-map, clear-cases}
 use Rattle.bench.proofs.SheetMaps.{mapOn-sheetWith, withMap-other, withMap-sheets, withMap-past}
-use Rattle.bench.proofs.Testing.{done, refused, benched-cases, size-passed, Addable}
+use Rattle.bench.proofs.Testing.{doneWith, refused, benched-cases, start-passed, Addable}
 use Rattle.bench.specs.declared.Answer.the-variants.{Done, Refused}
 use Rattle.bench.specs.declared.Bench.{Bench}
 use Rattle.bench.specs.declared.Benched.{Benched}
@@ -52,14 +51,14 @@ clear-only b k =
 
 -- ---- the promises
 
-never-refused : (r : Benched) (b : Bench) → r ≡ done b → (reason : Refusal) → ¬ (r .answer ≡ Refused reason)
+never-refused : (r : Benched) (b : Bench) → r ≡ doneWith b → (reason : Refusal) → ¬ (r .answer ≡ Refused reason)
 never-refused r b e reason f = let z : _≡_ {A = ℕ} 0 1 = cc in omega arith
 
 never-done : (r : Benched) (b : Bench) (reason : Refusal) → r ≡ refused reason b → ¬ (r .answer ≡ Done)
 never-done r b reason e f = let z : _≡_ {A = ℕ} 0 1 = cc in omega arith
 
 module _ (b : Bench) (a : Algebra) (k x y : ℕ) (eight : length (b .sheets) ≡ 8) where
-  add-accepted : Addable b a k x y → addCall b a k x y ≡ done (afterAdd b a k x y) → AddPromise b a k x y
+  add-accepted : Addable b a k x y → addCall b a k x y ≡ doneWith (afterAdd b a k x y) → AddPromise b a k x y
   unfolding raisedBy withMap withSheet lostByAdd sheetOf mapByAdd
   add-accepted p e =
       let new : mapOn (b .n) (sheetOf (addCall b a k x y .bench) k) ≡ mapByAdd b a k x y = rw e (afterAdd-map b a k x y p eight) in
@@ -122,7 +121,7 @@ start-promise n =
       | inl p ↦ record {
         size = λ f. rw (p .1);
         maps = λ f k l. rw (p .1, fresh-sheet n k l) (mapOn-sheetWith n (identity n) zeroSheet (identity-map n .long));
-        zeros = λ f k l x h. rw (p .1, fresh-sheet n k l) (fresh-zeros n x (size-passed n [] (p .0) .1) h);
+        zeros = λ f k l x h. rw (p .1, fresh-sheet n k l) (fresh-zeros n x (start-passed n (p .0)) h);
         tally = rw (p .1);
         refused = λ reason f. absurd (never-refused _ _ (p .1) reason f);
       }

@@ -3,37 +3,38 @@ use Prim.Native.Nat.{ℕ, _≤_, _<_}
 use mathlib.Core.Bool.{Bool, true, false, not, _||_}
 use mathlib.Core.List.{List, [], _∷_, _++_}
 use mathlib.Core.Logic.{_⊎_, inl, inr}
-use mathlib.Core.Path.{_≡_, refl, _∙_}
+use mathlib.Core.Path.{_≡_, refl, sym, ap, _∙_}
 use native.Mathlib.Decide.{decLt}
 use native.Mathlib.Omega.{arith}
-use lib.Dec.{T, eqb, ltb, eqb→eq, ltb→lt, lt→ltb}
+use lib.Dec.{T, T-not, eqb, ltb, eqb→eq, ltb→lt, lt→ltb}
 use lib.ListN.{length}
+use borrow.Author.Tests.{le-ltb, eq-eqb, ne-eqb, not-true, not-false}
 use Rattle.equivalence.specs.Equivalence.{isMap}
 use Rattle.equivalence.specs.Lists.{every}
 use Rattle.equivalence.specs.Refusal.{Test, lowest, sizeTest, answered, elementsTest}
-use Rattle.equivalence.proofs.Refusals.{lowest-none, lowest-next, lowest-here, of-passed, of-sizeTest, lowest-append, passed-append}
-use Rattle.equivalence.proofs.Tests.{not-T-of, or-left, or-right}
+use Rattle.equivalence.proofs.Refusals.{lowest-none, lowest-next, lowest-here, of-passed, of-sizeTest, size-refused, size-passed, lowest-append, lowest-failed, passed-append}
+use Rattle.equivalence.proofs.Tests.{T-of, or-left, or-right, or-cases}
 use Rattle.equivalence.specs.declared.Check.the-variants.{Passed, Failed}
 use Rattle.equivalence.specs.declared.Check.{Check}
 use Rattle.equivalence.specs.declared.Refusal.{Refusal}
-use Rattle.equivalence.specs.declared.Refusal.the-variants.{Tally}
+use Rattle.equivalence.specs.declared.Refusal.the-variants.{Size, Range, NotMap, Tally}
 use Rattle.algebra.specs.Accepted.{algebraTests, Accepted}
 use Rattle.algebra.specs.Algebra.{Algebra}
-use Rattle.bench.specs.Calls.{sheetTest, benchTest, tallyTest, placeTests, handedTests, clearTests, benched}
+use Rattle.bench.specs.Calls.{sheetTest, benchTest, tallyTest, startTests, placeTests, handedTests, clearTests, benched}
 use Rattle.bench.specs.State.{mapOn, sheetOf}
 use Rattle.bench.proofs.SheetMaps.{of-every-sheet}
 use Rattle.bench.specs.declared.Answer.the-variants.{Done, Refused}
 use Rattle.bench.specs.declared.Bench.{Bench}
 use Rattle.bench.specs.declared.Benched.{Benched}
 
-abbrev pub done : Bench → Benched
-done b = record { answer = Done; bench = b }
+abbrev pub doneWith : Bench → Benched
+doneWith b = record { answer = Done; bench = b }
 
 abbrev pub refused : Refusal → Bench → Benched
 refused r b = record { answer = Refused r; bench = b }
 
 module _ (tests : List Test) (new other : Bench) where
-  pub benched-passed : lowest tests ≡ Passed → benched tests new other ≡ done new
+  pub benched-passed : lowest tests ≡ Passed → benched tests new other ≡ doneWith new
   unfolding benched answered
   benched-passed e = rw e
 
@@ -42,13 +43,21 @@ module _ (tests : List Test) (new other : Bench) where
   benched-failed r e = rw e
 
   -- one or the other
-  pub benched-cases : ((lowest tests ≡ Passed) × (benched tests new other ≡ done new)) ⊎ ((r : Refusal) × (benched tests new other ≡ refused r other))
+  pub benched-cases : ((lowest tests ≡ Passed) × (benched tests new other ≡ doneWith new)) ⊎ ((r : Refusal) × (benched tests new other ≡ refused r other))
   benched-cases = by (lowest tests) refl
     where
       by : (c : Check) → lowest tests ≡ c
-          → ((lowest tests ≡ Passed) × (benched tests new other ≡ done new)) ⊎ ((r : Refusal) × (benched tests new other ≡ refused r other))
+          → ((lowest tests ≡ Passed) × (benched tests new other ≡ doneWith new)) ⊎ ((r : Refusal) × (benched tests new other ≡ refused r other))
       by Passed e = inl (e, benched-passed e)
       by (Failed r) e = inr (r, benched-failed r e)
+
+-- by what the tests found
+module _ (tests : List Test) (new other : Bench) {check : Check} (s : check ≡ lowest tests) where
+  pub benched-no : {r : Refusal} → check ≡ Failed r → (b : Bench) → b ≡ other → refused r b ≡ benched tests new other
+  benched-no e b f = rw f (sym (benched-failed tests new other _ (sym s ∙ e)))
+
+  pub benched-yes : check ≡ Passed → (b : Bench) → b ≡ new → doneWith b ≡ benched tests new other
+  benched-yes e b f = rw f (sym (benched-passed tests new other (sym s ∙ e)))
 
 -- tests that pass are passed over
 pub benched-append : (ts rest : List Test) (new other : Bench) → lowest ts ≡ Passed → benched (ts ++ rest) new other ≡ benched rest new other
@@ -61,7 +70,7 @@ module _ (tally : ℕ) (new other : Bench) where
   unfolding tallyTest
   tally-refused h = benched-failed (tallyTest tally ∷ []) new other Tally (lowest-here (tallyTest tally) [] (lt→ltb 4294967295 tally h))
 
-  pub tally-passed : tally ≤ 4294967295 → benched (tallyTest tally ∷ []) new other ≡ done new
+  pub tally-passed : tally ≤ 4294967295 → benched (tallyTest tally ∷ []) new other ≡ doneWith new
   unfolding tallyTest
   tally-passed h =
       benched-passed (tallyTest tally ∷ []) new other (lowest-next (tallyTest tally) [] (λ t. omega (arith, ltb→lt 4294967295 tally t)) ∙ lowest-none)
@@ -76,12 +85,9 @@ no-not : (b : Bool) → ¬ T (not b) → T b
 no-not true h = tt
 no-not false h = absurd (h tt)
 
-pub size-passed : (n : ℕ) (rest : List Test) → lowest (sizeTest n ∷ rest) ≡ Passed → (1 ≤ n) × (n ≤ 64)
-size-passed n rest e = of-sizeTest n (of-passed _ _ e .0)
-
--- 1 does not apply: n is small
-pub size-small : (n : ℕ) → sizeTest n .applies ≡ false → n ≤ 64
-size-small n e = of-sizeTest n (not-T-of e) .1
+-- what Start's test leaves
+pub start-passed : (n : ℕ) → lowest (startTests n) ≡ Passed → n ≤ 64
+start-passed n e = of-sizeTest n (of-passed _ _ e .0) .1
 
 sheet-passed : (k : ℕ) → ¬ T (sheetTest k .applies) → k < 8
 unfolding sheetTest
@@ -93,6 +99,94 @@ elements-passed n x y h = (
   ltb→lt x n (no-not (ltb x n) (no-or-left (not (ltb x n)) (not (ltb y n)) h)),
   ltb→lt y n (no-not (ltb y n) (no-or-right (not (ltb x n)) (not (ltb y n)) h)),
 )
+
+-- ---- Clear's and Add's tests as the functions make them
+
+-- 7 and the last test, 8
+module _ (k : ℕ) (rest : List Test) where
+  sheet-failed : 8 ≤ k → lowest (sheetTest k ∷ rest) ≡ Failed Range
+  unfolding sheetTest
+  sheet-failed h = lowest-here (sheetTest k) rest (lt→ltb 7 k (omega arith))
+
+  sheet-next : k < 8 → lowest (sheetTest k ∷ rest) ≡ lowest rest
+  unfolding sheetTest
+  sheet-next h = lowest-next (sheetTest k) rest (λ t. omega (arith, ltb→lt 7 k t))
+
+module _ (n x y : ℕ) (rest : List Test) where
+  first-failed : n ≤ x → lowest (elementsTest n x y ∷ rest) ≡ Failed Range
+  unfolding elementsTest
+  first-failed h = lowest-here (elementsTest n x y) rest (or-left (not (ltb x n)) _ (T-of (ap not (le-ltb x n h))))
+
+  second-failed : n ≤ y → lowest (elementsTest n x y ∷ rest) ≡ Failed Range
+  unfolding elementsTest
+  second-failed h = lowest-here (elementsTest n x y) rest (or-right (not (ltb x n)) _ (T-of (ap not (le-ltb y n h))))
+
+  elements-next : x < n → y < n → lowest (elementsTest n x y ∷ rest) ≡ lowest rest
+  unfolding elementsTest
+  elements-next h k =
+      lowest-next (elementsTest n x y) rest (λ t. elim (or-cases (not (ltb x n)) (not (ltb y n)) t) [
+        | inl s ↦ T-not (ltb x n) s (lt→ltb x n h)
+        | inr s ↦ T-not (ltb y n) s (lt→ltb y n k)
+      ])
+
+module _ (b : Bench) (k : ℕ) {flag : Bool} (s : flag ≡ not (sizeTest (b .n) .applies)) where
+  pub clear-unsized : not flag ≡ true → Failed Size ≡ lowest (clearTests b k)
+  unfolding clearTests
+  clear-unsized f = sym (size-refused (b .n) _ s f)
+
+  module _ (f : not flag ≡ false) where
+    pub clear-sheetless : 8 ≤ k → Failed Range ≡ lowest (clearTests b k)
+    unfolding clearTests
+    clear-sheetless h = sym (size-passed (b .n) _ s f ∙ sheet-failed k _ h)
+
+    pub clear-last : k < 8 → {check : Check} → check ≡ lowest (benchTest (b .n) b ∷ []) → check ≡ lowest (clearTests b k)
+    unfolding clearTests
+    clear-last h e = e ∙ sym (size-passed (b .n) _ s f ∙ sheet-next k _ h)
+
+module _ (b : Bench) (n k x y : ℕ) where
+  pub place-sheetless : 8 ≤ k → Failed Range ≡ lowest (placeTests b n k x y)
+  unfolding placeTests
+  place-sheetless h = sym (sheet-failed k _ h)
+
+  module _ (h : k < 8) where
+    pub place-first : n ≤ x → Failed Range ≡ lowest (placeTests b n k x y)
+    unfolding placeTests
+    place-first i = sym (sheet-next k _ h ∙ first-failed n x y _ i)
+
+    pub place-second : n ≤ y → Failed Range ≡ lowest (placeTests b n k x y)
+    unfolding placeTests
+    place-second i = sym (sheet-next k _ h ∙ second-failed n x y _ i)
+
+    pub place-last : x < n → y < n → {check : Check} → check ≡ lowest (benchTest n b ∷ []) → check ≡ lowest (placeTests b n k x y)
+    unfolding placeTests
+    place-last i j e = e ∙ sym (sheet-next k _ h ∙ elements-next n x y _ i j)
+
+-- 8 alone
+module _ (n : ℕ) (b : Bench) where
+  pub bench-other : (b .n ≡ n → ⊥) → Failed NotMap ≡ lowest (benchTest n b ∷ [])
+  unfolding lowest benchTest
+  bench-other h = simp (ne-eqb (b .n) n h)
+
+  module _ (h : b .n ≡ n) {flag : Bool} (s : flag ≡ every (λ s. isMap n (mapOn n s)) (b .sheets)) where
+    pub bench-faulty : not flag ≡ true → Failed NotMap ≡ lowest (benchTest n b ∷ [])
+    unfolding lowest benchTest
+    bench-faulty f = simp (eq-eqb (b .n) n h, sym s ∙ not-true flag f)
+
+    pub bench-right : not flag ≡ false → Passed ≡ lowest (benchTest n b ∷ [])
+    unfolding lowest benchTest
+    bench-right f = simp (eq-eqb (b .n) n h, sym s ∙ not-false flag f)
+
+-- Add's, by what the algebra's found
+module _ (b : Bench) (a : Algebra) (k x y : ℕ) {check : Check} (s : check ≡ lowest (algebraTests a)) where
+  pub handed-failed : {r : Refusal} → check ≡ Failed r → Failed r ≡ lowest (handedTests b a k x y)
+  unfolding handedTests
+  handed-failed e = sym (lowest-failed _ _ _ (sym s ∙ e))
+
+  pub handed-last : check ≡ Passed → {rest : Check} → rest ≡ lowest (placeTests b (a .size) k x y) → rest ≡ lowest (handedTests b a k x y)
+  unfolding handedTests
+  handed-last e f = f ∙ sym (lowest-append _ _ (sym s ∙ e))
+
+-- ---- what tests that pass leave
 
 -- the bench is over n and every sheet has a map
 pub record Faultless (b : Bench) (n : ℕ) : Type 0 where
@@ -118,8 +212,9 @@ pub record Clearable (b : Bench) (k : ℕ) : Type 0 where
 pub clear-passed : (b : Bench) (k : ℕ) → lowest (clearTests b k) ≡ Passed → Clearable b k
 unfolding clearTests
 clear-passed b k e =
-    let one = size-passed (b .n) (sheetTest k ∷ benchTest (b .n) b ∷ []) e in
-    let seven = of-passed _ _ (of-passed _ _ e .1) in
+    let first = of-passed _ _ e in
+    let one = of-sizeTest (b .n) (first .0) in
+    let seven = of-passed _ _ (first .1) in
     record { some = one .0; most = one .1; sheet = sheet-passed k (seven .0); faultless = bench-passed (b .n) b (of-passed _ _ (seven .1) .0) }
 
 -- what Add's 7 and 8 leave

@@ -1,6 +1,8 @@
 -- The smallest members of the blocks, and every map over n: `maps n` lists exactly the maps.
 use Prim.Native.Nat.{ℕ, zero, suc, _≤_, _<_}
-use mathlib.Core.List.{List, [], _∷_, _++_, map, List·Memᴰ as Member, List·Memᴰ·head as here, List·Memᴰ·eq-of-singleton as eq-of-singleton, Memᴰ·map as member-map, Memᴰ·of-map as of-map, Memᴰ·append-left as append-left, Memᴰ·append-right as append-right, List·Memᴰ·append-cases as append-cases, Memᴰ·cast as cast}
+use mathlib.Core.List.{List, [], _∷_, _++_, map, List·Memᴰ as Member, List·Memᴰ·head as here}
+use mathlib.Core.List.{List·Memᴰ·eq-of-singleton as eq-of-singleton, Memᴰ·map as member-map, Memᴰ·of-map as of-map, Memᴰ·append-left as append-left}
+use mathlib.Core.List.{Memᴰ·append-right as append-right, List·Memᴰ·append-cases as append-cases, Memᴰ·cast as cast}
 use mathlib.Core.Logic.{inl, inr}
 use mathlib.Core.Path.{_≡_, refl, sym, subst, _∙_}
 use native.Mathlib.Decide.{decLt}

@@ -1,7 +1,7 @@
 -- The first n bytes of a slice as a map: canonical bytes, and what a pass over them shows (is it a map, is it inside another, is it the
 -- identity, how many blocks it has).
 use Prim.Native.Nat.{ℕ, zero, suc, _+_, _≤_, _<_}
-use mathlib.Core.Bool.{Bool, true, false, _&&_}
+use mathlib.Core.Bool.{Bool, true, false, not, _&&_}
 use mathlib.Core.List.{[], _∷_}
 use mathlib.Core.Path.{_≡_, refl, sym, ap, _∙_}
 use native.Mathlib.Numerals.{add-one}
@@ -13,7 +13,9 @@ use Rattle.kernel.specs.InnerKernel.{Canonical, bit, names}
 use Rattle.equivalence.specs.Lists.{upTo, keep}
 use Rattle.equivalence.proofs.Lists.{below-of, of-below, keep-append}
 use Rattle.equivalence.proofs.Maps.{IsMap, inside-of, of-inside, isIdentity-of, of-isIdentity}
-use Rattle.equivalence.proofs.Tests.{both, right, eq→eqb, pick}
+use Rattle.equivalence.proofs.Tests.{both, right, eq→eqb, pick, T-of, not-T-of, true-is, false-is}
+use Rattle.kernel.proofs.Names.{bit-most, names-most}
+use borrow.Author.Tests.{ne-eqb, not-true, not-false}
 
 pub canonical-of : (n : ℕ) (m : Map) → IsMap n m → Canonical n (byte m)
 canonical-of n m p = record { below = p .low; named = p .named }
@@ -22,44 +24,58 @@ canonical-of n m p = record { below = p .low; named = p .named }
 abbrev pub isNamed : Map → ℕ → Bool
 isNamed m x = leb (byte m x) x && eqb (byte m (byte m x)) (byte m x)
 
-pub isMap-named : (n : ℕ) (m : Map) → length m ≡ n → ((x : ℕ) → x < n → T (isNamed m x)) → T (isMap n m)
+pub isMap-unlike : (n : ℕ) (m : Map) → (length m ≡ n → ⊥) → false ≡ isMap n m
 unfolding isMap
-isMap-named n m e h = both (eqb (length m) n) _ (eq→eqb (length m) n e) (below-of n (isNamed m) h)
+isMap-unlike n m h = simp (ne-eqb (length m) n h)
 
-pub of-isMap-named : (n : ℕ) (m : Map) → T (isMap n m) → (x : ℕ) → x < n → T (isNamed m x)
+pub isMap-all : (n : ℕ) (m : Map) (i : ℕ) → length m ≡ n → n ≤ i → ((x : ℕ) → x < i → T (isNamed m x)) → true ≡ isMap n m
 unfolding isMap
-of-isMap-named n m t = of-below n (isNamed m) (right (eqb (length m) n) _ t)
+isMap-all n m i e l h = true-is _ (both (eqb (length m) n) _ (eq→eqb (length m) n e) (below-of n (isNamed m) (λ x k. h x (omega arith))))
+
+pub isMap-not : (n : ℕ) (m : Map) (x : ℕ) {r : Bool} → x < n → r ≡ isNamed m x → not r ≡ true → false ≡ isMap n m
+unfolding isMap
+isMap-not n m x {r} l e f =
+    false-is _ (λ t. not-T-of (sym e ∙ not-true r f) (of-below n (isNamed m) (right (eqb (length m) n) _ t) x l))
+
+-- the flag of a byte that passed
+pub named-yes : (m : Map) (x : ℕ) {r : Bool} → r ≡ isNamed m x → not r ≡ false → T (isNamed m x)
+named-yes m x {r} e f = T-of (sym e ∙ not-false r f)
 
 module _ (n : ℕ) (a b : Map) (c : Canonical n (byte a)) where
   -- b joins each element with the first of its block in a
   abbrev pub Follows : ℕ → Type 0
   Follows x = byte b x ≡ byte b (byte a x)
 
-  pub inside-first : ((x : ℕ) → x < n → Follows x) → T (inside n a b)
-  inside-first h = inside-of n a b (λ x y l k e. h x l ∙ ap (byte b) e ∙ sym (h y k))
+  pub inside-all : (i : ℕ) → n ≤ i → ((x : ℕ) → x < i → Follows x) → true ≡ inside n a b
+  inside-all i l h = true-is _ (inside-of n a b (λ x y lx ly e. h x (omega arith) ∙ ap (byte b) e ∙ sym (h y (omega arith))))
 
-  pub of-inside-first : T (inside n a b) → (x : ℕ) → x < n → Follows x
-  of-inside-first t x l = of-inside n a b t x (byte a x) l (omega (arith, c .below x l)) (sym (c .named x l))
+  pub inside-not : (x : ℕ) → x < n → (Follows x → ⊥) → false ≡ inside n a b
+  inside-not x l h = false-is _ (λ t. h (of-inside n a b t x (byte a x) l (omega (arith, c .below x l)) (sym (c .named x l))))
 
 module _ (n : ℕ) (m : Map) (c : Canonical n (byte m)) where
-  pub isIdentity-own : ((x : ℕ) → x < n → byte m x ≡ x) → T (isIdentity n m)
-  isIdentity-own h = isIdentity-of n m (λ x y l k e. sym (h x l) ∙ e ∙ h y k)
+  pub isIdentity-all : (i : ℕ) → n ≤ i → ((x : ℕ) → x < i → byte m x ≡ x) → true ≡ isIdentity n m
+  isIdentity-all i l h = true-is _ (isIdentity-of n m (λ x y lx ly e. sym (h x (omega arith)) ∙ e ∙ h y (omega arith)))
 
-  pub of-isIdentity-own : T (isIdentity n m) → (x : ℕ) → x < n → byte m x ≡ x
-  of-isIdentity-own t x l = of-isIdentity n m t (byte m x) x (omega (arith, c .below x l)) l (c .named x l)
+  pub isIdentity-not : (x : ℕ) → x < n → (byte m x ≡ x → ⊥) → false ≡ isIdentity n m
+  isIdentity-not x l h = false-is _ (λ t. h (of-isIdentity n m t (byte m x) x (omega (arith, c .below x l)) l (c .named x l)))
 
 pub names-more : (n : ℕ) (f : ℕ → ℕ) → names (n + 1) f ≡ names n f + bit (eqb (f n) n)
 unfolding names
 names-more n f = rw (add-one n, names)
 
 pub names-le : (n : ℕ) (f : ℕ → ℕ) → names n f ≤ n
-unfolding names
-names-le zero f = omega arith
-names-le (suc n) f = omega (arith, names-le n f, bit-le (eqb (f n) n))
-  where
-    bit-le : (b : Bool) → bit b ≤ 1
-    bit-le true = omega arith
-    bit-le false = omega arith
+names-le n f = names-most n f
+
+-- one element more is counted
+pub counted-more : (x : ℕ) (f : ℕ → ℕ) {count r : ℕ} → count ≡ names x f → r ≡ bit (eqb (f x) x) → count + r ≡ names (x + 1) f
+counted-more x f e g = omega (arith, names-more x f)
+
+pub counted-most : (x : ℕ) (f : ℕ → ℕ) {count r : ℕ} → count ≡ names x f → r ≡ bit (eqb (f x) x) → count + r ≤ x + 1
+counted-most x f e g = omega (arith, names-most x f, bit-most (eqb (f x) x))
+
+-- the loop's end
+pub counted-all : (n : ℕ) (f : ℕ → ℕ) {x count : ℕ} → x ≤ n → n ≤ x → count ≡ names x f → count ≡ names n f
+counted-all n f {x} l k e = let d : x ≡ n = omega arith in rw d at e
 
 kept-one : (b : Bool) (x : ℕ) → bit b ≡ length (pick {A = Map} b (x ∷ []) [])
 kept-one true x = refl

@@ -1,7 +1,9 @@
 -- The order of maps by the first pair in which they differ: `notLater` is total, transitive and antisymmetric.
 use Prim.Native.Nat.{ℕ, _<_}
 use mathlib.Core.Bool.{Bool, true, false, not, _&&_, _||_}
-use mathlib.Core.List.{List, [], _∷_, _++_, List·Memᴰ as Member, List·Memᴰ·head as here, List·Memᴰ·tail as there, List·Memᴰ·not-nil as not-nil, List·Memᴰ·cases-cons as cases-cons, List·Memᴰ·eq-of-singleton as eq-of-singleton, Memᴰ·append-right as append-right, List·Memᴰ·append-cases as append-cases}
+use mathlib.Core.List.{List, [], _∷_, _++_, List·Memᴰ as Member, List·Memᴰ·head as here}
+use mathlib.Core.List.{List·Memᴰ·tail as there, List·Memᴰ·not-nil as not-nil, List·Memᴰ·cases-cons as cases-cons}
+use mathlib.Core.List.{List·Memᴰ·eq-of-singleton as eq-of-singleton, Memᴰ·append-right as append-right, List·Memᴰ·append-cases as append-cases}
 use mathlib.Core.Logic.{_⊎_, inl, inr}
 use mathlib.Core.Path.{_≡_, refl, sym, subst, _∙_}
 use native.Mathlib.Omega.{arith}

@@ -80,6 +80,10 @@ module _ (value : ℕ → ℕ) (passes : ℕ → Bool) where
             nearest = λ k l p h. elim (ℕ-discrete k i) [ yes f ↦ omega (arith, s .low) | no f ↦ s .nearest k (at-old k l f) p h ];
           }
 
+-- the loop's end
+pub foremost-all : {value : ℕ → ℕ} {passes : ℕ → Bool} {n i at : ℕ} → i ≤ n → n ≤ i → Foremost value passes i at → Foremost value passes n at
+foremost-all {n = n} {i = i} l k s = let e : i ≡ n = omega arith in rw e at s
+
 -- ---- the first pair that a map holds
 
 -- x has another name than itself

@@ -30,6 +30,10 @@ joined-more {n} {i} {g} {f} {f′} {f″} l c j u =
       rest = λ x k. u .rest x k ∙ j .rest x k;
     }
 
+-- the loop's end
+pub joined-all : {n i : ℕ} {g f f′ : ℕ → ℕ} → i ≤ n → n ≤ i → Joined n i g f f′ → Joined n n g f f′
+joined-all {n} {i} l k j = let e : i ≡ n = omega arith in rw e at j
+
 pub canonical-filled : {n : ℕ} {f g h : ℕ → ℕ} → Canonical n f → Filled n f g h → Canonical n h
 canonical-filled {n} {f} {g} {h} c r =
     record {

@@ -1,5 +1,6 @@
 pub mod AllMaps
 pub mod Best
+pub mod Bounds
 pub mod Bytes
 pub mod Calls
 pub mod BlockNumbers

@@ -6,7 +6,8 @@ use mathlib.Core.Logic.{inl, inr}
 use mathlib.Core.Path.{_≡_, refl, sym, subst, _∙_}
 use lib.Dec.{T}
 use Rattle.equivalence.specs.Equivalence.{Map, byte, holds, identity, same, meet, meetAll}
-use Rattle.equivalence.proofs.Maps.{Holds, holds-of, of-holds, IsMap, Inside, IsEquivalence, mapOf-holds, of-mapOf, mapOf-map, mapOf-byte, identity-discrete, discrete-identity, whole-map, whole-holds}
+use Rattle.equivalence.proofs.Maps.{Holds, holds-of, of-holds, IsMap, Inside, IsEquivalence, mapOf-holds}
+use Rattle.equivalence.proofs.Maps.{of-mapOf, mapOf-map, mapOf-byte, identity-discrete, discrete-identity, whole-map, whole-holds}
 use Rattle.equivalence.proofs.Tests.{both, left, right}
 
 module _ (n : ℕ) (a b : Map) where

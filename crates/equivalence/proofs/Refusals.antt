@@ -2,15 +2,16 @@
 use Prim.Native.Nat.{ℕ, _≤_, _<_}
 use mathlib.Core.Bool.{Bool, true, false, not}
 use mathlib.Core.List.{List, [], _∷_, _++_}
+use mathlib.Core.Logic.{inl, inr}
 use mathlib.Core.Path.{_≡_, refl, sym, ap, _∙_}
 use native.Mathlib.Decide.{decLt, ℕ-discrete}
 use native.Mathlib.Omega.{arith}
-use lib.Dec.{T, eqb, not-T, ltb→lt, lt→ltb}
+use lib.Dec.{T, eqb, ltb, not-T, eqb→eq, ltb→lt, lt→ltb}
 use Rattle.equivalence.specs.Equivalence.{Map, isMap}
 use Rattle.equivalence.specs.Refusal.{Test, lowest, sizeTest, mapTest, spaceTest, answered, serve}
 use Rattle.equivalence.specs.Lent.{written, lentAfter}
 use Rattle.equivalence.proofs.Maps.{IsMap, of-isMap}
-use Rattle.equivalence.proofs.Tests.{T?, or-left, or-right, eq→eqb, pick-yes, pick-no, T-of, not-T-of}
+use Rattle.equivalence.proofs.Tests.{T?, or-left, or-right, or-cases, eq→eqb, pick-yes, pick-no, T-of, not-T-of}
 use Rattle.equivalence.specs.declared.Refusal.{Refusal}
 use Rattle.equivalence.specs.declared.Refusal.the-variants.{Size, NotMap, Space}
 use borrow.Author.Tests.{not-true, not-false}
@@ -90,6 +91,18 @@ of-sizeTest n t = (
   elim (ℕ-discrete n 0) [ yes e ↦ absurd (t (or-left (eqb n 0) _ (eq→eqb n 0 e))) | no e ↦ omega arith ],
   elim (decLt 64 n) [ yes l ↦ absurd (t (or-right (eqb n 0) _ (lt→ltb 64 n l))) | no l ↦ omega arith ],
 )
+
+-- a size that a flag passes
+pub sized : (n : ℕ) {r : Bool} → r ≡ not (sizeTest n .applies) → not r ≡ false → (1 ≤ n) × (n ≤ 64)
+sized n {r} e f = of-sizeTest n (not-T-of (not-true (sizeTest n .applies) (sym e ∙ not-false r f)))
+
+pub sized-most : (n : ℕ) {r : Bool} → r ≡ not (sizeTest n .applies) → not r ≡ false → n ≤ 64
+sized-most n e f = sized n e f .1
+
+pub sizeTest-of : (n : ℕ) → 1 ≤ n → n ≤ 64 → ¬ T (sizeTest n .applies)
+unfolding sizeTest
+sizeTest-of n l k t =
+    elim (or-cases (eqb n 0) (ltb 64 n) t) [ inl s ↦ absurd (omega (arith, eqb→eq n 0 s)) | inr s ↦ absurd (omega (arith, ltb→lt 64 n s)) ]
 
 pub map-refused : (n : ℕ) (m : Map) (rest : List Test) {r : Bool} → r ≡ isMap n m → not r ≡ true → lowest (mapTest n m ∷ rest) ≡ Failed NotMap
 unfolding mapTest

@@ -1,8 +1,9 @@
 // The blocks of a map, changed in place. A map is lent with room for n bytes; bytes past n keep their value.
 ghost use mathlib.Core.Path.{_≡_};
-ghost use Prim.Native.Nat.{_+_, _<_, _≤_};
+ghost use Prim.Native.Nat.{_<_, _≤_, min};
 ghost use Rattle.equivalence.specs.Equivalence.{byte};
 ghost use Rattle.kernel.specs.InnerKernel.{Canonical, Filled, Merged, United, relabel};
+ghost use Rattle.kernel.specs.InnerLargest.{Larger};
 
 // v, or `new` where v is `old`.
 fn relabelled(v: u8, old: u8, new: u8) -> u8
@@ -23,18 +24,16 @@ fn relabel_all(m: &mut [u8], n: usize, old: u8, new: u8)
     }
 }
 
-// The smaller of two names.
-fn smaller(p: u8, q: u8) -> u8
-    ensures { λ r. ⌜ (p < q → r ≡ p) ⌝ }
-    ensures { λ r. ⌜ (q ≤ p → r ≡ q) ⌝ }
+// The smaller of two bytes.
+pub fn smaller(p: u8, q: u8) -> u8
+    ensures { λ r. ⌜ r ≡ min p q ⌝ }
 {
     if p < q { p } else { q }
 }
 
-// The larger of two names.
-fn larger(p: u8, q: u8) -> u8
-    ensures { λ r. ⌜ (p < q → r ≡ q) ⌝ }
-    ensures { λ r. ⌜ (q ≤ p → r ≡ p) ⌝ }
+// The larger of two bytes.
+pub fn larger(p: u8, q: u8) -> u8
+    ensures { λ r. ⌜ Larger p q r ⌝ }
 {
     if p < q { q } else { p }
 }

@@ -1,9 +1,10 @@
 // The tests of a call, by rising number: the first that applies is the answer.
 ghost use mathlib.Core.Path.{_≡_};
 ghost use mathlib.Core.Bool.{not};
-ghost use mathlib.Core.List.{[], _∷_};
-ghost use Rattle.equivalence.specs.Refusal.{lowest, numberOf, sizeTest, mapTest, spaceTest};
-ghost use Rattle.equivalence.specs.Calls.{preferCheck};
+ghost use lib.Dec.{ltb};
+ghost use Rattle.equivalence.specs.Lists.{every};
+ghost use Rattle.equivalence.specs.Refusal.{lowest, numberOf, sizeTest};
+ghost use Rattle.equivalence.specs.Calls.{twoMapsTests, preferCheck};
 use crate::Check;
 use crate::Refusal;
 use crate::map;
@@ -20,6 +21,20 @@ pub fn is_size(n: usize) -> bool
     }
     if MAX_SIZE < n {
         return false;
+    }
+    true
+}
+
+// Whether every byte is below n.
+pub fn all_below(bytes: &[u8], n: usize) -> bool
+    ensures { λ r. ⌜ r ≡ every (λ c. ltb c n) (now (bytes .entry)) ⌝ }
+{
+    let mut i = 0;
+    while i < bytes.len() {
+        if n <= bytes[i] as usize {
+            return false;
+        }
+        i += 1;
     }
     true
 }
@@ -42,7 +57,7 @@ pub fn maps_check(n: usize, a: &[u8], b: &[u8]) -> Check
 
 // The tests of a call that is handed two maps and writes one into `room` bytes.
 pub fn maps_space_check(n: usize, a: &[u8], b: &[u8], room: usize) -> Check
-    ensures { λ r. ⌜ r ≡ lowest (sizeTest n ∷ mapTest n (now (a .entry)) ∷ mapTest n (now (b .entry)) ∷ spaceTest n room ∷ []) ⌝ }
+    ensures { λ r. ⌜ r ≡ lowest (twoMapsTests n (now (a .entry)) (now (b .entry)) room) ⌝ }
 {
     let check = maps_check(n, a, b);
     if let Check::Failed(reason) = check {

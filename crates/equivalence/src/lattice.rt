@@ -7,8 +7,8 @@ ghost use Rattle.kernel.specs.InnerKernel.{Canonical, Filled, Joined, seenOr};
 use crate::blocks;
 ghost use Rattle.equivalence.specs.Lent.{written};
 
-// No element was seen.
-const NONE: u8 = 64;
+// No element: stands where a table keeps elements, which are below 64, and none was seen yet.
+pub const NONE: u8 = 64;
 
 // The one seen, or x where none was.
 fn first_seen(seen: u8, x: usize) -> u8

@@ -36,8 +36,8 @@ pub fn is_map(n: usize, m: &[u8]) -> bool
     true
 }
 
-// 1 where x is its own name, 0 where it is not.
-fn own(name: u8, x: usize) -> usize
+// 1 where x is its own name, and so the smallest member of its block, 0 where it is not.
+pub fn self_named(name: u8, x: usize) -> usize
     ensures { λ r. ⌜ r ≡ bit (eqb name x) ⌝ }
 {
     if name as usize == x { 1 } else { 0 }
@@ -51,7 +51,7 @@ pub fn block_count(n: usize, m: &[u8]) -> usize
     let mut count = 0;
     let mut x = 0;
     while x < n {
-        count += own(m[x], x);
+        count += self_named(m[x], x);
         x += 1;
     }
     count

@@ -1,11 +1,12 @@
 // The order of pairs, and which of two maps is the earlier. The maps are the first n bytes of what is handed in.
 ghost use mathlib.Core.Path.{_≡_};
-ghost use Prim.Native.Nat.{_+_, _-_, _<_, _≤_, min};
+ghost use Prim.Native.Nat.{_+_, _-_, _<_, _≤_};
 ghost use Rattle.equivalence.specs.Equivalence.{byte};
 ghost use Rattle.kernel.specs.InnerKernel.{Canonical};
 ghost use Rattle.equivalence.specs.Order.{firstHeld, notLater, rowStart};
 ghost use Rattle.kernel.specs.InnerSearch.{foremost};
 use crate::Pair;
+use crate::blocks;
 
 // The number of pairs of 64 elements in the rows before row x: row i has 63 - i pairs.
 const ROW_STARTS: [usize; 64] = [
@@ -88,12 +89,6 @@ fn foremost_of(at: usize, value: u8, y: usize, new: u8, passes: bool) -> usize
     if new < value { y } else { at }
 }
 
-fn lesser(p: u8, q: u8) -> u8
-    ensures { λ r. ⌜ r ≡ min p q ⌝ }
-{
-    if p < q { p } else { q }
-}
-
 // The first pair that m holds, or 0 and 0. It is the smallest name that an element has besides its own, and the first such element.
 pub fn first_held(n: usize, m: &[u8]) -> Pair
     requires { ⌜ 1 ≤ n ⌝ }
@@ -129,7 +124,13 @@ pub fn is_not_later(n: usize, a: &[u8], b: &[u8]) -> bool
     while y < n {
         let p = a[y];
         let q = b[y];
-        at = foremost_of(at, lesser(a[at], b[at]), y, lesser(p, q), p != q);
+        at = foremost_of(
+            at,
+            blocks::smaller(a[at], b[at]),
+            y,
+            blocks::smaller(p, q),
+            p != q,
+        );
         y += 1;
     }
     a[at] <= b[at]

@@ -1,5 +1,5 @@
 -- Kernels: relabelling, counting the names, and why a relabelling is a merge.
-use Prim.Native.Nat.{ℕ, zero, suc, _+_, _≤_, _<_}
+use Prim.Native.Nat.{ℕ, zero, suc, _+_, _≤_, _<_, min}
 use mathlib.Core.List.{List}
 use mathlib.Core.Path.{_≡_, refl, sym, ap, _∙_}
 use native.Mathlib.Decide.{decLt, ℕ-discrete}
@@ -9,6 +9,7 @@ use lib.ListN.{length, getD, set}
 use lib.Seq.{getD-set-same, getD-set-other}
 use borrow.Author.Tests.{eq-eqb, ne-eqb}
 use Rattle.kernel.specs.InnerKernel.{Canonical, Within, relabel, Filled, bit, names, Merged}
+use Rattle.kernel.specs.InnerLargest.{Larger}
 
 pub relabel-same : (old new v : ℕ) → v ≡ old → relabel old new v ≡ new
 unfolding relabel
@@ -42,7 +43,7 @@ names-same (suc n) f g e =
     let t : bit (eqb (f n) n) ≡ bit (eqb (g n) n) = ap (λ (v : ℕ). bit (eqb v n)) (e n (omega arith)) in
     omega arith
 
--- a map of bit element at least has a block
+-- a map of one element at least has a block
 pub names-positive : (n : ℕ) (f : ℕ → ℕ) → 0 < n → Canonical n f → 0 < names n f
 unfolding names
 names-positive zero f l c = l
@@ -96,7 +97,7 @@ module _ (n : ℕ) (f f′ : ℕ → ℕ) (a b : ℕ) (c : Canonical n f) (la : 
   merged-least : (g : ℕ → ℕ) → Within n f g → g a ≡ g b → Within n f′ g
   merged-least g w q x y lx ly p = name g w q x lx ∙ ap g p ∙ sym (name g w q y ly)
 
-  -- b's name alone is no longer bit
+  -- b's name alone is no longer its own
   names-elsewhere : (x : ℕ) → x < n → (x ≡ f b → ⊥) → bit (eqb (f′ x) x) ≡ bit (eqb (f x) x)
   names-elsewhere x l d = elim (ℕ-discrete (f x) (f b)) [
     | yes p ↦
@@ -153,12 +154,19 @@ merged-swap m = record {
 }
 
 -- the larger of the two names, `old`, becomes the smaller, `new`
-pub relabelled-either : (n : ℕ) (f f′ : ℕ → ℕ) (a b old new : ℕ) → Canonical n f → a < n → b < n → (f a ≡ f b → ⊥) → (f a < f b → old ≡ f b) × (f b ≤ f a → old ≡ f a)
-    → (f a < f b → new ≡ f a) × (f b ≤ f a → new ≡ f b) → Filled n (λ x. relabel old new (f x)) f f′ → Merged n a b f f′
-relabelled-either n f f′ a b old new c la lb d larger smaller r = elim (decLt (f a) (f b)) [
-  | yes l ↦ relabelled-merged n f f′ a b c la lb l (rw (larger .0 l, smaller .0 l) at r)
-  | no l ↦ merged-swap (relabelled-merged n f f′ b a c lb la (omega (arith, d)) (rw (larger .1 (omega arith), smaller .1 (omega arith)) at r))
-]
+pub relabelled-either : (n : ℕ) (f f′ : ℕ → ℕ) (a b old new : ℕ) → Canonical n f → a < n → b < n → (f a ≡ f b → ⊥) → Larger (f a) (f b) old
+    → new ≡ min (f a) (f b) → Filled n (λ x. relabel old new (f x)) f f′ → Merged n a b f f′
+relabelled-either n f f′ a b old new c la lb d larger smaller r =
+    elim (decLt (f a) (f b)) [
+      | yes l ↦
+          let o : old ≡ f b = omega (arith, larger .least (suc (f b)) (omega arith) (omega arith)) in
+          let s : new ≡ f a = omega arith in
+          relabelled-merged n f f′ a b c la lb l (rw (o, s) at r)
+      | no l ↦
+          let o : old ≡ f a = omega (arith, larger .least (suc (f a)) (omega arith) (omega arith)) in
+          let s : new ≡ f b = omega arith in
+          merged-swap (relabelled-merged n f f′ b a c lb la (omega (arith, d)) (rw (o, s) at r))
+    ]
 
 -- ---- a loop that fills a slice
 
@@ -174,3 +182,12 @@ filled-more {i} {F} {f} m v l e r = record {
   ];
   rest = λ x h. getD-set-other m i x v 0 (omega arith) ∙ r .rest x (omega arith);
 }
+
+-- one more value is relabelled in place
+pub relabelled-more : {i : ℕ} {f : ℕ → ℕ} (old new : ℕ) (m : List ℕ) (v : ℕ) → i < length m → v ≡ relabel old new (getD m i 0)
+    → Filled i (λ x. relabel old new (f x)) f (λ x. getD m x 0) → Filled (i + 1) (λ x. relabel old new (f x)) f (λ x. getD (set m i v) x 0)
+relabelled-more {i} old new m v l e r = filled-more m v l (e ∙ ap (relabel old new) (r .rest i (omega arith))) r
+
+-- the loop's end
+pub filled-all : {n i : ℕ} {F f f′ : ℕ → ℕ} → i ≤ n → n ≤ i → Filled i F f f′ → Filled n F f f′
+filled-all {n} {i} l k r = let e : i ≡ n = omega arith in rw e at r

@@ -1,3 +1,4 @@
+-- Inner vocabulary: no contract of a service and no theorem cites this file.
 -- Equivalences as kernels of functions: x and y are in one block where the function has one value at both. Inner functions promise each
 -- other in these terms, since "least over every function" is stronger than "least over every map" and composes with operations.
 use Prim.Native.Nat.{ℕ, zero, suc, _+_, _≤_, _<_}

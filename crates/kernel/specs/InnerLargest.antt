@@ -1,3 +1,4 @@
+-- Inner vocabulary: no contract of a service and no theorem cites this file.
 -- The largest member of a list of bytes.
 use Prim.Native.Nat.{ℕ, _≤_, _<_}
 use mathlib.Core.List.{List}

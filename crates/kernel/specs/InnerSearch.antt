@@ -1,3 +1,4 @@
+-- Inner vocabulary: no contract of a service and no theorem cites this file.
 -- The search for the foremost element: the smallest value among the elements that pass a test, and of equal values the first.
 use Prim.Native.Nat.{ℕ}
 use mathlib.Core.Bool.{Bool, true, false, _&&_, _||_}

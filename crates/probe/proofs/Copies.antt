@@ -1,7 +1,7 @@
 -- Copies: a loop that copies one list over the start of another, element by element; bytes copied to the start of lent ones, as far as they
 -- fit; and bytes laid into others from some byte on.
 use Prim.Native.Nat.{ℕ, suc, _+_, _-_, _≤_, _<_}
-use mathlib.Core.List.{List, [], _++_, append-assoc, append-nil}
+use mathlib.Core.List.{List, _++_, append-assoc, append-nil}
 use mathlib.Core.Path.{_≡_, refl, sym, ap, _∙_}
 use native.Mathlib.Numerals.{add-one}
 use native.Mathlib.Omega.{arith}
@@ -9,6 +9,7 @@ use lib.ListN.{length, getD, take, drop, set, length-drop, drop-of-length-le}
 use lib.Seq.{take-all, take-suc, drop-cons, append-snoc, set-at, take-at, drop-at, drop-drop, length-take-le}
 use borrow.Rule.Slice.PartMut.{putMid, midOf}
 use Rattle.equivalence.specs.Lent.{written, laid}
+use Rattle.equivalence.proofs.Laying.{rest-whole, laid-from}
 use Rattle.probe.specs.Calls.{copied}
 use Rattle.probe.specs.Image.{part}
 
@@ -58,24 +59,24 @@ unfolding copied written
 copied-first from lent k e h =
     rw (e, length-take-le k from h, drop-of-length-le lent {i = k} (omega arith)) (append-nil (take k from))
 
--- ---- parts of slices
+-- all of them fit
+copied-all : (from lent : List ℕ) → length from ≤ length lent → copied from lent ≡ written from lent
+unfolding copied
+copied-all from lent h = ap (λ (l : List ℕ). written l lent) (take-all (length lent) from h)
 
--- the bytes from `at` on
-pub part-rest : (at : ℕ) (l : List ℕ) → take (length l - at) (drop at l) ≡ drop at l
-part-rest at l = take-all (length l - at) (drop at l) (omega (arith, length-drop at l))
+-- ---- parts of slices
 
 -- the part of k bytes that a copy of the rest begins with
 pub copied-part : (at k : ℕ) (l lent : List ℕ) → length lent ≡ k → at + k ≤ length l → copied (take (length l - at) (drop at l)) lent ≡ part at k l
 unfolding part
-copied-part at k l lent e h = rw (part-rest at l) (copied-first (drop at l) lent k e (omega (arith, length-drop at l)))
+copied-part at k l lent e h = rw (rest-whole at l) (copied-first (drop at l) lent k e (omega (arith, length-drop at l)))
 
 -- bytes that a callee copied into the rest
-pub put-laid : (to : ℕ) (l new : List ℕ) → to + length new ≤ length l → putMid to (length l - to) l (copied new (midOf to (length l - to) l)) ≡ laid l to new
-unfolding copied written laid
-put-laid to l new h =
-    let all : take (length (drop to l)) new ≡ new = take-all (length (drop to l)) new (omega (arith, length-drop to l)) in
-    let none : drop (length l - to) (drop to l) ≡ [] = drop-of-length-le (drop to l) {i = length l - to} (omega (arith, length-drop to l)) in
-    rw (part-rest to l, all, none, append-nil (new ++ drop (length new) (drop to l))) refl
+pub copied-from : (to : ℕ) (l new rest : List ℕ) → to + length new ≤ length l → rest ≡ copied new (midOf to (length l - to) l)
+    → putMid to (length l - to) l rest ≡ laid l to new
+copied-from to l new rest h e =
+    let room : length new ≤ length (midOf to (length l - to) l) = rw (rest-whole to l, length-drop to l) (omega arith) in
+    ap (putMid to (length l - to) l) (e ∙ copied-all new (midOf to (length l - to) l) room) ∙ laid-from to l new (omega arith)
 
 -- bytes laid behind those that stand before them
 pub laid-behind : (front old new : List ℕ) (to : ℕ) → length front ≡ to → laid (front ++ drop to old) to new ≡ front ++ new ++ drop (to + length new) old

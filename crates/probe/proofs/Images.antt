@@ -15,7 +15,7 @@ use Rattle.equivalence.specs.Lists.{upTo, concat}
 use Rattle.equivalence.proofs.Lists.{upTo-length, table-at}
 use Rattle.equivalence.proofs.Stretches.{concat-append, stretch-concat}
 use Rattle.probe.specs.Image.{little, littleIn, part, sheetBytes, sizeBytes, tallyBytes, imageOf, sheetsIn, benchIn, Showable, ImageRight}
-use Rattle.probe.specs.Steps.{SheetsLaid}
+use Rattle.probe.specs.InnerSteps.{SheetsLaid}
 use Rattle.probe.proofs.Copies.{laid-behind}
 use Rattle.probe.proofs.Littles.{little-length, littleIn-little}
 

@@ -10,7 +10,7 @@ use denote.Ref.{RefT, now}
 use Rattle.bench.specs.Outcome.{answerOutcome}
 use Rattle.bench.specs.declared.Bench.{Bench}
 use Rattle.bench.specs.declared.Benched.{Benched}
-use Rattle.equivalence.specs.Outcome.{packed}
+use Rattle.equivalence.specs.Outcome.{Outcome, packed}
 use Rattle.equivalence.specs.Calls.{preferCheck, earlierOf, Preferred}
 use Rattle.equivalence.specs.Lists.{upTo, keep, concat}
 use Rattle.equivalence.specs.Order.{pairs, notLater, placeOf}
@@ -50,6 +50,12 @@ module _ (n : ℕ) (a b : RefT (List ℕ)) where
 
   pub preferred-now : (r : RefT (List ℕ)) → Preferred n a b r → now r ≡ preferred n (now a) (now b)
   preferred-now r p = preferred-by r p (preferCheck n (now a) (now b)) refl
+
+-- ---- a call that writes: the number of its answer, and the bytes that it leaves
+
+pub call-number : {A : Type 0} (outcome : A → Outcome) (call : A × List ℕ) {r : A} {number : ℕ} {after : List ℕ} → (r, after) ≡ call
+    → number ≡ packed (outcome r) → (number ≡ packed (outcome (call .0))) × (after ≡ call .1)
+call-number {A} outcome call e f = (f ∙ ap (λ (p : A × List ℕ). packed (outcome (p .0))) e, ap (λ (p : A × List ℕ). p .1) e)
 
 -- ---- a call over an image
 

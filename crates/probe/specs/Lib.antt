@@ -1,3 +1,3 @@
 pub mod Image
 pub mod Calls
-pub mod Steps
+pub mod InnerSteps

@@ -5,7 +5,7 @@ ghost use lib.ListN.{length};
 ghost use Rattle.equivalence.specs.Lent.{laid};
 ghost use Rattle.probe.specs.Image.{part, little, littleIn, sheetsIn, imageOf, benchIn};
 ghost use Rattle.probe.specs.Calls.{copied};
-ghost use Rattle.probe.specs.Steps.{SheetsLaid};
+ghost use Rattle.probe.specs.InnerSteps.{SheetsLaid};
 use bench::Bench;
 use bench::Sheet;
 

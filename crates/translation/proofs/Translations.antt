@@ -9,10 +9,9 @@ use lib.Seq.{getD-append-seam, set-append-seam, drop-cons, set-split}
 use Rattle.equivalence.specs.Equivalence.{Map, byte}
 use Rattle.equivalence.proofs.Maps.{Holds, IsMap}
 use Rattle.algebra.specs.Algebra.{Algebra, value}
-use Rattle.algebra.specs.Congruence.{respects}
 use Rattle.translation.specs.InnerTranslations.{AllBelow, result, Compatible}
 use Rattle.algebra.proofs.Arguments.{Args}
-use Rattle.algebra.proofs.Congruences.{Respects, IsCongruence}
+use Rattle.algebra.proofs.Congruences.{Respects, IsCongruence, respects-one}
 use Rattle.algebra.proofs.Tables.{operationAt, operationAt-member, every-operation, value-at}
 
 -- a list whose members are below n, as an argument list, and back
@@ -66,7 +65,7 @@ congruence-compatible a m c x y lx ly e j l pre post s h k =
     let ax : Args n (getD (a .arities) j 0) xs = args-around n (getD (a .arities) j 0) x pre post s lx h k in
     let ay : Args n (getD (a .arities) j 0) (pre ++ (y ∷ post)) = args-around n (getD (a .arities) j 0) y pre post s ly h k in
     let r : Holds m (value n f xs) (value n f (set xs (length pre) y)) =
-    c .respects f (operationAt-member a j l) xs (rw (arity-at a j) ax) (length pre) y (rw (arity-at a j) (omega arith)) ly (rw (getD-append-seam pre x post 0) e) in
+    respects-one a m c f (operationAt-member a j l) xs (rw (arity-at a j) ax) (length pre) y (rw (arity-at a j) (omega arith)) ly (rw (getD-append-seam pre x post 0) e) in
     ap (byte m) (sym (value-result a j xs ax)) ∙ r ∙ ap (λ (z : List ℕ). byte m (value n f z)) t ∙ ap (byte m) (value-result a j (pre ++ (y ∷ post)) ay)
 
 around : (xs : List ℕ) (i : ℕ) → i < length xs → xs ≡ take i xs ++ (getD xs i 0 ∷ drop (suc i) xs)

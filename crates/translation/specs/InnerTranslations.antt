@@ -1,3 +1,4 @@
+-- Inner vocabulary: no contract of a service and no theorem cites this file.
 -- Translations: the results of an operation while one argument varies and the others stay. Inner functions promise each other congruences
 -- in these terms, over functions and their kernels; `isCongruence` says the same of a map (`compatible-congruence` in proofs/).
 use Prim.Native.Nat.{ℕ, _+_, _<_}

@@ -1,11 +1,10 @@
 -- `cell_count`: the sum is where table number j begins.
 use Prim.Native.Nat.{_-_, _≤_}
-use mathlib.Core.Path.{_≡_, sym, _∙_}
+use mathlib.Core.Path.{_≡_, sym}
 use native.Mathlib.Omega.{arith}
-use lib.ListN.{length, getD, take}
-use Rattle.algebra.proofs.Tables.{start-next, start-first, start-last, power-small, cellCount-small}
+use lib.ListN.{length, take}
+use Rattle.algebra.proofs.Tables.{start-first, summed-more, summed-all, summed-small}
 use Rattle.algebra.specs.Algebra.{cellCount}
-use Rattle.equivalence.proofs.Tests.{left}
 use Rattle.algebra.proofs.cell_count.Statement.{statement}
 use Rattle.algebra.proofs.cell_count.Tie as tie
 
@@ -16,7 +15,7 @@ abbrev μ-loop : tie.MeasureT-loop
 μ-loop n arities sum₀ j₀ sum j = length arities - j
 
 loop-holds : tie.Need-loop-holds Inv-loop μ-loop
-loop-holds c = (omega arith, sym (start-first (c .before .args .n) (c .before .args .arities .now)))
+loop-holds c = (omega arith, sym (search start-first))
 
 shared-slice-read-power : tie.Need-shared-slice-read-power Inv-loop μ-loop
 shared-slice-read-power c = omega arith
@@ -25,14 +24,12 @@ cast-power : tie.Need-cast-power Inv-loop μ-loop
 cast-power c = omega (arith, c .shared-slice-known2 .given (c .before .before .loop .j))
 
 power-requires : tie.Need-power-requires Inv-loop μ-loop
-power-requires c κs = (c .before .before .before .before .pre .0, c .before .before .before .before .pre .1 .1 (c .before .before .loop .j) (c .before .loop-test .taken))
+power-requires c κs = let s = c .before .before .before .before in (s .pre .0, s .pre .1 .1 (c .before .before .loop .j) (c .before .loop-test .taken))
 
 add-sum : tie.Need-add-sum Inv-loop μ-loop
 add-sum c =
-    let n = c .before .before .before .before .before .args .n in
-    let s = c .before .before .before .before .before .args .arities .now in
-    let j = c .before .before .before .loop .j in
-    omega (arith, c .power .ensures, power-small n (getD s j 0) (c .before .before .before .before .before .pre .0) (c .before .before .before .before .before .pre .1 .1 j (c .before .before .loop-test .taken)), cellCount-small n s j (c .before .before .before .before .before .pre .0) (omega arith) (c .before .before .before .before .before .pre .1 .1))
+    let p = c .before .before .before .before .before .pre in
+    omega (arith, summed-small _ _ (p .0) (p .1 .1) _ (p .1 .0) (c .before .before .loop-test .taken) (c .before .before .before .loop .inv .1) (c .power .ensures))
 
 add-j : tie.Need-add-j Inv-loop μ-loop
 add-j c = omega arith
@@ -41,10 +38,10 @@ loop-less : tie.Need-loop-less Inv-loop μ-loop
 loop-less c = omega arith
 
 loop-again : tie.Need-loop-again Inv-loop μ-loop
-loop-again c = (omega arith, omega (arith, c .power .ensures, start-next (c .before .before .before .before .before .args .n) (c .before .before .before .before .before .args .arities .now) (c .before .before .before .loop .j) (c .before .before .loop-test .taken)))
+loop-again c = (omega arith, search summed-more)
 
 returns : tie.Need-returns Inv-loop μ-loop
-returns c = c .before .loop .inv .1 ∙ start-last (c .before .before .before .args .n) (c .before .before .before .args .arities .now) (c .before .loop .j) (c .loop-test .left)
+returns c = search summed-all
 
 pub cell-count-spec : {M : Type 1} → statement M
 cell-count-spec =

@@ -1,81 +1,60 @@
--- `check`: at each return the tests before it have passed, and this one applies; at the last none does.
-use mathlib.Core.Path.{sym, _∙_}
-use mathlib.Core.Logic.{inl, inr}
-use native.Mathlib.Omega.{arith}
+-- `check` meets its contract, by the laws of Accepted: one for each return.
 use borrow.Author.Needs.{needs}
-use Rattle.algebra.proofs.Accepted.{size-failed, size-passed, operations-failed, operations-passed, arity-failed, arity-passed, cells-failed, cells-passed, length-failed, length-passed, cell-failed, cell-passed}
-use Rattle.algebra.specs.Algebra.{algebraOf}
-use Rattle.equivalence.proofs.Tests.{left}
+use Rattle.algebra.proofs.Accepted.{tests-size, tests-operations, tests-arity, tests-cells, tests-length, tests-cell, tests-passed}
+use Rattle.equivalence.proofs.Refusals.{sized-most}
+use Rattle.algebra.proofs.Maximum.{largest-most}
 use Rattle.algebra.proofs.check.Statement.{statement}
 use Rattle.algebra.proofs.check.Tie as tie
 
+is-size-requires : tie.Need-is-size-requires
+is-size-requires c κs = search needs
+
 returns : tie.Need-returns
-returns c = sym (size-failed (algebraOf (c .before .before .before .args .n) (c .before .before .before .args .arities .now) (c .before .before .before .args .cells .now)) (inl (omega arith)))
+returns c = search tests-size
 
 returns-2 : tie.Need-returns-2
-returns-2 c = sym (size-failed (algebraOf (c .before .before .before .before .args .n) (c .before .before .before .before .args .arities .now) (c .before .before .before .before .args .cells .now)) (inr (c .if2 .taken)))
-
-returns-3 : tie.Need-returns-3
-returns-3 c =
-    let a = algebraOf (c .before .before .before .before .before .args .n) (c .before .before .before .before .before .args .arities .now) (c .before .before .before .before .before .args .cells .now) in
-    sym (size-passed a (omega arith) (omega arith) ∙ operations-failed a (c .if3 .taken))
+returns-2 c = search tests-operations
 
 largest-requires : tie.Need-largest-requires
 largest-requires c κs = search needs
 
-returns-4 : tie.Need-returns-4
-returns-4 c =
-    let a = algebraOf (c .before .before .before .before .before .before .before .args .n) (c .before .before .before .before .before .before .before .args .arities .now) (c .before .before .before .before .before .before .before .args .cells .now) in
-    sym (size-passed a (omega arith) (omega arith) ∙ operations-passed a (c .before .before .if3 .left) ∙ arity-failed a (λ h. absurd (omega (arith, c .before .largest .ensures .least 4 (omega arith) (λ j l. omega (arith, h j l))))))
+returns-3 : tie.Need-returns-3
+returns-3 c = search tests-arity
 
 cell-count-requires : tie.Need-cell-count-requires
-cell-count-requires c κs = (omega arith, (omega arith, λ i l. omega (arith, c .before .largest .ensures .above i l)))
+cell-count-requires c κs = (search sized-most, (search needs, search largest-most))
+
+returns-4 : tie.Need-returns-4
+returns-4 c = search tests-cells
 
 returns-5 : tie.Need-returns-5
-returns-5 c =
-    let a = algebraOf (c .before .before .before .before .before .before .before .before .before .args .n) (c .before .before .before .before .before .before .before .before .before .args .arities .now) (c .before .before .before .before .before .before .before .before .before .args .cells .now) in
-    sym (size-passed a (omega arith) (omega arith) ∙ operations-passed a (c .before .before .before .before .if3 .left) ∙ arity-passed a (λ i l. omega (arith, c .before .before .before .largest .ensures .above i l))
-    ∙ cells-failed a (omega arith))
-
-returns-6 : tie.Need-returns-6
-returns-6 c =
-    let a = algebraOf (c .before .before .before .before .before .before .before .before .before .before .args .n) (c .before .before .before .before .before .before .before .before .before .before .args .arities .now) (c .before .before .before .before .before .before .before .before .before .before .args .cells .now) in
-    sym (size-passed a (omega arith) (omega arith) ∙ operations-passed a (c .before .before .before .before .before .if3 .left) ∙ arity-passed a (λ i l. omega (arith, c .before .before .before .before .largest .ensures .above i l))
-    ∙ cells-passed a (omega arith) ∙ length-failed a (λ e. c .if6 .taken (e ∙ sym (c .before .before .cell-count .ensures))))
+returns-5 c = search tests-length
 
 largest-requires-2 : tie.Need-largest-requires-2
 largest-requires-2 c κs = search needs
 
-cast-if7 : tie.Need-cast-if7
-cast-if7 c = search needs
+cast-if6 : tie.Need-cast-if6
+cast-if6 c = search needs
+
+returns-6 : tie.Need-returns-6
+returns-6 c = search tests-cell
 
 returns-7 : tie.Need-returns-7
-returns-7 c =
-    let a = algebraOf (c .before .before .before .before .before .before .before .before .before .before .before .before .args .n) (c .before .before .before .before .before .before .before .before .before .before .before .before .args .arities .now) (c .before .before .before .before .before .before .before .before .before .before .before .before .args .cells .now) in
-    sym (size-passed a (omega arith) (omega arith) ∙ operations-passed a (c .before .before .before .before .before .before .before .if3 .left) ∙ arity-passed a (λ i l. omega (arith, c .before .before .before .before .before .before .largest .ensures .above i l))
-    ∙ cells-passed a (omega arith) ∙ length-passed a (c .before .before .if6 .left ∙ c .before .before .before .before .cell-count .ensures)
-    ∙ cell-failed a (λ h. absurd (omega (arith, c .before .largest2 .ensures .least (c .before .before .before .before .before .before .before .before .before .before .before .before .args .n) (omega arith) h))))
-
-returns-8 : tie.Need-returns-8
-returns-8 c =
-    let a = algebraOf (c .before .before .before .before .before .before .before .before .before .before .before .before .args .n) (c .before .before .before .before .before .before .before .before .before .before .before .before .args .arities .now) (c .before .before .before .before .before .before .before .before .before .before .before .before .args .cells .now) in
-    sym (size-passed a (omega arith) (omega arith) ∙ operations-passed a (c .before .before .before .before .before .before .before .if3 .left) ∙ arity-passed a (λ i l. omega (arith, c .before .before .before .before .before .before .largest .ensures .above i l))
-    ∙ cells-passed a (omega arith) ∙ length-passed a (c .before .before .if6 .left ∙ c .before .before .before .before .cell-count .ensures)
-    ∙ cell-passed a (λ i l. omega (arith, c .before .largest2 .ensures .above i l)))
+returns-7 c = search tests-passed
 
 pub check-spec : {M : Type 1} → statement M
 check-spec =
     tie.close
     (tie.spec
+    is-size-requires
     returns
     returns-2
-    returns-3
     largest-requires
-    returns-4
+    returns-3
     cell-count-requires
+    returns-4
     returns-5
-    returns-6
     largest-requires-2
-    cast-if7
-    returns-7
-    returns-8)
+    cast-if6
+    returns-6
+    returns-7)

@@ -1,10 +1,9 @@
 -- `largest`: the largest of the bytes passed, one byte more in each turn.
 use Prim.Native.Nat.{_-_, _≤_}
-use mathlib.Core.Path.{_≡_}
 use native.Mathlib.Omega.{arith}
 use lib.ListN.{length}
 use borrow.Author.Needs.{needs}
-use Rattle.algebra.proofs.Maximum.{largest-none, largest-more}
+use Rattle.algebra.proofs.Maximum.{largest-none, largest-more, largest-all}
 use Rattle.kernel.specs.InnerLargest.{Largest}
 use Rattle.algebra.proofs.largest.Statement.{statement}
 use Rattle.algebra.proofs.largest.Tie as tie
@@ -31,10 +30,10 @@ loop-less : tie.Need-loop-less Inv-loop μ-loop
 loop-less c = omega arith
 
 loop-again : tie.Need-loop-again Inv-loop μ-loop
-loop-again c = (omega arith, largest-more _ (c .larger .ensures) (c .before .before .before .loop .inv .1))
+loop-again c = (omega arith, search largest-more)
 
 returns : tie.Need-returns Inv-loop μ-loop
-returns c = let e : c .before .loop .i ≡ length (c .before .before .before .args .s .now) = omega arith in rw e at (c .before .loop .inv .1)
+returns c = search largest-all
 
 pub largest-spec : {M : Type 1} → statement M
 largest-spec =

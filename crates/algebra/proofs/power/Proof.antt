@@ -1,10 +1,9 @@
 -- `power`: r is n to the power i; it stays below 64 to the power 3.
-use Prim.Native.Nat.{_+_, _*_, _-_, _≤_, _^_}
-use mathlib.Core.Path.{_≡_, refl, sym, ap}
+use Prim.Native.Nat.{_+_, _-_, _≤_, _^_}
+use mathlib.Core.Path.{_≡_, sym}
 use native.Mathlib.Omega.{arith}
-use native.Mathlib.Numerals.{add-one}
-use native.Mathlib.Nat.{pow-zero, pow-suc}
-use Rattle.algebra.proofs.Tables.{power-small}
+use native.Mathlib.Nat.{pow-zero}
+use Rattle.algebra.proofs.Powers.{power-small, raised-more, raised-all}
 use Rattle.algebra.proofs.power.Statement.{statement}
 use Rattle.algebra.proofs.power.Tie as tie
 
@@ -19,9 +18,9 @@ loop-holds c = (omega arith, sym (pow-zero _))
 
 mul-r : tie.Need-mul-r Inv-loop μ-loop
 mul-r c =
+    let l = c .before .loop in
     let s = c .before .before in
-    let e : c .before .loop .r * s .args .n ≡ s .args .n ^ (c .before .loop .i + 1) = rw (add-one, pow-suc, c .before .loop .inv .1) refl in
-    omega (arith, power-small (s .args .n) (c .before .loop .i + 1) (s .pre .0) (omega arith))
+    omega (arith, raised-more (s .args .n) (l .i) (l .inv .1), power-small (s .args .n) (l .i + 1) (s .pre .0) (omega arith))
 
 add-i : tie.Need-add-i Inv-loop μ-loop
 add-i c = omega arith
@@ -30,10 +29,10 @@ loop-less : tie.Need-loop-less Inv-loop μ-loop
 loop-less c = omega arith
 
 loop-again : tie.Need-loop-again Inv-loop μ-loop
-loop-again c = (omega arith, rw (add-one, pow-suc, c .before .loop .inv .1) refl)
+loop-again c = (omega arith, search raised-more)
 
 returns : tie.Need-returns Inv-loop μ-loop
-returns c = rw (c .before .loop .inv .1) (ap (λ k. c .before .before .args .n ^ k) (omega arith))
+returns c = search raised-all
 
 pub power-spec : {M : Type 1} → statement M
 power-spec =

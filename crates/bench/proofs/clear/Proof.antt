@@ -1,8 +1,9 @@
--- `bench::clear` meets its contract.
+-- `bench::clear` meets its contract, by the laws of Testing: one for each return, and `clear-passed` for what the tests leave.
 use mathlib.Core.Path.{sym, _∙_}
 use borrow.Author.Needs.{needs}
 use Rattle.bench.specs.Calls.{clearCall}
-use Rattle.bench.proofs.Testing.{clear-passed, benched-passed, benched-failed}
+use Rattle.bench.proofs.Testing.{clear-passed}
+use Rattle.bench.proofs.Testing.{benched-no, benched-yes}
 use Rattle.bench.proofs.clear.Statement.{statement}
 use Rattle.bench.proofs.clear.Tie as tie
 
@@ -20,11 +21,11 @@ cleared-requires c κs = let p = clear-passed _ _ (sym (c .before .before .clear
 
 returns : tie.Need-returns
 unfolding clearCall
-returns c = sym (benched-failed _ _ _ _ (sym (c .before .before .before .clear-check .ensures) ∙ c .before .check .given .1))
+returns c = search benched-no
 
 returns-2 : tie.Need-returns-2
 unfolding clearCall
-returns-2 c = rw (c .cleared .ensures) (sym (benched-passed _ _ _ (sym (c .before .before .before .clear-check .ensures) ∙ c .before .enum-told .given .1)))
+returns-2 c = search benched-yes
 
 pub clear-spec : {M : Type 1} → statement M
 clear-spec =

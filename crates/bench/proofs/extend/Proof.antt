@@ -20,7 +20,10 @@ raised-requires c κs = (add-passed _ _ _ _ _ (c .before .before .before .before
 
 returns : tie.Need-returns
 unfolding sheetOf
-returns c = c .raised .ensures ∙ grown-call _ _ _ _ _ (c .before .before .before .before .before .before .before .pre) _ _ _ (c .before .before .before .nth .ensures .0) (c .before .before .extended .ensures)
+returns c =
+    let old = c .before .before .before .nth .ensures .0 in
+    let pre = c .before .before .before .before .before .before .before .pre in
+    c .raised .ensures ∙ grown-call _ _ _ _ _ pre _ _ _ old (c .before .before .extended .ensures)
 
 pub extend-spec : {M : Type 1} → statement M
 extend-spec = tie.close (tie.spec nth-requires extended-requires raised-requires returns)

@@ -1,8 +1,9 @@
--- `bench::start` meets its contract.
+-- `bench::start` meets its contract, by the laws of Testing: one for each return.
 use mathlib.Core.Path.{sym, _∙_}
 use borrow.Author.Needs.{needs}
-use Rattle.bench.specs.Calls.{startTests, startCall}
-use Rattle.bench.proofs.Testing.{size-passed, benched-passed, benched-failed}
+use Rattle.bench.specs.Calls.{startCall}
+use Rattle.bench.proofs.Testing.{start-passed}
+use Rattle.bench.proofs.Testing.{benched-no, benched-yes}
 use Rattle.bench.proofs.start.Statement.{statement}
 use Rattle.bench.proofs.start.Tie as tie
 
@@ -19,15 +20,15 @@ enum-told : tie.Need-enum-told
 enum-told c = search needs
 
 fresh-requires : tie.Need-fresh-requires
-fresh-requires c κs = size-passed _ _ (sym (c .before .before .start-check .ensures) ∙ c .enum-told .given .1) .1
+fresh-requires c κs = start-passed _ (sym (c .before .before .start-check .ensures) ∙ c .enum-told .given .1)
 
 returns : tie.Need-returns
 unfolding startCall
-returns c = rw (c .zeros .ensures) (sym (benched-failed (startTests _) _ _ _ (sym (c .before .before .before .before .start-check .ensures) ∙ c .before .before .check .given .1)))
+returns c = search benched-no
 
 returns-2 : tie.Need-returns-2
 unfolding startCall
-returns-2 c = rw (c .fresh .ensures) (sym (benched-passed (startTests _) _ _ (sym (c .before .before .before .start-check .ensures) ∙ c .before .enum-told .given .1)))
+returns-2 c = search benched-yes
 
 pub start-spec : {M : Type 1} → statement M
 start-spec =

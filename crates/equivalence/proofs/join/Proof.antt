@@ -1,11 +1,7 @@
-use Prim.Native.Nat.{_-_}
-use mathlib.Core.Path.{sym, _∙_}
-use native.Mathlib.Omega.{arith}
-use denote.Ref.{now}
+-- `join` meets its contract, by the laws of Calls: one for each return, and `twoMaps-writable` for what the tests leave.
 use borrow.Author.Needs.{needs}
-use Rattle.equivalence.proofs.Bytes.{canonical-of}
-use Rattle.equivalence.specs.Calls.{twoMapsCheck, joinCall}
-use Rattle.equivalence.proofs.Calls.{of-twoMapsCheck, twoMaps-refused, twoMaps-done}
+use Rattle.equivalence.specs.Calls.{joinCall}
+use Rattle.equivalence.proofs.Calls.{twoMaps-writable, twoMaps-refused, twoMaps-done}
 use Rattle.equivalence.proofs.join.Statement.{statement}
 use Rattle.equivalence.proofs.join.Tie as tie
 
@@ -16,30 +12,23 @@ enum-known-check : tie.Need-enum-known-check
 enum-known-check c = search needs
 
 returns : tie.Need-returns
-unfolding joinCall twoMapsCheck
-returns c =
-    let k = c .before .before .before in
-    twoMaps-refused _ _ _ _ _ _ (sym (c .before .check .given .1) ∙ k .maps-space-check .ensures)
+unfolding joinCall
+returns c = search twoMaps-refused
 
 enum-told : tie.Need-enum-told
 enum-told c = search needs
 
 join-into-requires : tie.Need-join-into-requires
-unfolding twoMapsCheck
 join-into-requires c κs =
-    let k = c .before .before .before in
-    let s = k .before .before .before .before .args in
-    let t = of-twoMapsCheck (s .n) (s .a .now) (s .b .now) (s .out .now) (sym (k .maps-space-check .ensures) ∙ c .before .enum-told .given .1) in
-    (omega (arith, t .0 .first .long), (omega (arith, t .0 .second .long), (t .1, (canonical-of _ _ (t .0 .first), canonical-of _ _ (t .0 .second)))))
+    let w = twoMaps-writable _ _ _ _ (c .before .before .before .maps-space-check .ensures) (c .before .enum-told .given .1) in
+    (w .first, (w .second, (w .room, (w .names, w .others))))
 
 same-length : tie.Need-same-length
 same-length c = search needs
 
 returns-2 : tie.Need-returns-2
-unfolding joinCall twoMapsCheck
-returns-2 c =
-    let k = c .before .before .before .before .before .before in
-    twoMaps-done _ _ _ _ _ _ (sym (c .before .before .before .before .enum-told .given .1) ∙ k .maps-space-check .ensures) (c .before .before .join-into .ensures)
+unfolding joinCall
+returns-2 c = search twoMaps-done
 
 pub join-spec : {M : Type 1} → statement M
 join-spec =

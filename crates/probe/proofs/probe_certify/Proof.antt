@@ -1,3 +1,4 @@
+-- `probe::probe_certify` meets its contract: the number of what `certify` answers.
 use mathlib.Core.Path.{ap, _∙_}
 use borrow.Author.Needs.{needs}
 use Rattle.equivalence.specs.Outcome.{packed}

@@ -1,9 +1,7 @@
-use Prim.Native.Nat.{ℕ}
-use mathlib.Core.List.{List}
-use mathlib.Core.Path.{ap, _∙_}
-use Rattle.equivalence.specs.Outcome.{packed, writtenOutcome}
-use Rattle.equivalence.specs.declared.Written.{Written}
+-- `probe::probe_meet` meets its contract: the number of what `meet` answers, and the bytes that it leaves.
+use Rattle.equivalence.specs.Outcome.{writtenOutcome}
 use borrow.Author.Needs.{needs}
+use Rattle.probe.proofs.Probes.{call-number}
 use Rattle.probe.proofs.probe_meet.Statement.{statement}
 use Rattle.probe.proofs.probe_meet.Tie as tie
 
@@ -17,9 +15,7 @@ same-length : tie.Need-same-length
 same-length c = search needs
 
 returns : tie.Need-returns
-returns c =
-    let e = c .before .before .before .meet .ensures in
-    (c .written-number .ensures ∙ ap (λ (r : Written × List ℕ). packed (writtenOutcome (r .0))) e, ap (λ (r : Written × List ℕ). r .1) e)
+returns c = call-number writtenOutcome _ (c .before .before .before .meet .ensures) (c .written-number .ensures)
 
 pub probe-meet-spec : {M : Type 1} → statement M
 probe-meet-spec = tie.close (tie.spec meet-requires written-number-requires same-length returns)

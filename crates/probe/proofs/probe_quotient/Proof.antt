@@ -1,10 +1,7 @@
-use Prim.Native.Nat.{ℕ}
-use mathlib.Core.List.{List}
-use mathlib.Core.Path.{ap, _∙_}
-use Rattle.equivalence.specs.Outcome.{packed}
+-- `probe::probe_quotient` meets its contract: the number of what `quotient` answers, and the bytes that it leaves.
 use Rattle.congruence.specs.Outcome.{dividedOutcome}
-use Rattle.congruence.specs.declared.Divided.{Divided}
 use borrow.Author.Needs.{needs}
+use Rattle.probe.proofs.Probes.{call-number}
 use Rattle.probe.proofs.probe_quotient.Statement.{statement}
 use Rattle.probe.proofs.probe_quotient.Tie as tie
 
@@ -18,9 +15,7 @@ same-length : tie.Need-same-length
 same-length c = search needs
 
 returns : tie.Need-returns
-returns c =
-    let e = c .before .before .before .quotient .ensures in
-    (c .divided-number .ensures ∙ ap (λ (r : Divided × List ℕ). packed (dividedOutcome (r .0))) e, ap (λ (r : Divided × List ℕ). r .1) e)
+returns c = call-number dividedOutcome _ (c .before .before .before .quotient .ensures) (c .divided-number .ensures)
 
 pub probe-quotient-spec : {M : Type 1} → statement M
 probe-quotient-spec =

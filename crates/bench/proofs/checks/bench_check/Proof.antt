@@ -1,26 +1,20 @@
--- `bench::checks::bench_check` meets its contract.
-use mathlib.Core.Path.{sym, _∙_}
+-- `bench::checks::bench_check` meets its contract, by the laws of Testing: one for each return.
 use borrow.Author.Needs.{needs}
-use borrow.Author.Tests.{eq-eqb, ne-eqb, not-true, not-false}
-use Rattle.equivalence.specs.Refusal.{lowest}
-use Rattle.bench.specs.Calls.{benchTest}
+use Rattle.bench.proofs.Testing.{bench-other, bench-faulty, bench-right}
 use Rattle.bench.proofs.checks.bench_check.Statement.{statement}
 use Rattle.bench.proofs.checks.bench_check.Tie as tie
 
 returns : tie.Need-returns
-unfolding lowest benchTest
-returns c = simp (ne-eqb _ _ (c .if1 .taken))
+returns c = search bench-other
 
 all-have-maps-requires : tie.Need-all-have-maps-requires
 all-have-maps-requires c κs = search needs
 
 returns-2 : tie.Need-returns-2
-unfolding lowest benchTest
-returns-2 c = simp (eq-eqb _ _ (c .before .before .before .if1 .left), sym (c .before .all-have-maps .ensures) ∙ not-true _ (c .if2 .taken))
+returns-2 c = search bench-faulty
 
 returns-3 : tie.Need-returns-3
-unfolding lowest benchTest
-returns-3 c = simp (eq-eqb _ _ (c .before .before .before .if1 .left), sym (c .before .all-have-maps .ensures) ∙ not-false _ (c .if2 .left))
+returns-3 c = search bench-right
 
 pub bench-check-spec : {M : Type 1} → statement M
 bench-check-spec = tie.close (tie.spec returns all-have-maps-requires returns-2 returns-3)

@@ -1,10 +1,9 @@
--- `bench::checks::handed_check` meets its contract.
+-- `bench::checks::handed_check` meets its contract, by the laws of Testing: one for each return.
 use mathlib.Core.Path.{sym, _∙_}
 use borrow.Author.Needs.{needs}
-use Rattle.equivalence.proofs.Refusals.{lowest-append, lowest-failed}
 use Rattle.algebra.specs.Accepted.{Accepted}
 use Rattle.algebra.proofs.Accepted.{accepted-wellFormed}
-use Rattle.bench.specs.Calls.{handedTests}
+use Rattle.bench.proofs.Testing.{handed-failed, handed-last}
 use Rattle.bench.proofs.checks.handed_check.Statement.{statement}
 use Rattle.bench.proofs.checks.handed_check.Tie as tie
 
@@ -22,12 +21,10 @@ unfolding Accepted
 place-check-requires c κs = accepted-wellFormed _ (sym (c .before .before .check .ensures) ∙ c .enum-told .given .1) .most
 
 returns : tie.Need-returns
-unfolding handedTests
-returns c = sym (lowest-failed _ _ _ (sym (c .before .before .before .check .ensures) ∙ c .before .check2 .given .1))
+returns c = search handed-failed
 
 returns-2 : tie.Need-returns-2
-unfolding handedTests
-returns-2 c = c .place-check .ensures ∙ sym (lowest-append _ _ (sym (c .before .before .before .check .ensures) ∙ c .before .enum-told .given .1))
+returns-2 c = search handed-last
 
 pub handed-check-spec : {M : Type 1} → statement M
 handed-check-spec =

@@ -1,8 +1,7 @@
--- `bench::checks::start_check` meets its contract.
+-- `bench::checks::start_check` is the test of reason 1, by the laws of the equivalence crate.
 use mathlib.Core.Path.{sym, _∙_}
 use borrow.Author.Needs.{needs}
-use borrow.Author.Tests.{not-true, not-false}
-use Rattle.equivalence.specs.Refusal.{lowest, sizeTest}
+use Rattle.equivalence.proofs.Refusals.{lowest-none, size-refused, size-passed}
 use Rattle.bench.proofs.checks.start_check.Statement.{statement}
 use Rattle.bench.proofs.checks.start_check.Tie as tie
 
@@ -10,12 +9,10 @@ is-size-requires : tie.Need-is-size-requires
 is-size-requires c κs = search needs
 
 returns : tie.Need-returns
-unfolding lowest sizeTest
-returns c = simp (not-false (sizeTest (c .before .before .args .n) .applies) (sym (c .before .is-size .ensures) ∙ not-true _ (c .if1 .taken)))
+returns c = sym (search size-refused)
 
 returns-2 : tie.Need-returns-2
-unfolding lowest sizeTest
-returns-2 c = simp (not-true (sizeTest (c .before .before .args .n) .applies) (sym (c .before .is-size .ensures) ∙ not-false _ (c .if1 .left)))
+returns-2 c = sym (size-passed _ _ (c .before .is-size .ensures) (c .if1 .left) ∙ lowest-none)
 
 pub start-check-spec : {M : Type 1} → statement M
 start-check-spec = tie.close (tie.spec is-size-requires returns returns-2)

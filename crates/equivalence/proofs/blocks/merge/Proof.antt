@@ -1,3 +1,4 @@
+-- `merge` meets its contract: putting the larger name under the smaller is a merge, by `relabelled-either` of the kernel crate.
 use Rattle.kernel.proofs.Kernels.{relabelled-either}
 use borrow.Author.Needs.{needs}
 use Rattle.equivalence.proofs.blocks.merge.Statement.{statement}
@@ -22,9 +23,7 @@ same-length : tie.Need-same-length
 same-length c = search needs
 
 returns : tie.Need-returns
-returns c =
-    let q = c .before .before .before .before .before .before .before .before .before .pre .1 in
-    relabelled-either _ _ _ _ _ _ _ (q .1 .1 .0) (q .0) (q .1 .0) (q .1 .1 .1) (c .before .before .before .before .before .larger .ensures) (c .before .before .before .before .smaller .ensures) (c .before .before .relabel-all .ensures)
+returns c = search relabelled-either
 
 pub merge-spec : {M : Type 1} → statement M
 merge-spec =

@@ -1,11 +1,12 @@
+-- `relabel_all` meets its contract. The loop has relabelled the first i bytes (`Filled`), by the laws of the kernel crate.
 use Prim.Native.Nat.{_≤_, _-_}
-use mathlib.Core.Path.{_≡_, refl, ap, _∙_}
+use mathlib.Core.Path.{_≡_, refl}
 use native.Mathlib.Omega.{arith}
 use lib.ListN.{length, length-set}
 use borrow.Author.Needs.{needs}
 use Rattle.equivalence.specs.Equivalence.{byte}
 use Rattle.kernel.specs.InnerKernel.{Filled, relabel}
-use Rattle.kernel.proofs.Kernels.{filled-none, filled-more}
+use Rattle.kernel.proofs.Kernels.{filled-none, relabelled-more, filled-all}
 use Rattle.equivalence.proofs.blocks.relabel_all.Statement.{statement}
 use Rattle.equivalence.proofs.blocks.relabel_all.Tie as tie
 
@@ -34,18 +35,13 @@ loop-less : tie.Need-loop-less Inv-loop μ-loop
 loop-less c = omega arith
 
 loop-again : tie.Need-loop-again Inv-loop μ-loop
-loop-again c =
-    let l = c .before .before .before .loop in (
-      omega arith,
-      simp length-set (omega arith),
-      filled-more (l .m) _ (omega arith) (c .relabelled .ensures ∙ ap (relabel _ _) (l .inv .2 .rest (l .i) (omega arith))) (l .inv .2),
-    )
+loop-again c = let l = c .before .before .before .loop in (omega arith, simp length-set (omega arith), relabelled-more _ _ (l .m) _ (omega arith) (c .relabelled .ensures) (l .inv .2))
 
 same-length : tie.Need-same-length Inv-loop μ-loop
 same-length c = omega arith
 
 returns : tie.Need-returns Inv-loop μ-loop
-returns c = let e : c .before .loop .i ≡ c .before .before .before .args .n = omega arith in rw e at (c .before .loop .inv .2)
+returns c = search filled-all
 
 pub relabel-all-spec : {M : Type 1} → statement M
 relabel-all-spec =

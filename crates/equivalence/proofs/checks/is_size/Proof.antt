@@ -1,4 +1,4 @@
-use Prim.Native.Nat.{_-_}
+-- `is_size` is the test of reason 1, computed in each branch.
 use borrow.Author.Tests.{lt-ltb, le-ltb, eq-eqb, ne-eqb}
 use Rattle.equivalence.specs.Refusal.{sizeTest}
 use Rattle.equivalence.proofs.checks.is_size.Statement.{statement}

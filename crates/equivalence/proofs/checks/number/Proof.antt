@@ -1,4 +1,4 @@
-use Prim.Native.Nat.{_-_}
+-- `number` is `numberOf`, computed in each branch.
 use mathlib.Core.Path.{ap, sym}
 use borrow.Author.Needs.{needs}
 use Rattle.equivalence.specs.Refusal.{numberOf}

@@ -1,4 +1,4 @@
-use Prim.Native.Nat.{_-_}
+-- `first_seen` is `seenOr`, by the laws of Meeting.
 use mathlib.Core.Path.{sym}
 use borrow.Author.Needs.{needs}
 use Rattle.equivalence.proofs.Meeting.{seenOr-yes, seenOr-no}
@@ -9,10 +9,10 @@ cast-result : tie.Need-cast-result
 cast-result c = search needs
 
 returns : tie.Need-returns
-returns c = sym (seenOr-yes _ _ (c .if1 .taken))
+returns c = sym (search seenOr-yes)
 
 returns-2 : tie.Need-returns-2
-returns-2 c = sym (seenOr-no _ _ (c .if1 .left))
+returns-2 c = sym (search seenOr-no)
 
 pub first-seen-spec : {M : Type 1} → statement M
 first-seen-spec = tie.close (tie.spec cast-result returns returns-2)

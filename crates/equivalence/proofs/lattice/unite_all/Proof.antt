@@ -1,3 +1,4 @@
+-- `unite_all` meets its contract. The loop has joined the elements below x with their names in b (`Joined`), by the laws of Joining.
 use Prim.Native.Nat.{_-_, _≤_}
 use mathlib.Core.Path.{_≡_, refl}
 use native.Mathlib.Omega.{arith}
@@ -5,7 +6,7 @@ use lib.ListN.{length}
 use borrow.Author.Needs.{needs}
 use Rattle.equivalence.specs.Equivalence.{byte}
 use Rattle.kernel.specs.InnerKernel.{Joined}
-use Rattle.equivalence.proofs.Joining.{joined-none, joined-more}
+use Rattle.equivalence.proofs.Joining.{joined-none, joined-more, joined-all}
 use Rattle.equivalence.proofs.lattice.unite_all.Statement.{statement}
 use Rattle.equivalence.proofs.lattice.unite_all.Tie as tie
 
@@ -16,7 +17,7 @@ abbrev μ-loop : tie.MeasureT-loop
 μ-loop m₀ n b x₀ m x = n - x
 
 loop-holds : tie.Need-loop-holds Inv-loop μ-loop
-loop-holds c = (omega arith, refl, joined-none (c .before .before .pre .1 .1 .0))
+loop-holds c = (omega arith, refl, search joined-none)
 
 shared-slice-read-first : tie.Need-shared-slice-read-first Inv-loop μ-loop
 shared-slice-read-first c = search needs
@@ -26,9 +27,9 @@ cast-first c = omega (arith, c .shared-slice-known2 .given (c .before .before .l
 
 unite-requires : tie.Need-unite-requires Inv-loop μ-loop
 unite-requires c κs =
-    let s = c .before .before .before .before .before .before in
     let l = c .before .before .before .loop in
-    (omega arith, (omega arith, (omega (arith, s .pre .1 .1 .1 .below (l .x) (c .before .before .loop-test .taken)), l .inv .2 .canonical)))
+    let p = c .before .before .before .before .before .before .pre in
+    (omega arith, (omega arith, (omega (arith, p .1 .1 .1 .below (l .x) (c .before .before .loop-test .taken)), l .inv .2 .canonical)))
 
 add-x : tie.Need-add-x Inv-loop μ-loop
 add-x c = search needs
@@ -37,16 +38,13 @@ loop-less : tie.Need-loop-less Inv-loop μ-loop
 loop-less c = search needs
 
 loop-again : tie.Need-loop-again Inv-loop μ-loop
-loop-again c =
-    let s = c .before .before .before .before .before .before .before .before .before in
-    let l = c .before .before .before .before .before .before .loop in
-    (omega arith, search needs, joined-more (omega arith) (s .pre .1 .1 .1) (l .inv .2) (c .before .before .unite .ensures))
+loop-again c = (omega arith, search needs, search (joined-more, arith))
 
 same-length : tie.Need-same-length Inv-loop μ-loop
 same-length c = search needs
 
 returns : tie.Need-returns Inv-loop μ-loop
-returns c = let e : c .before .loop .x ≡ c .before .before .before .before .args .n = omega arith in rw e at (c .before .loop .inv .2)
+returns c = search joined-all
 
 pub unite-all-spec : {M : Type 1} → statement M
 unite-all-spec =

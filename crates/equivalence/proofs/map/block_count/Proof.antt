@@ -1,10 +1,11 @@
-use Prim.Native.Nat.{_+_, _-_, _≤_}
+-- `block_count` meets its contract. The loop has counted the names below x, by the laws of Bytes.
+use Prim.Native.Nat.{_-_, _≤_}
 use mathlib.Core.Path.{_≡_, refl}
 use native.Mathlib.Omega.{arith}
 use borrow.Author.Needs.{needs}
 use Rattle.equivalence.specs.Equivalence.{byte}
 use Rattle.kernel.specs.InnerKernel.{names}
-use Rattle.equivalence.proofs.Bytes.{names-more, names-le}
+use Rattle.equivalence.proofs.Bytes.{counted-more, counted-most, counted-all}
 use Rattle.equivalence.proofs.map.block_count.Statement.{statement}
 use Rattle.equivalence.proofs.map.block_count.Tie as tie
 
@@ -18,14 +19,15 @@ loop-holds : tie.Need-loop-holds Inv-loop μ-loop
 unfolding names
 loop-holds c = (search needs, refl)
 
-shared-slice-read-own : tie.Need-shared-slice-read-own Inv-loop μ-loop
-shared-slice-read-own c = search needs
+shared-slice-read-self-named : tie.Need-shared-slice-read-self-named Inv-loop μ-loop
+shared-slice-read-self-named c = search needs
 
-own-requires : tie.Need-own-requires Inv-loop μ-loop
-own-requires c κs = search needs
+self-named-requires : tie.Need-self-named-requires Inv-loop μ-loop
+self-named-requires c κs = search needs
 
 add-count : tie.Need-add-count Inv-loop μ-loop
-add-count c = omega (arith, names-le (c .before .before .before .loop .x + 1) (byte (c .before .before .before .before .before .args .m .now)), names-more (c .before .before .before .loop .x) (byte (c .before .before .before .before .before .args .m .now)))
+add-count c = let l = c .before .before .before in
+    omega (arith, counted-most (l .loop .x) (byte (l .before .before .args .m .now)) (l .loop .inv .1) (c .self-named .ensures))
 
 add-x : tie.Need-add-x Inv-loop μ-loop
 add-x c = search needs
@@ -34,10 +36,10 @@ loop-less : tie.Need-loop-less Inv-loop μ-loop
 loop-less c = search needs
 
 loop-again : tie.Need-loop-again Inv-loop μ-loop
-loop-again c = (search needs, omega (arith, names-more (c .before .before .before .loop .x) (byte (c .before .before .before .before .before .args .m .now))))
+loop-again c = (search needs, search counted-more)
 
 returns : tie.Need-returns Inv-loop μ-loop
-returns c = let e : c .before .loop .x ≡ c .before .before .before .args .n = omega arith in rw e at (c .before .loop .inv .1)
+returns c = search counted-all
 
 pub block-count-spec : {M : Type 1} → statement M
 block-count-spec =
@@ -46,8 +48,8 @@ block-count-spec =
     Inv-loop
     μ-loop
     loop-holds
-    shared-slice-read-own
-    own-requires
+    shared-slice-read-self-named
+    self-named-requires
     add-count
     add-x
     loop-less

@@ -1,11 +1,11 @@
+-- `is_identity` meets its contract. Every element below x is its own name; the laws of Bytes turn that into the test.
 use Prim.Native.Nat.{ℕ, _-_, _≤_, _<_}
 use mathlib.Core.Path.{_≡_}
 use native.Mathlib.Omega.{arith}
 use borrow.Author.Needs.{needs}
 use borrow.Author.Count.{below-none, below-more}
 use Rattle.equivalence.specs.Equivalence.{byte}
-use Rattle.equivalence.proofs.Tests.{true-is, false-is}
-use Rattle.equivalence.proofs.Bytes.{isIdentity-own, of-isIdentity-own}
+use Rattle.equivalence.proofs.Bytes.{isIdentity-all, isIdentity-not}
 use Rattle.equivalence.proofs.map.is_identity.Statement.{statement}
 use Rattle.equivalence.proofs.map.is_identity.Tie as tie
 
@@ -25,7 +25,7 @@ cast-if1 : tie.Need-cast-if1 Inv-loop μ-loop
 cast-if1 c = omega (arith, c .shared-slice-known .given (c .before .before .loop .x))
 
 returns : tie.Need-returns Inv-loop μ-loop
-returns c = false-is _ (λ t. c .if1 .taken (of-isIdentity-own _ _ (search needs) t _ (c .before .before .loop-test .taken)))
+returns c = search isIdentity-not
 
 add-x : tie.Need-add-x Inv-loop μ-loop
 add-x c = search needs
@@ -37,7 +37,7 @@ loop-again : tie.Need-loop-again Inv-loop μ-loop
 loop-again c = (search needs, below-more _ _ (c .before .before .before .loop .inv .1) (c .if1 .left))
 
 returns-2 : tie.Need-returns-2 Inv-loop μ-loop
-returns-2 c = true-is _ (isIdentity-own _ _ (search needs) (λ k h. c .before .loop .inv .1 k (omega arith)))
+returns-2 c = search isIdentity-all
 
 pub is-identity-spec : {M : Type 1} → statement M
 is-identity-spec =

@@ -1,11 +1,11 @@
+-- `is_inside` meets its contract. Every element below x is with the first of its block; the laws of Bytes turn that into the test.
 use Prim.Native.Nat.{ℕ, _-_, _≤_, _<_}
 use mathlib.Core.Path.{_≡_}
 use native.Mathlib.Omega.{arith}
 use borrow.Author.Needs.{needs}
 use borrow.Author.Count.{below-none, below-more}
 use Rattle.equivalence.specs.Equivalence.{byte}
-use Rattle.equivalence.proofs.Tests.{true-is, false-is}
-use Rattle.equivalence.proofs.Bytes.{inside-first, of-inside-first}
+use Rattle.equivalence.proofs.Bytes.{inside-all, inside-not}
 use Rattle.equivalence.proofs.map.is_inside.Statement.{statement}
 use Rattle.equivalence.proofs.map.is_inside.Tie as tie
 
@@ -28,10 +28,12 @@ shared-slice-read-if1 : tie.Need-shared-slice-read-if1 Inv-loop μ-loop
 shared-slice-read-if1 c = search needs
 
 shared-slice-read-if1-2 : tie.Need-shared-slice-read-if1-2 Inv-loop μ-loop
-shared-slice-read-if1-2 c = omega (arith, c .before .before .before .before .before .pre .1 .1 .below (c .before .before .before .before .loop .x) (c .before .before .before .loop-test .taken))
+shared-slice-read-if1-2 c =
+    let l = c .before .before .before .before in
+    omega (arith, l .before .pre .1 .1 .below (l .loop .x) (c .before .before .before .loop-test .taken))
 
 returns : tie.Need-returns Inv-loop μ-loop
-returns c = false-is _ (λ t. c .if1 .taken (of-inside-first _ _ _ (search needs) t _ (c .before .before .before .before .loop-test .taken)))
+returns c = search inside-not
 
 add-x : tie.Need-add-x Inv-loop μ-loop
 add-x c = search needs
@@ -43,7 +45,7 @@ loop-again : tie.Need-loop-again Inv-loop μ-loop
 loop-again c = (search needs, below-more _ _ (c .before .before .before .before .before .loop .inv .1) (c .if1 .left))
 
 returns-2 : tie.Need-returns-2 Inv-loop μ-loop
-returns-2 c = true-is _ (inside-first _ _ _ (search needs) (λ k h. c .before .loop .inv .1 k (omega arith)))
+returns-2 c = search inside-all
 
 pub is-inside-spec : {M : Type 1} → statement M
 is-inside-spec =

@@ -1,4 +1,4 @@
-use Prim.Native.Nat.{_-_}
+-- `is_named` meets its contract, computed in each branch.
 use native.Mathlib.Omega.{arith}
 use borrow.Author.Needs.{needs}
 use borrow.Author.Tests.{le-leb, lt-leb}

@@ -1,9 +1,9 @@
+-- `first_held` meets its contract. The loop has found the foremost element below y (`Foremost`); at its end it gives the first pair held.
 use Prim.Native.Nat.{_-_, _≤_}
-use mathlib.Core.Path.{_≡_}
 use native.Mathlib.Omega.{arith}
 use borrow.Author.Needs.{needs}
 use Rattle.equivalence.specs.Equivalence.{byte}
-use Rattle.equivalence.proofs.Foremost.{Foremost, foremost-more, moved, held-start, held-end}
+use Rattle.equivalence.proofs.Foremost.{Foremost, foremost-more, moved, foremost-all, held-start, held-end}
 use Rattle.equivalence.proofs.order.first_held.Statement.{statement}
 use Rattle.equivalence.proofs.order.first_held.Tie as tie
 
@@ -14,7 +14,7 @@ abbrev μ-loop : tie.MeasureT-loop
 μ-loop n m at₀ y₀ at y = n - y
 
 loop-holds : tie.Need-loop-holds Inv-loop μ-loop
-loop-holds c = let s = c .before in (s .pre .0, held-start (s .args .n) (s .args .m .now) (s .pre .0) (s .pre .1 .1))
+loop-holds c = (search needs, search held-start)
 
 shared-slice-read-name : tie.Need-shared-slice-read-name Inv-loop μ-loop
 shared-slice-read-name c = search needs
@@ -46,11 +46,7 @@ cast-t13 : tie.Need-cast-t13 Inv-loop μ-loop
 cast-t13 c = omega (arith, c .shared-slice-known4 .given (c .before .before .loop .at))
 
 returns : tie.Need-returns Inv-loop μ-loop
-returns c =
-    let p = c .before .before .before .before .pre in
-    let l = c .before .before .loop in
-    let e : l .y ≡ c .before .before .before .before .args .n = omega arith in
-    held-end _ _ (p .0) (p .1 .1) _ (rw e at (l .inv .1))
+returns c = search (held-end, foremost-all)
 
 pub first-held-spec : {M : Type 1} → statement M
 first-held-spec =

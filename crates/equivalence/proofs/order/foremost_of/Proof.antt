@@ -1,4 +1,4 @@
-use Prim.Native.Nat.{_-_}
+-- `foremost_of` is `foremost`, computed in each branch.
 use borrow.Author.Tests.{lt-ltb, le-ltb, eq-eqb, ne-eqb, not-true, not-false}
 use Rattle.kernel.specs.InnerSearch.{foremost}
 use Rattle.equivalence.proofs.order.foremost_of.Statement.{statement}

@@ -1,8 +1,8 @@
+-- `is_not_later` meets its contract. The loop has found the foremost element below y on which the two differ (`Foremost`); at its end it tells the earlier.
 use Prim.Native.Nat.{_-_, _≤_}
-use mathlib.Core.Path.{_≡_}
 use native.Mathlib.Omega.{arith}
 use borrow.Author.Needs.{needs}
-use Rattle.equivalence.proofs.Foremost.{Foremost, foremost-more, smaller, differ, differ-start, differ-end}
+use Rattle.equivalence.proofs.Foremost.{Foremost, foremost-more, smaller, differ, foremost-all, differ-start, differ-end}
 use Rattle.equivalence.proofs.order.is_not_later.Statement.{statement}
 use Rattle.equivalence.proofs.order.is_not_later.Tie as tie
 
@@ -13,7 +13,7 @@ abbrev μ-loop : tie.MeasureT-loop
 μ-loop n a b at₀ y₀ at y = n - y
 
 loop-holds : tie.Need-loop-holds Inv-loop μ-loop
-loop-holds c = let s = c .before .before in (s .pre .0, differ-start (s .args .n) (s .args .a .now) (s .args .b .now) (s .pre .0) (s .pre .1 .1 .1 .0) (s .pre .1 .1 .1 .1))
+loop-holds c = (search needs, search differ-start)
 
 shared-slice-read-p : tie.Need-shared-slice-read-p Inv-loop μ-loop
 shared-slice-read-p c = search needs
@@ -21,17 +21,17 @@ shared-slice-read-p c = search needs
 shared-slice-read-q : tie.Need-shared-slice-read-q Inv-loop μ-loop
 shared-slice-read-q c = search needs
 
-shared-slice-read-lesser : tie.Need-shared-slice-read-lesser Inv-loop μ-loop
-shared-slice-read-lesser c = search needs
+shared-slice-read-smaller : tie.Need-shared-slice-read-smaller Inv-loop μ-loop
+shared-slice-read-smaller c = search needs
 
-shared-slice-read-lesser-2 : tie.Need-shared-slice-read-lesser-2 Inv-loop μ-loop
-shared-slice-read-lesser-2 c = search needs
+shared-slice-read-smaller-2 : tie.Need-shared-slice-read-smaller-2 Inv-loop μ-loop
+shared-slice-read-smaller-2 c = search needs
 
-lesser-requires : tie.Need-lesser-requires Inv-loop μ-loop
-lesser-requires c κs = search needs
+smaller-requires : tie.Need-smaller-requires Inv-loop μ-loop
+smaller-requires c κs = search needs
 
-lesser-requires-2 : tie.Need-lesser-requires-2 Inv-loop μ-loop
-lesser-requires-2 c κs = search needs
+smaller-requires-2 : tie.Need-smaller-requires-2 Inv-loop μ-loop
+smaller-requires-2 c κs = search needs
 
 foremost-of-requires : tie.Need-foremost-of-requires Inv-loop μ-loop
 foremost-of-requires c κs = search needs
@@ -45,7 +45,7 @@ loop-less c = search needs
 loop-again : tie.Need-loop-again Inv-loop μ-loop
 loop-again c =
     let l = c .before .before .before .before .before .before .before .before .loop in
-    (omega arith, rw (c .foremost-of .ensures, c .before .lesser2 .ensures, c .before .before .lesser .ensures) (foremost-more _ _ (l .y) (l .at) (l .inv .1)))
+    (omega arith, rw (c .foremost-of .ensures, c .before .smaller2 .ensures, c .before .before .smaller .ensures) (foremost-more _ _ (l .y) (l .at) (l .inv .1)))
 
 shared-slice-read-result : tie.Need-shared-slice-read-result Inv-loop μ-loop
 shared-slice-read-result c = search needs
@@ -54,11 +54,7 @@ shared-slice-read-result-2 : tie.Need-shared-slice-read-result-2 Inv-loop μ-loo
 shared-slice-read-result-2 c = search needs
 
 returns : tie.Need-returns Inv-loop μ-loop
-returns c =
-    let p = c .before .before .before .before .before .before .pre in
-    let l = c .before .before .before .loop in
-    let e : l .y ≡ c .before .before .before .before .before .before .args .n = omega arith in
-    differ-end _ _ _ (p .0) (p .1 .1 .1 .0) (p .1 .1 .1 .1) _ (rw e at (l .inv .1))
+returns c = search (differ-end, foremost-all)
 
 pub is-not-later-spec : {M : Type 1} → statement M
 is-not-later-spec =
@@ -69,10 +65,10 @@ is-not-later-spec =
     loop-holds
     shared-slice-read-p
     shared-slice-read-q
-    shared-slice-read-lesser
-    shared-slice-read-lesser-2
-    lesser-requires
-    lesser-requires-2
+    shared-slice-read-smaller
+    shared-slice-read-smaller-2
+    smaller-requires
+    smaller-requires-2
     foremost-of-requires
     add-y
     loop-less

@@ -1,4 +1,5 @@
-use Prim.Native.Nat.{_-_, _<_}
+-- `place` meets its contract: the table of row starts is `rowStart` (`starts-rule` of Places).
+use Prim.Native.Nat.{_<_}
 use native.Mathlib.Omega.{arith}
 use borrow.Author.Needs.{needs}
 use Rattle.equivalence.proofs.Places.{starts-rule, rowStart-below}

@@ -20,12 +20,7 @@ same-length : tie.Need-same-length
 same-length c = search needs
 
 returns : tie.Need-returns
-returns c =
-    let sized = c .before .before .before .before .before .before .before in
-    let drawn = sized .before .before .before .before in
-    let k = drawn .before .before .before .before in
-    let w = drawn .write-sheets .ensures in
-    image-written (k .args .bench) _ _ _ _ (k .pre) (w .1) (w .0) (sized .write-number .ensures) (c .before .before .write-number2 .ensures)
+returns c = search image-written
 
 pub write-spec : {M : Type 1} → statement M
 write-spec = tie.close (tie.spec write-sheets-requires write-number-requires cast-write-number write-number-requires-2 same-length returns)

@@ -1,10 +1,8 @@
 -- `probe::image::write_map` meets its contract.
-use Prim.Native.Nat.{_-_}
-use mathlib.Core.Path.{_≡_, ap, _∙_}
+use mathlib.Core.Path.{_≡_}
 use native.Mathlib.Omega.{arith}
 use lib.ListN.{length}
-use borrow.Rule.Slice.PartMut.{putMid}
-use Rattle.probe.proofs.Copies.{put-laid}
+use Rattle.probe.proofs.Copies.{copied-from}
 use borrow.Author.Needs.{needs}
 use Rattle.probe.proofs.image.write_map.Statement.{statement}
 use Rattle.probe.proofs.image.write_map.Tie as tie
@@ -28,10 +26,7 @@ returns : tie.Need-returns
 returns c =
     let k = c .before .before .before .before .before .before in
     let full : length (k .args .map .now) ≡ 64 = search needs in
-    let e =
-    ap (putMid (k .args .to) (length (k .args .bytes .now) - k .args .to) (k .args .bytes .now)) (c .before .before .fill .ensures)
-    ∙ put-laid (k .args .to) (k .args .bytes .now) (k .args .map .now) (omega (arith, k .pre)) in
-    (e, full)
+    (copied-from _ _ _ _ (omega (arith, k .pre)) (c .before .before .fill .ensures), full)
 
 pub write-map-spec : {M : Type 1} → statement M
 write-map-spec =

@@ -2,7 +2,7 @@
 use Prim.Native.Nat.{_-_, _≤_}
 use mathlib.Core.Path.{_≡_, refl}
 use lib.ListN.{length}
-use Rattle.probe.specs.Steps.{SheetsLaid}
+use Rattle.probe.specs.InnerSteps.{SheetsLaid}
 use Rattle.probe.proofs.Images.{sheets-none, sheets-more}
 use native.Mathlib.Omega.{arith}
 use borrow.Author.Needs.{needs}
