@@ -11,7 +11,7 @@ use Rattle.equivalence.specs.Lists.{every}
 use Rattle.kernel.specs.InnerLargest.{Largest}
 use Rattle.equivalence.specs.Refusal.{Test, lowest, sizeTest}
 use Rattle.equivalence.proofs.Lists.{every-of, of-every, member-at, member-index}
-use Rattle.equivalence.proofs.Refusals.{lowest-none, lowest-next, lowest-here, of-passed, size-refused, size-passed, of-sizeTest, sizeTest-of, sized}
+use Rattle.equivalence.proofs.Refusals.{lowest-none, lowest-next, lowest-here, of-passed, size-refused, size-passed, of-sizeTest, sizeTest-of, sized-bounds}
 use Rattle.equivalence.proofs.Tests.{eq→eqb}
 use Rattle.algebra.specs.Accepted.{algebraTests, Accepted}
 use Rattle.algebra.specs.Algebra.{Algebra, algebraOf, cellCount, operations}
@@ -188,7 +188,7 @@ module _ (n : ℕ) (arities cells : List ℕ) {flag : Bool} (s : flag ≡ not (s
             filled-next = room-next ∙ length-passed (algebraOf n arities cells) (d ∙ e)
 
             pub tests-cell : n ≤ top → Failed Cell ≡ lowest tests
-            tests-cell g = sym (filled-next ∙ cell-failed (algebraOf n arities cells) (λ u. absurd (omega (arith, t .least n (sized n s f .0) u))))
+            tests-cell g = sym (filled-next ∙ cell-failed (algebraOf n arities cells) (λ u. absurd (omega (arith, t .least n (sized-bounds n s f .0) u))))
 
             pub tests-passed : top < n → Passed ≡ lowest tests
             tests-passed g = sym (filled-next ∙ cell-passed (algebraOf n arities cells) (λ i j. omega (arith, t .above i j)))

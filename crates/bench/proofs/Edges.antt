@@ -66,7 +66,10 @@ pub record Edges : Type 0 where
       × (lostAfter 8 clearedThen ≡ 1)
 
 pub edges : Edges
-unfolding upTo every first holds concat mapOf keep maps namesOf blocks best inside isMap identity isCongruence operations operationsOf cellCount arguments place value respects congruences holdsAll above extended lowest algebraTests sizeTest elementsTest answered written sheetTest benchTest tallyTest benched startCall mapByAdd lostByAdd placeTests handedTests addCall clearTests clearCall mapOn sheetWith zeroSheet eightOf zeroBench freshBench sheetOf withSheet withMap raisedBy blocksLost onSheet sheetAfter lostAfter
+unfolding upTo every first holds concat mapOf keep maps namesOf blocks best inside isMap identity isCongruence operations operationsOf cellCount
+    arguments place value respects congruences holdsAll above extended lowest algebraTests sizeTest elementsTest answered written sheetTest benchTest
+    tallyTest benched startCall mapByAdd lostByAdd placeTests handedTests addCall clearTests clearCall mapOn sheetWith zeroSheet eightOf zeroBench
+    freshBench sheetOf withSheet withMap raisedBy blocksLost onSheet sheetAfter lostAfter
 edges =
     record {
       seven = refl;

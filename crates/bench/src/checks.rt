@@ -31,7 +31,7 @@ fn bench_check(bench: Bench, n: usize) -> Check
         return Check::Failed(Refusal::NotMap);
     }
     let on_bench = bench.sheets;
-    if !sheets::all_have_maps(on_bench, n) {
+    if !sheets::all_have_maps(n, on_bench) {
         return Check::Failed(Refusal::NotMap);
     }
     Check::Passed

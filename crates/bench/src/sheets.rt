@@ -97,7 +97,7 @@ pub fn nth(sheets: [Sheet; 8], k: usize) -> Sheet
 }
 
 // Whether the first n bytes are a map over n.
-fn has_map(map: &[u8; 64], n: usize) -> bool
+fn has_map(n: usize, map: &[u8; 64]) -> bool
     requires { ⌜ n ≤ 64 ⌝ }
     ensures { λ r. ⌜ r ≡ isMap n (take n (now (map .entry))) ⌝ }
 {
@@ -106,7 +106,7 @@ fn has_map(map: &[u8; 64], n: usize) -> bool
 }
 
 // Whether all eight sheets have maps over n.
-pub fn all_have_maps(sheets: [Sheet; 8], n: usize) -> bool
+pub fn all_have_maps(n: usize, sheets: [Sheet; 8]) -> bool
     requires { ⌜ n ≤ 64 ⌝ }
     ensures { λ r. ⌜ r ≡ every (λ s. isMap n (mapOn n s)) sheets ⌝ }
 {
@@ -114,7 +114,7 @@ pub fn all_have_maps(sheets: [Sheet; 8], n: usize) -> bool
     while k < 8 {
         let sheet = sheets[k];
         let map = sheet.map;
-        if !has_map(&map, n) {
+        if !has_map(n, &map) {
             return false;
         }
         k += 1;

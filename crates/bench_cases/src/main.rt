@@ -1,29 +1,14 @@
 // Start, Add and Clear on cases that a reader can check by hand: each line is a call, its answer, and the first four bytes of the sheet that it names
-// and the tally after it. The algebra
-// has the elements 0 to 3 and one unary operation with cells 1 0 3 2, but where a line says otherwise.
+// and the tally after it. The algebra has the elements 0 to 3 and one unary operation with cells 1 0 3 2, but where a line says otherwise.
 use bench::Answer;
 use bench::Bench;
 use bench::Benched;
 use bench::Sheet;
 
-fn wide(x: u8) -> u64 {
-    x as u64
-}
-
-// The first four bytes, each after a space.
-fn print_map(map: &[u8; 64]) {
-    let mut x = 0;
-    while x < 4 {
-        io::write_all(1, b" ");
-        io::print_decimal(1, wide(map[x]));
-        x += 1;
-    }
-}
-
 fn print_answer(answer: Answer) {
     if let Answer::Refused(reason) = answer {
-        io::write_all(1, b"refused ");
-        io::print_decimal(1, wide(equivalence::checks::number(reason)));
+        io::write_all(1, b"refused");
+        printing::print_bytes(&[equivalence::checks::number(reason)]);
     } else {
         io::write_all(1, b"done");
     }
@@ -38,7 +23,7 @@ fn print_bench(made: Benched, sheet: usize) {
         let on_bench = made.bench;
         let shown = on_bench.sheets[sheet];
         let map = shown.map;
-        print_map(&map);
+        printing::print_bytes(&[map[0], map[1], map[2], map[3]]);
     }
     io::write_all(1, b", tally ");
     io::print_decimal(1, made.bench.tally as u64);

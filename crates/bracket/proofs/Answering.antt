@@ -13,7 +13,6 @@ use Rattle.equivalence.specs.declared.Check.{Check}
 use Rattle.equivalence.specs.declared.Check.the-variants.{Passed, Failed}
 use Rattle.equivalence.specs.declared.Element.{Element}
 use Rattle.equivalence.specs.declared.Refusal.{Refusal}
-use Rattle.equivalence.specs.declared.Refusal.the-variants.{Text}
 use Rattle.equivalence.specs.declared.Written.{Written}
 use Rattle.equivalence.specs.declared.Written.the-variants.{Done, Refused as WriteRefused}
 use Rattle.algebra.specs.Algebra.{Algebra, algebraOf}
@@ -35,9 +34,13 @@ use Rattle.writer.specs.InnerRoom.{FactorsRoom}
 use Rattle.writer.proofs.Spacing.{outcome-refused}
 use Rattle.bracket.specs.Answers.{mapLine, generatedLine, factorsLine, answer}
 use Rattle.reader.specs.Laying.{Laid}
-use Rattle.bracket.specs.InnerPromises.{lineFor, LineFits, MapFits, FactorsFit, ZeroFactors, Zeros}
+use Rattle.bracket.specs.InnerPromises.{MapFits, FactorsFit, Zeros}
+use Rattle.reader.specs.InnerPromises.{requestOf}
 use Rattle.reader.specs.declared.requests.Asked.{Asked}
-use Rattle.reader.specs.declared.requests.Asked.the-variants.{Generate, Contained, Separate, Decompose, Nothing}
+
+-- all factors together have 63 × 64 bytes at most
+pub factors-short : (n : ℕ) → n ≤ 64 → factorSpace n ≤ 4032
+factors-short n h = mul-le-mul {n₂ = 63} {m₂ = 64} (omega arith) h
 
 -- the first of many zeros
 take-zeros : (k m : ℕ) → k ≤ m → take {A = ℕ} k (replicate m 0) ≡ replicate k 0
@@ -45,11 +48,27 @@ take-zeros zero m h = refl
 take-zeros (suc k) zero h = absurd (omega arith)
 take-zeros (suc k) (suc m) h = ap (λ (l : List ℕ). 0 ∷ l) (take-zeros k m (le-of-suc-le-suc h))
 
-pub zeros-of-64 : (n : ℕ) (out : List ℕ) → LineFits n out → Zeros n (take (n - 0) (replicate 64 0)) out
-zeros-of-64 n out f = record { zeros = rw sub-zero (take-zeros n 64 (f .most)); fits = f }
+module _ (n : ℕ) (space out : List ℕ) (z : Zeros 4032 n space out) where
+  part-zeros : (k : ℕ) → k ≤ 4032 → take (k - 0) space ≡ replicate k 0
+  part-zeros k h = rw (sub-zero k, z .zeros) (take-zeros k 4032 h)
+
+  space-long : length space ≡ 4032
+  space-long = ap length (z .zeros) ∙ length-replicate {A = ℕ} 4032 0
+
+  pub map-part : n ≤ length space
+  map-part = omega (arith, space-long, z .fits .most)
+
+  pub factors-part : factorSpace n ≤ length space
+  factors-part = omega (arith, space-long, factors-short n (z .fits .most))
+
+  pub map-zeros : Zeros n n (take (n - 0) space) out
+  map-zeros = record { zeros = part-zeros n (omega (arith, z .fits .most)); fits = z .fits }
+
+  pub factors-zeros : Zeros (factorSpace n) n (take (factorSpace n - 0) space) out
+  factors-zeros = record { zeros = part-zeros (factorSpace n) (factors-short n (z .fits .most)); fits = z .fits }
 
 -- a service that was lent n bytes gives n bytes back
-pub map-fits : (n : ℕ) (lent map out : List ℕ) → Zeros n lent out → length map ≡ length lent → MapFits map out
+pub map-fits : (n : ℕ) (lent map out : List ℕ) → Zeros n n lent out → length map ≡ length lent → MapFits map out
 map-fits n lent map out z e =
     let l : length map ≡ n = e ∙ ap length (z .zeros) ∙ length-replicate n 0 in
     record { some = omega arith; most = omega arith; line = z .fits .line }
@@ -112,12 +131,8 @@ factors-few a lent map d e k g =
     few-factors a lent k (lowest (decomposeTests a (length lent))) refl
     (sym (ap (λ (p : Decomposed × List ℕ). p .0) e) ∙ g)
 
--- all factors together have 63 × 64 bytes at most
-pub factors-short : (n : ℕ) → n ≤ 64 → factorSpace n ≤ 4032
-factors-short n h = mul-le-mul {n₂ = 63} {m₂ = 64} (omega arith) h
-
 -- the calls, lent zeros
-module _ (n : ℕ) (arities cells before map lent out : List ℕ) (end : ℕ) (z : Zeros n before lent) where
+module _ (n : ℕ) (arities cells before map lent out : List ℕ) (end : ℕ) (z : Zeros n n before lent) where
   pub generate-answered : (ps : List ℕ) (g : Generated) → (g, map) ≡ generateCall (algebraOf n arities cells) ps before
       → Laid lent 0 (generatedLine g map) out end → Laid lent 0 (answer (algebraOf n arities cells) (generate ps)) out end
   unfolding answer
@@ -134,10 +149,7 @@ module _ (n : ℕ) (arities cells before map lent out : List ℕ) (end : ℕ) (z
   separate-answered v w g e l = rw (← z .zeros, ← e) l
 
 -- Decompose, lent zeros
-pub zeros-of-4032 : (n : ℕ) (out : List ℕ) → LineFits n out → ZeroFactors n (take (factorSpace n - 0) (replicate 4032 0)) out
-zeros-of-4032 n out f = record { zeros = rw sub-zero (take-zeros (factorSpace n) 4032 (factors-short n (f .most))); fits = f }
-
-pub factors-fit : (n : ℕ) (arities cells before factors out : List ℕ) (d : Decomposed) → ZeroFactors n before out → length factors ≡ length before
+pub factors-fit : (n : ℕ) (arities cells before factors out : List ℕ) (d : Decomposed) → Zeros (factorSpace n) n before out → length factors ≡ length before
     → (d, factors) ≡ decomposeCall (algebraOf n arities cells) before → FactorsFit d n factors out
 factors-fit n arities cells before factors out d z e g =
     record {
@@ -146,25 +158,13 @@ factors-fit n arities cells before factors out d z e g =
       few = λ k h. factors-few (algebraOf n arities cells) before factors d g k h;
     }
 
-pub decompose-answered : (n : ℕ) (arities cells before factors lent out : List ℕ) (end : ℕ) (d : Decomposed) → ZeroFactors n before lent
+pub decompose-answered : (n : ℕ) (arities cells before factors lent out : List ℕ) (end : ℕ) (d : Decomposed) → Zeros (factorSpace n) n before lent
     → (d, factors) ≡ decomposeCall (algebraOf n arities cells) before → Laid lent 0 (factorsLine n d factors) out end
     → Laid lent 0 (answer (algebraOf n arities cells) decompose) out end
 unfolding answer
 decompose-answered n arities cells before factors lent out end d z e l = rw (← z .zeros, ← e) l
 
--- the cases of a request
-module _ (a : Algebra) (xs lent out : List ℕ) (end : ℕ) (asked : Asked) where
-  pub line-for-generate : asked ≡ Generate → Laid lent 0 (answer a (generate xs)) out end → Laid lent 0 (lineFor a xs asked) out end
-  line-for-generate e l = rw e l
-
-  pub line-for-contained : asked ≡ Contained → Laid lent 0 (answer a (contained xs)) out end → Laid lent 0 (lineFor a xs asked) out end
-  line-for-contained e l = rw e l
-
-  pub line-for-separate : (v w : ℕ) → asked ≡ Separate v w → Laid lent 0 (answer a (separate v w)) out end → Laid lent 0 (lineFor a xs asked) out end
-  line-for-separate v w e l = rw e l
-
-  pub line-for-decompose : asked ≡ Decompose → Laid lent 0 (answer a decompose) out end → Laid lent 0 (lineFor a xs asked) out end
-  line-for-decompose e l = rw e l
-
-  pub line-for-nothing : asked ≡ Nothing → Laid lent 0 (refusedLine Text) out end → Laid lent 0 (lineFor a xs asked) out end
-  line-for-nothing e l = rw e l
+-- what is asked, by its case
+pub answered-as : (a : Algebra) (xs lent out : List ℕ) (end : ℕ) (asked kind : Asked) → asked ≡ kind → Laid lent 0 (answer a (requestOf kind xs)) out end
+    → Laid lent 0 (answer a (requestOf asked xs)) out end
+answered-as a xs lent out end asked kind e l = rw e l

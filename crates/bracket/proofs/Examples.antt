@@ -1,6 +1,8 @@
 -- Document 01's worked input with its output, and small texts for the points that are easily read otherwise, computed.
 use Prim.Native.String.{String}
+use mathlib.Core.List.{_++_}
 use mathlib.Core.Path.{_≡_, refl}
+use lib.ListN.{replicate}
 use Rattle.equivalence.specs.Equivalence.{isMap, holds, inside, namesOf, blocks, blockOf, mapOf, identity, whole, same, isIdentity, meet, meetAll, maps, best, join}
 use Rattle.equivalence.specs.Lists.{upTo, every, any, keep, first, concat}
 use Rattle.equivalence.specs.Lent.{stretch, written, lentAfter}
@@ -15,7 +17,8 @@ use Rattle.theory.specs.Extremal.{holdsAll, above, generated, contained, separa
 use Rattle.reader.specs.Reading.{ascii, onward, _>>=_, mark, gap, branch, behind, begins, opened}
 use Rattle.reader.specs.Numbers.{digitAt, number}
 use Rattle.reader.specs.Tables.{cell, parted, bracket, table, pair, itemsUpTo, items}
-use Rattle.reader.specs.Lines.{close, spacedNumber, sizeLine, tested, afterSize, sized, arity, lastTable, operationTests, cellTest, withOperation, afterTable, afterArity, operation, listing, generating, containing, twoNumbers, request}
+use Rattle.reader.specs.Lines.{close, spacedNumber, sizeLine, tested, afterSize, sized, arity, lastTable, operationTests}
+use Rattle.reader.specs.Lines.{cellTest, withOperation, afterTable, afterArity, operation, itemsToEnd, asksWith, twoNumbers, request}
 use Rattle.equivalence.specs.Outcome.{success, refusal, writtenOutcome}
 use Rattle.congruence.specs.Outcome.{generatedOutcome, decomposedOutcome}
 use Rattle.writer.specs.Numerals.{digits, decimal}
@@ -51,7 +54,7 @@ pub record Examples : Type 0 where
   pub early : Gives "[size 2]\n[op 4 " "[refused 3]\n"
       × Gives "[size 2]\n[op 4]\n" "[refused 14]\n"
       × Gives "[size 33]\n[op 3 " "[refused 4]\n"
-      × Gives "[size 1]\n[op 0 0]\n[op 0 0]\n[op 0 0]\n[op 0 0]\n[op 0 0]\n[op 0 0]\n[op 0 0]\n[op 0 0]\n[op 0 0]\n[op 0 0]\n[op 0 0]\n[op 0 0]\n[op 0 0]\n[op 0 0]\n[op 0 0]\n[op 0 0]\n[op 4 " "[refused 2]\n"
+      × (transcript (ascii "[size 1]\n" ++ (concat (replicate 16 (ascii "[op 0 0]\n")) ++ ascii "[op 4 ")) ≡ ascii "[refused 2]\n")
   -- then 14, over the whole line, and then 6
   pub late : Gives "[size 2]\n[op 1 [0 2]]" "[refused 14]\n"
       × Gives "[size 2]\n[op 1 [0 256]]\n" "[refused 14]\n"
@@ -75,5 +78,24 @@ pub record Examples : Type 0 where
       × Gives "[size 2]\r\n" "[refused 14]\n"
 
 pub examples : Examples
-unfolding ascii onward _>>=_ mark gap branch behind begins opened digitAt number digits decimal gapBytes cell parted bracket table pair itemsUpTo items close spacedNumber sizeLine tested afterSize sized arity lastTable operationTests cellTest withOperation afterTable afterArity operation listing generating containing twoNumbers request spaced bracketed spacedBrackets line refusedNumbers outcomeLine success refusal writtenOutcome generatedOutcome decomposedOutcome refusedLine mapLine generatedLine factorsLine answer afterLine afterRequest firstStep operationStep requestStep step output run transcript isMap holds inside namesOf blocks blockOf mapOf identity whole same isIdentity meet meetAll maps best join upTo every any keep first concat stretch pairs notLaterOn notLater firstHeld numberOf lowest sizeTest mapTest spaceTest answered written lentAfter serve algebraTests cellCount operationsOf operations arguments place value respects isCongruence congruences pairsTest elementsTest equalTest generateCall containedCall separateCall decomposed factorBytes decomposeCall added gathered pruned listed reducible commonPair holdsAll above generated contained separated
-examples = record { worked = refl; bare = (refl, refl); ended = (refl, refl, refl, refl, refl); numbers = (refl, refl, refl, refl, refl, refl); early = (refl, refl, refl, refl); late = (refl, refl, refl, refl, refl); nested = refl; order = refl; goes = refl; faulty = (refl, refl, refl, refl, refl, refl, refl) }
+unfolding ascii onward _>>=_ mark gap branch behind begins opened digitAt number digits decimal gapBytes cell parted bracket table pair itemsUpTo items close
+    spacedNumber sizeLine tested afterSize sized arity lastTable operationTests cellTest withOperation afterTable afterArity operation itemsToEnd asksWith
+    twoNumbers request spaced bracketed spacedBrackets line refusedNumbers outcomeLine success refusal writtenOutcome generatedOutcome decomposedOutcome
+    refusedLine mapLine generatedLine factorsLine answer afterLine afterRequest firstStep operationStep requestStep step output run transcript isMap holds
+    inside namesOf blocks blockOf mapOf identity whole same isIdentity meet meetAll maps best join upTo every any keep first concat stretch pairs notLaterOn
+    notLater firstHeld numberOf lowest sizeTest mapTest spaceTest answered written lentAfter serve algebraTests cellCount operationsOf operations arguments
+    place value respects isCongruence congruences pairsTest elementsTest equalTest generateCall containedCall separateCall decomposed factorBytes decomposeCall
+    added gathered pruned listed reducible commonPair holdsAll above generated contained separated
+examples =
+    record {
+      worked = refl;
+      bare = (refl, refl);
+      ended = (refl, refl, refl, refl, refl);
+      numbers = (refl, refl, refl, refl, refl, refl);
+      early = (refl, refl, refl, refl);
+      late = (refl, refl, refl, refl, refl);
+      nested = refl;
+      order = refl;
+      goes = refl;
+      faulty = (refl, refl, refl, refl, refl, refl, refl);
+    }

@@ -11,7 +11,7 @@ use Rattle.equivalence.specs.declared.Refusal.the-variants.{Text}
 use Rattle.writer.specs.Lines.{refusedLine}
 use Rattle.bracket.specs.Transcript.{State, Step, goes, ends, textLimit, firstStep, step, output, run, transcript}
 use Rattle.bracket.specs.Fills.{lineRoom, Position, fresh, midway, over, due, pieceOf, positionAfter, Fill, ended, short, takes, Fills, finished, onwards}
-use Rattle.bracket.proofs.Forward.{Ahead, step-ahead}
+use Rattle.bracket.proofs.Advancing.{Ahead, step-ahead}
 
 module _ (text : List ℕ) where
   -- past the end nothing is written

@@ -15,7 +15,7 @@ use Rattle.equivalence.specs.Lent.{written, laid}
 use Rattle.reader.specs.Laying.{Laid}
 use Rattle.reader.proofs.Laying.{laid-none, laid-more}
 use Rattle.bracket.specs.Transcript.{State, goes}
-use Rattle.bracket.specs.Fills.{lineRoom, Position, midway, over, due, pieceOf, positionAfter, Fill, ended, short, takes}
+use Rattle.bracket.specs.Fills.{lineRoom, Position, over, due, pieceOf, positionAfter, Fill, ended, short, takes}
 use Rattle.bracket.specs.Standings.{stateOf, positionBy, positionOf, Sound, Kept, Filling}
 use Rattle.bracket.specs.InnerSteps.{stepOf, Lent, Stepping, closedAt, Lined}
 use Rattle.bracket.specs.declared.run.Standing.{Standing}
@@ -114,7 +114,7 @@ kept-more {s} {arities} {room} {s′} {arities′} {room′} {s″} {arities″}
     }
 
 -- lines were taken from a standing on, and `put` bytes laid; any fill from there on makes a fill from that standing
-pub record Gathered (text : List ℕ) (s : Standing) (arities room lent : List ℕ) (s′ : Standing) (arities′ room′ out : List ℕ) (put : ℕ) : Type 0 where
+pub record LinesGathered (text : List ℕ) (s : Standing) (arities room lent : List ℕ) (s′ : Standing) (arities′ room′ out : List ℕ) (put : ℕ) : Type 0 where
   pub bytes : List ℕ
   pub laid : Laid lent 0 bytes out put
   pub joins : (more : List ℕ) (q : Position) → Fill text (length lent - put) (positionOf s′ arities′ room′) more q → Fill text (length lent) (positionOf s arities room) (bytes ++ more) q
@@ -123,8 +123,8 @@ pub record Gathered (text : List ℕ) (s : Standing) (arities room lent : List �
   pub same-arities : length arities′ ≡ length arities
   pub same-room : length room′ ≡ length room
 
-pub gathered-none : (text : List ℕ) (s : Standing) (arities room lent : List ℕ) → Sound text s → Gathered text s arities room lent s arities room lent 0
-gathered-none text s arities room lent w =
+pub lines-gathered-none : (text : List ℕ) (s : Standing) (arities room lent : List ℕ) → Sound text s → LinesGathered text s arities room lent s arities room lent 0
+lines-gathered-none text s arities room lent w =
     record {
       bytes = [];
       laid = laid-none lent 0 (omega arith);
@@ -136,11 +136,11 @@ gathered-none text s arities room lent w =
     }
 
 module _ (text : List ℕ) (s : Standing) (arities room lent : List ℕ) (s′ : Standing) (arities′ room′ out : List ℕ) (put : ℕ)
-    (g : Gathered text s arities room lent s′ arities′ room′ out put) where
-  pub gathered-more : lineRoom ≤ length out - put → (arities″ room″ part : List ℕ) (r : Stepped)
+    (g : LinesGathered text s arities room lent s′ arities′ room′ out put) where
+  pub lines-gathered-more : lineRoom ≤ length out - put → (arities″ room″ part : List ℕ) (r : Stepped)
       → Lined text s′ arities′ room′ (take (length out - put) (drop put out)) arities″ room″ part r → length arities″ ≡ length arities′ → length room″ ≡ length room′
-      → Gathered text s arities room lent (r .standing) arities″ room″ (putMid put (length out - put) out part) (put + r .wrote)
-  gathered-more h arities″ room″ part r l ea er =
+      → LinesGathered text s arities room lent (r .standing) arities″ room″ (putMid put (length out - put) out part) (put + r .wrote)
+  lines-gathered-more h arities″ room″ part r l ea er =
       let p = positionOf s′ arities′ room′ in
       let piece = pieceOf (due text p) in
       let e : length lent - (put + r .wrote) ≡ length lent - put - length piece = omega (arith, l .laid .place) in
@@ -159,12 +159,12 @@ module _ (text : List ℕ) (s : Standing) (arities room lent : List ℕ) (s′ :
       }
 
   -- what it lays fits
-  pub gathered-fits : (arities″ room″ part : List ℕ) (r : Stepped) → Lined text s′ arities′ room′ (take (length out - put) (drop put out)) arities″ room″ part r
+  pub lines-gathered-fits : (arities″ room″ part : List ℕ) (r : Stepped) → Lined text s′ arities′ room′ (take (length out - put) (drop put out)) arities″ room″ part r
       → put + r .wrote ≤ length out
-  gathered-fits arities″ room″ part r l = omega (arith, g .laid .within, g .laid .long, simp (length-take, length-drop) at (l .laid .within))
+  lines-gathered-fits arities″ room″ part r l = omega (arith, g .laid .within, g .laid .long, simp (length-take, length-drop) at (l .laid .within))
 
-  pub gathered-over : s′ .goes ≡ false → Filling text s arities room lent arities′ room′ out (record { standing = s′; wrote = put })
-  gathered-over e =
+  pub lines-gathered-over : s′ .goes ≡ false → Filling text s arities room lent arities′ room′ out (record { standing = s′; wrote = put })
+  lines-gathered-over e =
       record {
         bytes = g .bytes;
         fill = rw append-nil at (g .joins [] (positionOf s′ arities′ room′) (rw e ended));
@@ -173,8 +173,8 @@ module _ (text : List ℕ) (s : Standing) (arities room lent : List ℕ) (s′ :
         kept = g .kept;
       }
 
-  pub gathered-short : length out - put < lineRoom → Filling text s arities room lent arities′ room′ out (record { standing = s′; wrote = put })
-  gathered-short h =
+  pub lines-gathered-short : length out - put < lineRoom → Filling text s arities room lent arities′ room′ out (record { standing = s′; wrote = put })
+  lines-gathered-short h =
       record {
         bytes = g .bytes;
         fill = rw append-nil at (g .joins [] (positionOf s′ arities′ room′) (short (omega (arith, g .laid .long))));
@@ -184,8 +184,8 @@ module _ (text : List ℕ) (s : Standing) (arities room lent : List ℕ) (s′ :
       }
 
   -- the next line has what it wants
-  pub gathered-lent : Lent text arities room lent → lineRoom ≤ length out - put → Lent text arities′ room′ (take (length out - put) (drop put out))
-  gathered-lent w h =
+  pub lines-gathered-lent : Lent text arities room lent → lineRoom ≤ length out - put → Lent text arities′ room′ (take (length out - put) (drop put out))
+  lines-gathered-lent w h =
       record {
         sixteen = omega (arith, w .sixteen, g .same-arities);
         storage = omega (arith, w .storage, g .same-room);

@@ -1,8 +1,7 @@
-pub mod Accepting
+pub mod Advancing
 pub mod Answering
 pub mod Calling
 pub mod Examples
 pub mod Fills
-pub mod Forward
 pub mod Gathering
 pub mod Stepping

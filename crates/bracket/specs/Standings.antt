@@ -3,6 +3,7 @@ use Prim.Native.Nat.{ℕ, zero, suc, _≤_, _<_}
 use mathlib.Core.Bool.{Bool, true, false, _&&_}
 use mathlib.Core.List.{List}
 use mathlib.Core.Path.{_≡_}
+use denote.Ref.{RefT, now}
 use lib.Dec.{T, leb}
 use lib.ListN.{length, take, drop}
 use Rattle.algebra.specs.Algebra.{algebraOf}
@@ -72,3 +73,8 @@ pub record FillPromise (text : List ℕ) (s : Standing) (arities room lent ariti
   pub fills : T (canFill (length text) s (length arities) (length room) (length lent)) → Filling text s arities room lent arities′ room′ out r
   pub idles : ¬ T (canFill (length text) s (length arities) (length room) (length lent))
       → (r ≡ record { standing = unread false; wrote = 0 }) × (arities′ ≡ arities) × (room′ ≡ room) × (out ≡ lent)
+
+-- the same of lent slices: the text, the arities, the room and the output before, and the last three after
+abbrev pub FillPromiseIn : RefT (List ℕ) → Standing → RefT (List ℕ) → RefT (List ℕ) → RefT (List ℕ) → RefT (List ℕ) → RefT (List ℕ) → RefT (List ℕ) → Stepped → Type 0
+FillPromiseIn text s arities room lent arities′ room′ out r =
+    FillPromise (now text) s (now arities) (now room) (now lent) (now arities′) (now room′) (now out) r

@@ -38,7 +38,7 @@ afterRequest a fault = ends (refusedLine Text)
 
 -- the first line, which is the size line; a text of more than 65,536 bytes is refused before it is read
 unfoldable pub firstStep : List ℕ → Step
-firstStep text = elim (ltb textLimit (length text)) [ true ↦ ends (refusedLine Text) | false ↦ afterLine (sized text) ]
+firstStep text = elim (ltb textLimit (length text)) [ true ↦ ends (refusedLine Text) | false ↦ afterLine (sized text 0) ]
 
 -- an operation line, which begins with `[op`
 unfoldable pub operationStep : List ℕ → State → Step

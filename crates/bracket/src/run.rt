@@ -2,8 +2,8 @@
 use crate::steps::next_step;
 ghost use mathlib.Core.Bool.{true};
 ghost use mathlib.Core.Path.{_≡_};
-ghost use Rattle.bracket.specs.Standings.{Sound, Filling, FillPromise, unread as unreadAs, canFill};
-ghost use Rattle.bracket.specs.InnerSteps.{Lent, Lined, closedAt};
+ghost use Rattle.bracket.specs.Standings.{Sound, FillPromiseIn, unread as unreadAs, canFill};
+ghost use Rattle.bracket.specs.InnerSteps.{Lent, LinedIn, FillingIn, closedAt};
 
 // The room that a line may want.
 const LINE_ROOM: usize = 16384;
@@ -67,7 +67,7 @@ fn line(
     requires { ⌜ Sound (now text) standing ⌝ }
     requires { ⌜ Lent (now text) (now arities) (now room) (now out) ⌝ }
     requires { ⌜ standing .goes ≡ true ⌝ }
-    ensures { λ r. ⌜ Lined (now (text .entry)) standing (now (arities .entry)) (now (room .entry)) (now (out .entry)) (now (arities .exit)) (now (room .exit)) (now (out .exit)) r ⌝ }
+    ensures { λ r. ⌜ LinedIn (text .entry) standing (arities .entry) (room .entry) (out .entry) (arities .exit) (room .exit) (out .exit) r ⌝ }
 {
     let taken = next_step(text, standing, arities, room, out);
     let after = taken.standing;
@@ -89,7 +89,7 @@ fn gather(
 ) -> Stepped
     requires { ⌜ Sound (now text) start ⌝ }
     requires { ⌜ Lent (now text) (now arities) (now room) (now out) ⌝ }
-    ensures { λ r. ⌜ Filling (now (text .entry)) start (now (arities .entry)) (now (room .entry)) (now (out .entry)) (now (arities .exit)) (now (room .exit)) (now (out .exit)) r ⌝ }
+    ensures { λ r. ⌜ FillingIn (text .entry) start (arities .entry) (room .entry) (out .entry) (arities .exit) (room .exit) (out .exit) r ⌝ }
 {
     let mut standing = start;
     let mut put: usize = 0;
@@ -155,7 +155,7 @@ pub fn fill(
     room: &mut [u8],
     out: &mut [u8],
 ) -> Stepped
-    ensures { λ r. ⌜ FillPromise (now (text .entry)) standing (now (arities .entry)) (now (room .entry)) (now (out .entry)) (now (arities .exit)) (now (room .exit)) (now (out .exit)) r ⌝ }
+    ensures { λ r. ⌜ FillPromiseIn (text .entry) standing (arities .entry) (room .entry) (out .entry) (arities .exit) (room .exit) (out .exit) r ⌝ }
 {
     if !can_fill(text.len(), standing, arities.len(), room.len(), out.len()) {
         return Stepped {

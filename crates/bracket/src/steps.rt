@@ -3,67 +3,72 @@ use crate::answers::answer;
 use crate::run::Standing;
 use crate::run::Stepped;
 use crate::run::unread;
-use reader::lines::read_operation;
-use reader::lines::read_size;
 use reader::reading::begins_with;
-use reader::requests::goes_on;
 use reader::requests::read_request;
+use reader::taking::AlgebraSoFar;
+use reader::taking::LineTaken;
+use reader::taking::take_operation_line;
+use reader::taking::take_size_line;
 use writer::write_refused;
 ghost use mathlib.Core.Bool.{true};
 ghost use mathlib.Core.Path.{_≡_};
-ghost use mathlib.Core.List.{List};
-ghost use Prim.Native.Nat.{ℕ, _+_, _≤_, _<_};
+ghost use Prim.Native.Nat.{_+_, _≤_};
 ghost use lib.ListN.{length};
-ghost use Rattle.bracket.specs.Transcript.{firstStep, operationStep, requestStep};
-ghost use Rattle.bracket.specs.Fills.{due};
-ghost use Rattle.bracket.specs.Standings.{Sound, Kept, stateOf, positionOf};
-ghost use Rattle.bracket.specs.InnerSteps.{Lent, Stepping};
+ghost use Rattle.bracket.specs.Transcript.{operationStep, requestStep};
+ghost use Rattle.bracket.specs.Standings.{Sound, Kept};
+ghost use Rattle.bracket.specs.InnerSteps.{Lent, behindLines, AfterLine, FirstStepIn, StepIn, DueIn};
 
 // The longest text that is read.
 const TEXT_LIMIT: usize = 65536;
 
-// The first line of a text, which is its size line: 14, then 1. A longer text than is read is 14 too.
-fn first_step(text: &[u8], out: &mut [u8]) -> Stepped
-    requires { ⌜ 14 ≤ length (now out) ⌝ }
-    ensures { λ r. ⌜ ((arities room : List ℕ) → Stepping (now (text .entry)) 0 (firstStep (now (text .entry))) (now (out .entry)) arities room (now (out .exit)) r) ⌝ }
+// Where a run stands behind the lines of its algebra, before any request; it goes on, or it is over.
+fn behind_lines(goes: bool, algebra: AlgebraSoFar) -> Standing
+    ensures { λ r. ⌜ r ≡ behindLines goes algebra ⌝ }
 {
-    let ended = unread(false);
-    if TEXT_LIMIT < text.len() {
-        let wrote = write_refused(out, equivalence::Refusal::Text);
-        return Stepped {
-            standing: ended,
-            wrote,
-        };
-    }
-    let size = read_size(text, 0);
-    let n = size.value;
-    let next = size.next;
-    if !size.ok {
-        let wrote = write_refused(out, equivalence::Refusal::Text);
-        return Stepped {
-            standing: ended,
-            wrote,
-        };
-    }
-    if !equivalence::checks::is_size(n as usize) {
-        let wrote = write_refused(out, equivalence::Refusal::Size);
-        return Stepped {
-            standing: ended,
-            wrote,
-        };
-    }
-    let begun = Standing {
-        goes: true,
-        at: next,
-        size: n,
-        operations: 0,
-        cells: 0,
+    Standing {
+        goes,
+        at: algebra.at,
+        size: algebra.size,
+        operations: algebra.operations,
+        cells: algebra.cells,
         asked: false,
-    };
+    }
+}
+
+// What a line of the algebra makes of the run: it writes nothing, and a refusal of it ends the run.
+fn after_line(line: LineTaken, out: &mut [u8]) -> Stepped
+    requires { ⌜ 14 ≤ length (now out) ⌝ }
+    ensures { λ r. ⌜ AfterLine line (now (out .entry)) (now (out .exit)) r ⌝ }
+{
+    let algebra = line.algebra;
+    let check = line.check;
+    if let equivalence::Check::Failed(r) = check {
+        let wrote = write_refused(r, out);
+        return Stepped {
+            standing: behind_lines(false, algebra),
+            wrote,
+        };
+    }
     Stepped {
-        standing: begun,
+        standing: behind_lines(true, algebra),
         wrote: 0,
     }
+}
+
+// The first line of a text, which is its size line. A longer text than is read is 14.
+fn first_step(text: &[u8], out: &mut [u8]) -> Stepped
+    requires { ⌜ 14 ≤ length (now out) ⌝ }
+    ensures { λ r. ⌜ FirstStepIn (text .entry) (out .entry) (out .exit) r ⌝ }
+{
+    if TEXT_LIMIT < text.len() {
+        let wrote = write_refused(equivalence::Refusal::Text, out);
+        return Stepped {
+            standing: unread(false),
+            wrote,
+        };
+    }
+    let line = take_size_line(text, 0);
+    after_line(line, out)
 }
 
 // An operation line, which begins with `[op`.
@@ -77,45 +82,17 @@ fn operation_step(
     requires { ⌜ Sound (now text) standing ⌝ }
     requires { ⌜ Lent (now text) (now arities) (now room) (now out) ⌝ }
     requires { ⌜ standing .at + 3 ≤ length (now text) ⌝ }
-    ensures { λ r. ⌜ Stepping (now (text .entry)) (standing .at) (operationStep (now (text .entry)) (stateOf standing (now (arities .entry)) (now (room .entry)))) (now (out .entry)) (now (arities .exit)) (now (room .exit)) (now (out .exit)) r ⌝ }
+    ensures { λ r. ⌜ StepIn operationStep (text .entry) standing (arities .entry) (room .entry) (out .entry) (arities .exit) (room .exit) (out .exit) r ⌝ }
     ensures kept { λ r. ⌜ Kept standing (now (arities .entry)) (now (room .entry)) (r .standing) (now (arities .exit)) (now (room .exit)) ⌝ }
 {
-    let at = standing.at;
-    let size = standing.size;
-    let k = standing.operations;
-    let cells = standing.cells;
-    let line = read_operation(text, at + 3, size, k, room, cells);
-    let next = line.next;
-    let end = line.cells;
-    let check = line.check;
-    if let equivalence::Check::Failed(r) = check {
-        let wrote = write_refused(out, r);
-        let ended = Standing {
-            goes: false,
-            at,
-            size,
-            operations: k,
-            cells,
-            asked: false,
-        };
-        return Stepped {
-            standing: ended,
-            wrote,
-        };
-    }
-    arities[k] = line.arity;
-    let grown = Standing {
-        goes: true,
-        at: next,
-        size,
-        operations: k + 1,
-        cells: end,
-        asked: false,
+    let algebra = AlgebraSoFar {
+        at: standing.at,
+        size: standing.size,
+        operations: standing.operations,
+        cells: standing.cells,
     };
-    Stepped {
-        standing: grown,
-        wrote: 0,
-    }
+    let line = take_operation_line(text, algebra, arities, room);
+    after_line(line, out)
 }
 
 // A line that is no operation: a request, or a fault.
@@ -128,32 +105,37 @@ fn request_step(
 ) -> Stepped
     requires { ⌜ Sound (now text) standing ⌝ }
     requires { ⌜ Lent (now text) (now arities) (now room) (now out) ⌝ }
-    ensures { λ r. ⌜ Stepping (now (text .entry)) (standing .at) (requestStep (now (text .entry)) (stateOf standing (now (arities .entry)) (now (room .entry)))) (now (out .entry)) (now (arities .entry)) (now (room .exit)) (now (out .exit)) r ⌝ }
+    ensures { λ r. ⌜ StepIn requestStep (text .entry) standing (arities .entry) (room .entry) (out .entry) (arities .entry) (room .exit) (out .exit) r ⌝ }
     ensures kept { λ r. ⌜ Kept standing (now (arities .entry)) (now (room .entry)) (r .standing) (now (arities .entry)) (now (room .exit)) ⌝ }
 {
-    let size = standing.size;
     let operations = standing.operations;
     let cells = standing.cells;
     let line = read_request(text, standing.at, room, cells);
-    let next = line.next;
-    let end = line.end;
     let asked = line.asked;
-    let wrote = answer(
-        asked,
-        size as usize,
-        &arities[0..operations],
-        &room[0..cells],
-        &room[cells..end],
-        out,
-    );
+    let end = line.end;
     let after = Standing {
-        goes: goes_on(asked),
-        at: next,
-        size,
+        goes: line.ok,
+        at: line.next,
+        size: standing.size,
         operations,
         cells,
         asked: true,
     };
+    if !line.ok {
+        let wrote = write_refused(equivalence::Refusal::Text, out);
+        return Stepped {
+            standing: after,
+            wrote,
+        };
+    }
+    let wrote = answer(
+        standing.size as usize,
+        &arities[0..operations],
+        &room[0..cells],
+        asked,
+        &room[cells..end],
+        out,
+    );
     Stepped {
         standing: after,
         wrote,
@@ -171,7 +153,7 @@ pub fn next_step(
     requires { ⌜ Sound (now text) standing ⌝ }
     requires { ⌜ Lent (now text) (now arities) (now room) (now out) ⌝ }
     requires { ⌜ standing .goes ≡ true ⌝ }
-    ensures { λ r. ⌜ Stepping (now (text .entry)) (standing .at) (due (now (text .entry)) (positionOf standing (now (arities .entry)) (now (room .entry)))) (now (out .entry)) (now (arities .exit)) (now (room .exit)) (now (out .exit)) r ⌝ }
+    ensures { λ r. ⌜ DueIn (text .entry) standing (arities .entry) (room .entry) (out .entry) (arities .exit) (room .exit) (out .exit) r ⌝ }
     ensures kept { λ r. ⌜ Kept standing (now (arities .entry)) (now (room .entry)) (r .standing) (now (arities .exit)) (now (room .exit)) ⌝ }
 {
     if standing.at == 0 {

@@ -10,6 +10,7 @@ use native.Mathlib.Omega.{arith}
 use lib.Dec.{T, T-not, not-T}
 use lib.ListN.{length, take, drop, length-drop}
 use lib.Seq.{take-suc}
+use Rattle.equivalence.proofs.Laying.{rest-whole}
 use Rattle.equivalence.specs.Equivalence.{Map, byte, whole, isIdentity, meet, meetAll}
 use Rattle.kernel.specs.InnerKernel.{Canonical}
 use Rattle.equivalence.specs.Lists.{upTo, every, without}
@@ -19,7 +20,7 @@ use Rattle.equivalence.proofs.Maps.{whole-map}
 use Rattle.equivalence.proofs.Meets.{meet-map, meetAll-map}
 use Rattle.equivalence.proofs.Tests.{T-of, not-T-of, true-is, false-is}
 use Rattle.maplist.specs.InnerMapLists.{mapList, MapsListed, SuffixMeets}
-use Rattle.maplist.proofs.MapLists.{Begins, begins-sym, begins-is, begins-take, begins-written, begins-canonical, begins-meet, meetAll-append, meetAll-snoc, mapList-length, mapList-at, listed-map, listed-room, listed-begins, onwards, part-rest}
+use Rattle.maplist.proofs.MapLists.{Begins, begins-sym, begins-is, begins-take, begins-written, begins-canonical, begins-meet, meetAll-append, meetAll-snoc, mapList-length, mapList-at, listed-map, listed-room, listed-begins, onwards}
 
 pub record Needed (n k : ℕ) (maps suffixes : List ℕ) (i at : ℕ) (met : List ℕ) : Type 0 where
   pub listed : MapsListed n k maps
@@ -57,12 +58,12 @@ module _ {n k : ℕ} {maps suffixes : List ℕ} {i at : ℕ} {met : List ℕ} (t
     next = omega (arith, t .place, suc-mul i n)
 
     this : Begins n (onwards at maps) (stretch n maps i)
-    this = rw (part-rest at maps, t .place) (listed-begins (t .listed) i)
+    this = rw (rest-whole at maps, t .place) (listed-begins (t .listed) i)
 
     after : Begins n (onwards (at + n) suffixes) (meetAll n (drop (suc i) (mapList n k maps)))
     unfolding stretch
     after =
-        rw (part-rest (at + n) suffixes, next)
+        rw (rest-whole (at + n) suffixes, next)
         (begins-is (begins-sym (begins-take (drop (suc i * n) suffixes))) (t .meets (suc i) (omega (arith, mapList-length n k maps))))
 
     -- the map, and the meet behind it, have room
@@ -71,8 +72,8 @@ module _ {n k : ℕ} {maps suffixes : List ℕ} {i at : ℕ} {met : List ℕ} (t
 
     pub needed-fits : (n ≤ length (onwards at maps)) × (n ≤ length (onwards (at + n) suffixes))
     needed-fits = (
-      rw (part-rest at maps, length-drop at maps) (omega (arith, needed-part .0)),
-      rw (part-rest (at + n) suffixes, length-drop (at + n) suffixes) (omega (arith, needed-part .1)),
+      rw (rest-whole at maps, length-drop at maps) (omega (arith, needed-part .0)),
+      rw (rest-whole (at + n) suffixes, length-drop (at + n) suffixes) (omega (arith, needed-part .1)),
     )
 
     pub needed-this : Canonical n (byte (onwards at maps))

@@ -6,7 +6,10 @@ use mathlib.Core.Path.{_≡_, refl, sym, ap, subst, _∙_}
 use native.Mathlib.Nat.{suc-mul, mul-le-mul-right}
 use native.Mathlib.Numerals.{add-one}
 use native.Mathlib.Omega.{arith}
-use lib.ListN.{length, getD, take, drop}
+use lib.ListN.{length, take, drop}
+use denote.Ref.{now}
+use mir.Syntax.{w64}
+use mir.Val.{Fits}
 use Rattle.equivalence.specs.Equivalence.{Map, blocks}
 use Rattle.equivalence.specs.Lists.{concat}
 use Rattle.equivalence.specs.Lent.{stretch, written}
@@ -18,7 +21,7 @@ use Rattle.equivalence.proofs.Writing.{written-length}
 use Rattle.algebra.specs.Accepted.{Accepted}
 use Rattle.algebra.specs.Algebra.{Algebra, algebraOf, cellCount}
 use Rattle.algebra.proofs.Accepted.{WellFormed, accepted-wellFormed}
-use Rattle.congruence.specs.Calls.{quotientSpace, quotientTests, quotientCall, decomposed, factorBytes, decomposeTests, decomposeCall}
+use Rattle.congruence.specs.Calls.{quotientSpace, quotientTests, quotientCall, algebraFrom, decomposed, factorBytes, decomposeTests, decomposeCall}
 use Rattle.theory.specs.Decompose.{listed, factorSpace, reducible}
 use Rattle.congruence.specs.Demands.{QuotientDraws11, FactorCalls}
 use Rattle.congruence.proofs.Calls.{factor-calls}
@@ -27,7 +30,9 @@ use Rattle.congruence.proofs.Decomposing.{decomposed-yes, decomposed-no}
 use Rattle.theory.proofs.Quotients.{quotientCells-length}
 use Rattle.congruence.proofs.Serving.{of-quotientTests, of-decomposeTests}
 use Rattle.quotient.specs.Quotient.{quotientCells}
-use Rattle.claim.specs.Calls.{factorCount, eleven, lastCall, factorCalls, lentAt, lastAnswer, elevens, CallsMade, LentEnough, EveryLastCall11}
+use Rattle.claim.specs.Calls.{factorCount, irreducibleCount, lastCall, factorCalls, lentAt, lastAnswer, irreducibleAmong, CallsMade, LentEnough, EveryLastCall11, Claim, Slice}
+use Rattle.claim.specs.Calls.{lentIn, lentOut}
+use Rattle.claim.specs.InnerPromises.{TablesFit}
 use Rattle.equivalence.specs.declared.Refusal.{Refusal}
 use Rattle.equivalence.specs.declared.Check.{Check}
 use Rattle.equivalence.specs.declared.Check.the-variants.{Passed, Failed}
@@ -36,7 +41,7 @@ use Rattle.congruence.specs.declared.Divided.{Divided}
 use Rattle.congruence.specs.declared.Divided.the-variants.{Blocks, Refused as DivideRefused}
 use Rattle.congruence.specs.declared.Decomposed.{Decomposed}
 use Rattle.congruence.specs.declared.Decomposed.the-variants.{Factors, Irreducible, Refused as DecomposeRefused}
-use Rattle.claim.specs.declared.Drawn.{Drawn}
+use Rattle.claim.specs.declared.FactorsDecomposed.{FactorsDecomposed}
 
 -- ---- answers by cases
 
@@ -59,15 +64,15 @@ counts-factors (Factors k) i l = refl
 counts-factors (Irreducible x y) i l = absurd (omega arith)
 counts-factors (DecomposeRefused r) i l = absurd (omega arith)
 
-pub eleven-few : (d : Decomposed) → eleven d ≤ 1
-unfolding eleven
-eleven-few (Factors k) = omega arith
-eleven-few (Irreducible x y) = omega arith
-eleven-few (DecomposeRefused r) = omega arith
+pub counted-few : (d : Decomposed) → irreducibleCount d ≤ 1
+unfolding irreducibleCount
+counted-few (Factors k) = omega arith
+counted-few (Irreducible x y) = omega arith
+counted-few (DecomposeRefused r) = omega arith
 
-eleven-one : (d : Decomposed) (x y : Element) → d ≡ Irreducible x y → eleven d ≡ 1
-unfolding eleven
-eleven-one d x y e = rw e
+irreducible-counted : (d : Decomposed) (x y : Element) → d ≡ Irreducible x y → irreducibleCount d ≡ 1
+unfolding irreducibleCount
+irreducible-counted d x y e = rw e
 
 -- ---- Quotient
 
@@ -81,7 +86,7 @@ module _ (a : Algebra) (m : Map) (tables : List ℕ) where
   quotient-failed r e = serve-failed DivideRefused _ (Blocks (blocks (a .size) m)) (quotientCells a m) tables r e
 
   of-tests : lowest (quotientTests a m (length tables)) ≡ Passed → WellFormed a × (quotientSpace a m ≤ length tables)
-  of-tests e = let t = of-quotientTests a (length tables) m (sym e) in (accepted-wellFormed a (t .0), t .2)
+  of-tests e = let t = of-quotientTests a (length tables) m (sym e) in (accepted-wellFormed a (t .1 .0), t .1 .1 .1)
 
   -- the lent tables keep their length
   pub quotient-length : length (quotientCall a m tables .1) ≡ length tables
@@ -92,9 +97,8 @@ module _ (a : Algebra) (m : Map) (tables : List ℕ) where
       ]
 
   -- where b blocks are given, the algebra is accepted, and the tables over b have room
-  pub quotient-given : {d : Divided} {after : List ℕ} {b : ℕ} → (d, after) ≡ quotientCall a m tables → d ≡ Blocks b
-      → (b ≤ 64) × ((length (a .arities) ≤ 16) × (((i : ℕ) → i < length (a .arities) → getD (a .arities) i 0 ≤ 3) × (cellCount b (a .arities) ≤ length after)))
-  quotient-given {d} {after} {b} g h =
+  given-fits : {d : Divided} {after : List ℕ} {b : ℕ} → (d, after) ≡ quotientCall a m tables → d ≡ Blocks b → TablesFit b (a .arities) after
+  given-fits {d} {after} {b} g h =
       let long : length after ≡ length tables = ap (λ (c : Divided × List ℕ). length (c .1)) g ∙ quotient-length in
       let answer : quotientCall a m tables .0 ≡ Blocks b = sym (ap (λ (c : Divided × List ℕ). c .0) g) ∙ h in
       elim (passes (lowest (quotientTests a m (length tables)))) [
@@ -102,11 +106,27 @@ module _ (a : Algebra) (m : Map) (tables : List ℕ) where
             let t = of-tests e in
             let same : blocks (a .size) m ≡ b = same-blocks (blocks (a .size) m) b (sym (ap (λ (c : Divided × List ℕ). c .0) (quotient-passed e)) ∙ answer) in
             let room : cellCount b (a .arities) ≤ length tables = subst (λ (c : ℕ). cellCount c (a .arities) ≤ length tables) same (t .1) in
-            (omega (arith, t .0 .most, blocks-le (a .size) m, same), (t .0 .operations, (t .0 .arity, omega (arith, room, long))))
+            record {
+              most = omega (arith, t .0 .most, blocks-le (a .size) m, same);
+              operations = t .0 .operations;
+              arity = t .0 .arity;
+              room = omega (arith, room, long);
+            }
         | inr e ↦ absurd (refused-blocks (e .0) b (sym (ap (λ (c : Divided × List ℕ). c .0) (quotient-failed (e .0) (e .1))) ∙ answer))
       ]
 
+pub quotient-given : (n : ℕ) (arities cells : List ℕ) (m : Map) (tables : List ℕ) {d : Divided} {after : List ℕ} {b : ℕ}
+    → (d, after) ≡ quotientCall (algebraOf n arities cells) m tables → d ≡ Blocks b → TablesFit b arities after
+quotient-given n arities cells m tables = given-fits (algebraOf n arities cells) m tables
+
 -- ---- Decompose
+
+-- the tables are the first cells, as many as were counted
+pub front-decomposed : (b : ℕ) (arities tables again : List ℕ) {count : ℕ} {r : Decomposed} {after : List ℕ} → count ≡ cellCount b arities
+    → (r, after) ≡ decomposeCall (algebraOf b arities (take (count - 0) tables)) again → (r, after) ≡ decomposeCall (algebraFrom b arities tables) again
+front-decomposed b arities tables again {count} e f =
+    let all : count - 0 ≡ cellCount b arities = omega arith in
+    f ∙ ap (λ (k : ℕ). decomposeCall (algebraOf b arities (take k tables)) again) all
 
 module _ (a : Algebra) (lent : List ℕ) where
   decompose-passed : lowest (decomposeTests a (length lent)) ≡ Passed → decomposeCall a lent ≡ (decomposed a, written (factorBytes a) lent)
@@ -137,9 +157,9 @@ module _ (a : Algebra) (lent : List ℕ) where
       ]
 
   -- 11 leaves the lent bytes as they were
-  eleven-keeps : (x y : Element) → decomposeCall a lent .0 ≡ Irreducible x y → decomposeCall a lent .1 ≡ lent
+  irreducible-keeps : (x y : Element) → decomposeCall a lent .0 ≡ Irreducible x y → decomposeCall a lent .1 ≡ lent
   unfolding factorBytes written
-  eleven-keeps x y g =
+  irreducible-keeps x y g =
       elim (passes (lowest (decomposeTests a (length lent)))) [
         | inl e ↦
             let w = accepted-wellFormed a (of-tests′ e .0) in
@@ -153,89 +173,118 @@ module _ (a : Algebra) (lent : List ℕ) where
 
 -- ---- the calls for one factor
 
-module _ (a : Algebra) (m : Map) (lent : List ℕ × List ℕ) where
+module _ (a : Algebra) (m tables again : List ℕ) {d : Divided} {tables′ : List ℕ} (e : (d, tables′) ≡ quotientCall a m tables) where
   -- Quotient gives b blocks
-  pub calls-given : {d : Divided} {tables : List ℕ} {b : ℕ} {r : Decomposed} {again : List ℕ} → (d, tables) ≡ quotientCall a m (lent .0) → d ≡ Blocks b
-      → (r, again) ≡ decomposeCall (algebraOf b (a .arities) (take (cellCount b (a .arities)) tables)) (lent .1) → (r, (tables, again)) ≡ factorCalls a m lent
+  pub calls-given : {b : ℕ} {r : Decomposed} {again′ : List ℕ} → d ≡ Blocks b → (r, again′) ≡ decomposeCall (algebraFrom b (a .arities) tables′) again
+      → (r, (tables′, again′)) ≡ factorCalls a m (tables, again)
   unfolding factorCalls lastCall
-  calls-given e f g = rw (← e, f, ← g)
+  calls-given f g = rw (← e, f, ← g)
 
   -- Quotient declines
-  pub calls-declined : {d : Divided} {tables : List ℕ} {r : Refusal} → (d, tables) ≡ quotientCall a m (lent .0) → d ≡ DivideRefused r → (DecomposeRefused r, (tables, lent .1)) ≡ factorCalls a m lent
+  pub calls-declined : {r : Refusal} → d ≡ DivideRefused r → (DecomposeRefused r, (tables′, again)) ≡ factorCalls a m (tables, again)
   unfolding factorCalls lastCall
-  calls-declined e f = rw (← e, f)
+  calls-declined f = rw (← e, f)
 
+module _ (a : Algebra) (m : Map) (lent : List ℕ × List ℕ) where
   -- Quotient is given and draws 11: the last answer is 11, the tables keep their length, and nothing else changes
   factor-drawn : QuotientDraws11 a m → quotientSpace a m ≤ length (lent .0) → factorSpace (blocks (a .size) m) ≤ length (lent .1)
-      → ((x : Element) × (y : Element) × (factorCalls a m lent .0 ≡ Irreducible x y)) × (length (factorCalls a m lent .1 .0) ≡ length (lent .0)) × (factorCalls a m lent .1 .1 ≡ lent .1)
+      → ((x : Element) × (y : Element) × (factorCalls a m lent .0 ≡ Irreducible x y))
+      × (length (factorCalls a m lent .1 .0) ≡ length (lent .0)) × (factorCalls a m lent .1 .1 ≡ lent .1)
   factor-drawn q room wide =
       let b : ℕ = blocks (a .size) m in
       let tables : List ℕ = quotientCall a m (lent .0) .1 in
       let given : quotientCall a m (lent .0) .0 ≡ Blocks b = q .given (lent .0) room in
-      let last : Decomposed × List ℕ = decomposeCall (algebraOf b (a .arities) (take (cellCount b (a .arities)) tables)) (lent .1) in
-      let calls : (last .0, (tables, last .1)) ≡ factorCalls a m lent = calls-given refl given refl in
+      let q′ : Algebra = algebraFrom b (a .arities) tables in
+      let last : Decomposed × List ℕ = decomposeCall q′ (lent .1) in
+      let calls : (last .0, (tables, last .1)) ≡ factorCalls a m lent = calls-given a m (lent .0) (lent .1) refl given refl in
       let d = q .draws11 (lent .0) room b given (lent .1) wide in
-      rw (← calls) ((d .0, d .1, d .2), quotient-length a m (lent .0), eleven-keeps (algebraOf b (a .arities) (take (cellCount b (a .arities)) tables)) (lent .1) (d .0) (d .1) (d .2))
+      rw (← calls) ((d .0, d .1, d .2), quotient-length a m (lent .0), irreducible-keeps q′ (lent .1) (d .0) (d .1) (d .2))
 
 -- ---- the loop over the factors
 
 -- the calls for the factors below number i were made
-pub record Calling (a : Algebra) (list : List ℕ) (before : List ℕ × List ℕ) (i place drawn : ℕ) (after : List ℕ × List ℕ) : Type 0 where
+pub record Calling (a : Algebra) (list : List ℕ) (count : ℕ) (before : List ℕ × List ℕ) (i place counted : ℕ) (after : List ℕ × List ℕ) : Type 0 where
+  pub room : count * a .size ≤ length list
   pub start : place ≡ i * a .size
-  pub few : drawn ≤ i
-  pub counted : drawn ≡ elevens a list before i
+  pub upto : i ≤ count
+  pub few : counted ≤ i
+  pub answers : counted ≡ irreducibleAmong a list before i
   pub lent : after ≡ lentAt a list before i
+  pub tables : length (after .0) ≡ length (before .0)
+  pub again : length (after .1) ≡ length (before .1)
 
-pub calling-start : (a : Algebra) (list : List ℕ) (before : List ℕ × List ℕ) → Calling a list before 0 0 0 before
-unfolding elevens lentAt
-calling-start a list before = record { start = omega arith; few = omega arith; counted = refl; lent = refl }
+pub calling-start : (a : Algebra) (list : List ℕ) (count : ℕ) (before : List ℕ × List ℕ) → count * a .size ≤ length list
+    → Calling a list count before 0 0 0 before
+unfolding irreducibleAmong lentAt
+calling-start a list count before room =
+    record { room = room; start = omega arith; upto = omega arith; few = omega arith; answers = refl; lent = refl; tables = refl; again = refl }
 
-module _ {a : Algebra} {list : List ℕ} {before : List ℕ × List ℕ} {i place drawn : ℕ} {after : List ℕ × List ℕ} (p : Calling a list before i place drawn after) where
+module _ {a : Algebra} {list : List ℕ} {count : ℕ} {before : List ℕ × List ℕ} {i place counted : ℕ} {after : List ℕ × List ℕ}
+    (p : Calling a list count before i place counted after) where
   -- the next factor's map stands in the list
-  pub calling-part : (count : ℕ) → i < count → count * a .size ≤ length list → place + a .size ≤ length list
-  calling-part count l room = omega (arith, p .start, suc-mul i (a .size), mul-le-mul-right (a .size) l)
+  pub calling-part : i < count → place + a .size ≤ length list
+  calling-part l = omega (arith, p .start, p .room, suc-mul i (a .size), mul-le-mul-right (a .size) l)
 
-  pub calling-more : {r : Decomposed} {new : List ℕ × List ℕ} {one : ℕ} → (r, new) ≡ factorCalls a (take (place + a .size - place) (drop place list)) after → one ≡ eleven r
-      → Calling a list before (i + 1) (place + a .size) (drawn + one) new
-  unfolding elevens lentAt lastAnswer stretch
-  calling-more {r} {new} {one} e g =
-      let wide : place + a .size - place ≡ a .size = omega arith in
-      let f : (r, new) ≡ factorCalls a (take (a .size) (drop (i * a .size) list)) (lentAt a list before i) =
-      e ∙ ap (λ (w : ℕ). factorCalls a (take w (drop place list)) after) wide ∙ ap (λ (s : ℕ). factorCalls a (take (a .size) (drop s list)) after) (p .start)
-      ∙ ap (factorCalls a (take (a .size) (drop (i * a .size) list))) (p .lent) in
-      let answer : r ≡ lastAnswer a list before i = ap (λ (c : Decomposed × (List ℕ × List ℕ)). c .0) f in
-      let more : new ≡ lentAt a list before (suc i) = ap (λ (c : Decomposed × (List ℕ × List ℕ)). c .1) f in
-      let count : drawn + one ≡ elevens a list before (suc i) = ap (λ (k : ℕ). drawn + k) (g ∙ ap eleven answer) ∙ ap (λ (d : ℕ). d + eleven (lastAnswer a list before i)) (p .counted) in
-      record {
-        start = omega (arith, p .start, suc-mul i (a .size));
-        few = omega (arith, p .few, eleven-few r, g);
-        counted = rw add-one count;
-        lent = rw add-one more;
-      }
+  -- what is counted is at most the number of factors
+  pub calling-fits : i < count → (r : Decomposed) {one : ℕ} → one ≡ irreducibleCount r → Fits w64 count → Fits w64 (counted + one)
+  calling-fits l r e h = omega (arith, p .few, counted-few r)
 
   -- the calls for all of them were made
-  pub calling-all : {count : ℕ} → i ≡ count → (drawn ≡ elevens a list before count) × (after ≡ lentAt a list before count)
-  calling-all e = rw (← e) (p .counted, p .lent)
+  pub calling-all : count ≤ i → (counted ≡ irreducibleAmong a list before count) × (after ≡ lentAt a list before count)
+  calling-all h = let e : i ≡ count = omega (arith, p .upto) in rw (← e) (p .answers, p .lent)
+
+  -- the calls for the next one
+  module _ (l : i < count) {r : Decomposed} {new : List ℕ × List ℕ} (e : (r, new) ≡ factorCalls a (take (place + a .size - place) (drop place list)) after) where
+    next-calls : (r, new) ≡ factorCalls a (stretch (a .size) list i) (lentAt a list before i)
+    unfolding stretch
+    next-calls =
+        let wide : place + a .size - place ≡ a .size = omega arith in
+        e ∙ ap (λ (w : ℕ). factorCalls a (take w (drop place list)) after) wide
+        ∙ ap (λ (s : ℕ). factorCalls a (take (a .size) (drop s list)) after) (p .start)
+        ∙ ap (factorCalls a (stretch (a .size) list i)) (p .lent)
+
+    next-answer : r ≡ lastAnswer a list before i
+    unfolding lastAnswer
+    next-answer = ap (λ (c : Decomposed × (List ℕ × List ℕ)). c .0) next-calls
+
+    next-lent : new ≡ lentAt a list before (suc i)
+    unfolding lentAt
+    next-lent = ap (λ (c : Decomposed × (List ℕ × List ℕ)). c .1) next-calls
+
+    pub calling-more : {one : ℕ} → length (new .0) ≡ length (after .0) → length (new .1) ≡ length (after .1) → one ≡ irreducibleCount r
+        → Calling a list count before (i + 1) (place + a .size) (counted + one) new
+    unfolding irreducibleAmong
+    calling-more {one} t u g =
+        let more : counted + one ≡ irreducibleAmong a list before (suc i) =
+        ap (λ (k : ℕ). counted + k) (g ∙ ap irreducibleCount next-answer)
+        ∙ ap (λ (d : ℕ). d + irreducibleCount (lastAnswer a list before i)) (p .answers) in
+        record {
+          room = p .room;
+          start = omega (arith, p .start, suc-mul i (a .size));
+          upto = omega arith;
+          few = omega (arith, p .few, counted-few r, g);
+          answers = rw add-one more;
+          lent = rw add-one next-lent;
+          tables = t ∙ p .tables;
+          again = u ∙ p .again;
+        }
 
 -- ---- all calls
 
-module _ (a : Algebra) (list : List ℕ) (lent : List ℕ × List ℕ) {first : Decomposed} {list′ : List ℕ} {count : ℕ} (e : (first, list′) ≡ decomposeCall a list) (f : count ≡ factorCount first) where
-  -- the factors that are counted stand in the list
-  pub counted-fit : length list′ ≡ length list → count * a .size ≤ length list′
-  counted-fit long = rw (f, long, ap (λ (c : Decomposed × List ℕ). c .0) e) (factors-fit a list)
-
-  pub calls-made : {drawn : ℕ} {lent′ : List ℕ × List ℕ} → drawn ≡ elevens a list′ lent count → lent′ ≡ lentAt a list′ lent count
-      → CallsMade a list lent (record { first = first; elevens = drawn }) list′ lent′
-  calls-made g h = record { first = e; counted = rw (← f) g; after = rw (← f) h }
+-- the factors that are counted stand in the list
+pub counted-fit : (n : ℕ) (arities cells list : List ℕ) {first : Decomposed} {list′ : List ℕ} {count : ℕ}
+    → (first, list′) ≡ decomposeCall (algebraOf n arities cells) list → count ≡ factorCount first → length list′ ≡ length list → count * n ≤ length list′
+counted-fit n arities cells list e f long =
+    rw (f, long, ap (λ (c : Decomposed × List ℕ). c .0) e) (factors-fit (algebraOf n arities cells) list)
 
 -- ---- the claim
 
-module _ (a : Algebra) (accepted : Accepted a) (list : List ℕ) (lent : List ℕ × List ℕ) (enough : LentEnough a list lent) where
+module _ (a : Algebra) (list : List ℕ) (lent : List ℕ × List ℕ) (accepted : Accepted a) (enough : LentEnough a list lent) where
   abbrev after : List ℕ
   after = decomposeCall a list .1
 
   calls : FactorCalls a list
-  calls = factor-calls a accepted list (enough .listing)
+  calls = factor-calls a accepted list (enough .list)
 
   draws : (i : ℕ) → i < factorCount (decomposed a) → QuotientDraws11 a (stretch (a .size) after i)
   draws i l = calls .quotients (factorCount (decomposed a)) i (calls .answer ∙ counts-factors (decomposed a) i l) l
@@ -255,21 +304,35 @@ module _ (a : Algebra) (accepted : Accepted a) (list : List ℕ) (lent : List �
   kept zero l = (refl, refl)
   kept (suc i) l = drawn i (omega arith) (kept i (omega arith)) .1
 
-  all-eleven : (i : ℕ) → i ≤ factorCount (decomposed a) → elevens a after lent i ≡ i
-  unfolding elevens
-  all-eleven zero l = refl
-  all-eleven (suc i) l =
+  all-irreducible : (i : ℕ) → i ≤ factorCount (decomposed a) → irreducibleAmong a after lent i ≡ i
+  unfolding irreducibleAmong
+  all-irreducible zero l = refl
+  all-irreducible (suc i) l =
       let d = drawn i (omega arith) (kept i (omega arith)) .0 in
-      omega (arith, all-eleven i (omega arith), eleven-one (lastAnswer a after lent i) (d .0) (d .1) (d .2))
+      omega (arith, all-irreducible i (omega arith), irreducible-counted (lastAnswer a after lent i) (d .0) (d .1) (d .2))
 
   -- demand 3: every last call answers 11
-  pub every-last-call-11 : {r : Drawn} {list′ : List ℕ} {lent′ : List ℕ × List ℕ} → CallsMade a list lent r list′ lent′ → EveryLastCall11 a list lent r
-  every-last-call-11 {r} {list′} {lent′} made =
-      let first : r .first ≡ decomposed a = ap (λ (c : Decomposed × List ℕ). c .0) (made .first) ∙ calls .answer in
-      let listing : list′ ≡ after = ap (λ (c : Decomposed × List ℕ). c .1) (made .first) in
+  every-last-call-11 : {r : FactorsDecomposed} {list′ : List ℕ} → (r .first, list′) ≡ decomposeCall a list
+      → r .irreducible ≡ irreducibleAmong a list′ lent (factorCount (r .first)) → EveryLastCall11 a list lent r
+  every-last-call-11 {r} {list′} e counted =
+      let first : r .first ≡ decomposed a = ap (λ (c : Decomposed × List ℕ). c .0) e ∙ calls .answer in
+      let written : list′ ≡ after = ap (λ (c : Decomposed × List ℕ). c .1) e in
       let few : factorCount (r .first) ≡ factorCount (decomposed a) = ap factorCount first in
       record {
         first = first;
         each = λ i l. drawn i (omega (arith, few)) (kept i (omega (arith, few))) .0;
-        all = made .counted ∙ ap (λ (l : List ℕ). elevens a l lent (factorCount (r .first))) listing ∙ all-eleven (factorCount (r .first)) (omega (arith, few));
+        all = counted ∙ ap (λ (l : List ℕ). irreducibleAmong a l lent (factorCount (r .first))) written
+            ∙ all-irreducible (factorCount (r .first)) (omega (arith, few));
       }
+
+-- ---- all calls: they were made, and the claim holds of them
+
+module _ (a : Algebra) (list tables again : Slice) {first : Decomposed} {count counted : ℕ}
+    (e : (first, now (list .exit)) ≡ decomposeCall a (now (list .entry))) (f : count ≡ factorCount first)
+    (g : counted ≡ irreducibleAmong a (now (list .exit)) (lentIn tables again) count)
+    (h : lentOut tables again ≡ lentAt a (now (list .exit)) (lentIn tables again) count) where
+  pub calls-made : CallsMade a list tables again (record { first = first; irreducible = counted })
+  calls-made = record { first = e; counted = rw (← f) g; rest = rw (← f) h }
+
+  pub claimed : Claim a list tables again (record { first = first; irreducible = counted })
+  claimed accepted enough = every-last-call-11 a (now (list .entry)) (lentIn tables again) accepted enough (calls-made .first) (calls-made .counted)

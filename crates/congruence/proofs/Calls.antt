@@ -1,12 +1,11 @@
 -- The calls of Decompose and Quotient on an accepted algebra with room enough: what they answer and write, and demand 3 over them together.
 -- first, so that a wrong definition is refused by an example that it makes false
-use Rattle.congruence.proofs.Examples.{examples}
-use Prim.Native.Nat.{ℕ, _-_, _≤_, _<_}
+use Prim.Native.Nat.{ℕ, _≤_, _<_}
 use mathlib.Core.List.{List, []}
 use mathlib.Core.Path.{_≡_, sym, ap, subst, _∙_}
 use native.Mathlib.Omega.{arith}
 use lib.Dec.{T}
-use lib.ListN.{length, getD, take, drop}
+use lib.ListN.{length, getD, drop}
 use lib.Seq.{take-at}
 use Rattle.equivalence.specs.Equivalence.{Map, isMap, blocks}
 use Rattle.equivalence.specs.Lists.{concat}
@@ -16,11 +15,11 @@ use Rattle.equivalence.proofs.Refusals.{lowest-none, lowest-next, lowest-append
 use Rattle.equivalence.proofs.Stretches.{stretch-concat}
 use Rattle.equivalence.proofs.Tests.{T?}
 use Rattle.algebra.specs.Accepted.{algebraTests, Accepted}
-use Rattle.algebra.specs.Algebra.{Algebra, algebraOf, cellCount}
+use Rattle.algebra.specs.Algebra.{Algebra}
 use Rattle.algebra.specs.Congruence.{isCongruence, Congruence}
 use Rattle.algebra.proofs.Accepted.{WellFormed, accepted-wellFormed, not-yes, wellFormed-accepted}
 use Rattle.algebra.proofs.Congruences.{congruence-is}
-use Rattle.congruence.specs.Calls.{element, congruenceTest, quotientSpace, quotientTests, quotientCall, decomposed, factorBytes, decomposeTests, decomposeCall}
+use Rattle.congruence.specs.Calls.{element, irreducibleAnswer, congruenceTest, quotientSpace, quotientTests, quotientCall, algebraFrom, decomposed, factorBytes, decomposeTests, decomposeCall}
 use Rattle.theory.specs.Decompose.{listed, factorSpace, reducible, commonPair}
 use Rattle.congruence.specs.Demands.{Answers11, QuotientDraws11, FactorCalls}
 use Rattle.congruence.proofs.Demands.{listed-right}
@@ -32,7 +31,7 @@ use Rattle.equivalence.specs.declared.Check.the-variants.{Passed}
 use Rattle.congruence.specs.declared.Divided.{Divided}
 use Rattle.congruence.specs.declared.Divided.the-variants.{Blocks, Refused as DivideRefused}
 use Rattle.congruence.specs.declared.Decomposed.{Decomposed}
-use Rattle.congruence.specs.declared.Decomposed.the-variants.{Factors, Irreducible, Refused as DecomposeRefused}
+use Rattle.congruence.specs.declared.Decomposed.the-variants.{Factors, Refused as DecomposeRefused}
 
 -- ---- Decompose
 
@@ -82,7 +81,7 @@ module _ (a : Algebra) (accepted : Accepted a) (m : Map) (p : Congruence a m) (t
   quotient-bytes = ap (λ (r : Divided × List ℕ). r .1) quotient-served
 
   -- the tables that were written, with b and the arities, are the quotient
-  pub quotient-algebra : algebraOf (blocks (a .size) m) (a .arities) (take (quotientSpace a m) (quotientCall a m tables .1)) ≡ quotient a m
+  pub quotient-algebra : algebraFrom (blocks (a .size) m) (a .arities) (quotientCall a m tables .1) ≡ quotient a m
   unfolding quotient written
   quotient-algebra =
       let long : length (quotientCells a m) ≡ quotientSpace a m = quotientCells-length a m in
@@ -107,12 +106,12 @@ module _ (a : Algebra) (accepted : Accepted a) where
             let b-is : blocks (a .size) m ≡ b = blocks-injective (blocks (a .size) m) b (sym (quotient-answer a accepted m p tables h) ∙ f) in
             let n = blocks (a .size) m in
             let q : Accepted (quotient a m) = wellFormed-accepted (quotient a m) (quotient-wellFormed a (accepted-wellFormed a accepted) m (congruence-is a m p)) in
-            let d : (again : List ℕ) → factorSpace n ≤ length again → decomposeCall (quotient a m) again .0 ≡ Irreducible (element (commonPair (quotient a m) .0)) (element (commonPair (quotient a m) .1)) =
+            let d : (again : List ℕ) → factorSpace n ≤ length again → decomposeCall (quotient a m) again .0 ≡ irreducibleAnswer (quotient a m) =
             λ again g. decompose-answer (quotient a m) q again (size-quotient a m again g) ∙ e in (
               element (commonPair (quotient a m) .0),
               element (commonPair (quotient a m) .1),
-              subst (λ (c : ℕ). factorSpace c ≤ length again → decomposeCall (algebraOf c (a .arities) (take (cellCount c (a .arities)) (quotientCall a m tables .1))) again .0
-                  ≡ Irreducible (element (commonPair (quotient a m) .0)) (element (commonPair (quotient a m) .1))) b-is
+              subst (λ (c : ℕ). factorSpace c ≤ length again → decomposeCall (algebraFrom c (a .arities) (quotientCall a m tables .1)) again .0
+                  ≡ irreducibleAnswer (quotient a m)) b-is
                   (λ g. rw (quotient-algebra a accepted m p tables h) (d again g)) g,
             );
       }
@@ -122,17 +121,17 @@ module _ (a : Algebra) (accepted : Accepted a) where
   factor-calls lent room =
       let well : WellFormed a = accepted-wellFormed a accepted in
       let answer : decomposeCall a lent .0 ≡ decomposed a = decompose-answer a accepted lent room in
-      let mapList : (k i : ℕ) → decomposed a ≡ Factors k → i < k → stretch (a .size) (decomposeCall a lent .1) i ≡ getD (listed a) i [] =
+      let maps : (k i : ℕ) → decomposed a ≡ Factors k → i < k → stretch (a .size) (decomposeCall a lent .1) i ≡ getD (listed a) i [] =
       λ k i e l. let r = factors-reducible a k e in
       rw (decompose-bytes a accepted lent room, factorBytes-yes a (r .0))
       (stretch-concat (a .size) (listed a) (drop (length (concat (listed a))) lent) (listed-long a well) i (omega (arith, r .1))) in
       record {
         answer = answer;
-        mapList = mapList;
+        maps = maps;
         quotients = λ k i e l.
             let d : decomposed a ≡ Factors k = sym answer ∙ e in
             let r = factors-reducible a k d in
             let f = listed-right a accepted (r .0) in
             let j : i < length (listed a) = omega (arith, r .1) in
-            rw (mapList k i d l) (quotient-draws11 (getD (listed a) i []) (f .congruences i j) (f .irreducible i j));
+            rw (maps k i d l) (quotient-draws11 (getD (listed a) i []) (f .congruences i j) (f .irreducible i j));
       }

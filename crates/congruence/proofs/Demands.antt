@@ -26,7 +26,8 @@ use Rattle.congruence.specs.Calls.{element}
 use Rattle.theory.specs.Certify.{certified}
 use Rattle.theory.specs.Decompose.{listed, reducible, commonPair}
 use Rattle.theory.specs.Splitting.{Unsplit}
-use Rattle.congruence.specs.Demands.{LeastCongruence, GreatestCongruence, MeetRight, JoinRight, operationNo, QuotientAtMembers, MaximalApart, EarliestCongruence, HeldByAll, FirstCommonPair, FactorsRight, FactorTheorem}
+use Rattle.congruence.specs.Demands.{LeastCongruence, GreatestCongruence, MeetRight, JoinRight, operationNo, QuotientAtMembers, MaximalApart}
+use Rattle.congruence.specs.Demands.{EarliestCongruence, HeldByAll, FirstCommonPair, FactorsRight, FactorTheorem}
 use Rattle.theory.specs.Extremal.{generated, contained, separated}
 use Rattle.theory.proofs.Certificates.{listed-certified}
 use Rattle.theory.proofs.CommonPair.{Common, FirstCommon, commonPair-law, commonPair-one}

@@ -16,7 +16,11 @@ use Rattle.congruence.specs.Examples.{Examples, SmallInputs}
 use Rattle.congruence.specs.Outcome.{generatedOutcome, dividedOutcome, decomposedOutcome}
 
 pub examples : Examples
-unfolding upTo every any first holds concat mapOf keep maps namesOf blocks best meetAll inside same isIdentity isMap notLater notLaterOn pairs identity whole meet firstHeld isCongruence operations operationsOf cellCount arguments place value respects congruences holdsAll above generated contained separated added gathered pruned listed commonPair reducible decomposed factorBytes generateCall containedCall separateCall decomposeCall serve lowest algebraTests sizeTest pairsTest elementsTest mapTest spaceTest equalTest answered lentAfter written success writtenOutcome generatedOutcome decomposedOutcome
+unfolding upTo every any first holds concat mapOf keep maps namesOf blocks best meetAll inside same isIdentity isMap notLater notLaterOn pairs identity
+    whole meet firstHeld isCongruence operations operationsOf cellCount arguments place value respects congruences holdsAll above generated contained
+    separated added gathered pruned listed commonPair reducible decomposed factorBytes generateCall containedCall separateCall decomposeCall serve
+    lowest algebraTests sizeTest pairsTest elementsTest mapTest spaceTest equalTest answered lentAfter written success writtenOutcome generatedOutcome
+    decomposedOutcome
 examples =
     record {
       one = refl;
@@ -33,7 +37,11 @@ examples =
     }
 
 pub small-inputs : SmallInputs
-unfolding upTo every any first holds concat mapOf keep maps namesOf blocks best meetAll inside same isIdentity isMap notLater notLaterOn pairs identity whole meet firstHeld isCongruence operations operationsOf cellCount arguments place value respects congruences holdsAll above generated separated added gathered pruned listed commonPair reducible decomposed factorBytes generateCall containedCall separateCall quotientCall decomposeCall serve lowest algebraTests sizeTest pairsTest elementsTest mapTest congruenceTest spaceTest equalTest answered lentAfter written refusal numberOf writtenOutcome generatedOutcome dividedOutcome decomposedOutcome
+unfolding upTo every any first holds concat mapOf keep maps namesOf blocks best meetAll inside same isIdentity isMap notLater notLaterOn pairs identity
+    whole meet firstHeld isCongruence operations operationsOf cellCount arguments place value respects congruences holdsAll above generated separated
+    added gathered pruned listed commonPair reducible decomposed factorBytes generateCall containedCall separateCall quotientCall decomposeCall serve
+    lowest algebraTests sizeTest pairsTest elementsTest mapTest congruenceTest spaceTest equalTest answered lentAfter written refusal numberOf
+    writtenOutcome generatedOutcome dividedOutcome decomposedOutcome
 small-inputs =
     record {
       size = refl;

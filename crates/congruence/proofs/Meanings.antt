@@ -1,6 +1,5 @@
 -- Demand 2 over the calls: an answer that is no refusal shows that the tests passed and what was written; and Certify says yes to Decompose's list.
 use Prim.Native.Nat.{ℕ, _+_, _-_, _*_, _/_, _%_, _<_}
-use mathlib.Core.Bool.{true}
 use mathlib.Core.List.{List, [], append-nil}
 use mathlib.Core.Path.{_≡_, refl, sym, ap, subst, _∙_}
 use native.Mathlib.Nat.{mul-div-cancel}
@@ -36,13 +35,14 @@ use Rattle.theory.specs.Decompose.{reducible, listed}
 use Rattle.theory.specs.Extremal.{generated, contained, separated}
 use Rattle.theory.proofs.Factors.{listed-long}
 use Rattle.theory.proofs.Quotients.{quotientCells-length}
-use Rattle.congruence.specs.Calls.{generateTests, generateCall, containedTests, containedCall, separateTests, separateCall, quotientTests, quotientCall, decomposed, factorBytes, decomposeTests, decomposeCall, certifyTests, certifyCall}
+use Rattle.congruence.specs.Calls.{generateTests, generateCall, containedTests, containedCall, separateTests, separateCall, quotientTests}
+use Rattle.congruence.specs.Calls.{quotientCall, decomposed, factorBytes, decomposeTests, decomposeCall, certifyTests, certifyCall}
 use Rattle.congruence.specs.Demands.{LeastCongruence, GreatestCongruence, EarliestCongruence, MeetRight, JoinRight, QuotientAtMembers}
 use Rattle.congruence.specs.Meanings.{WroteMap, quotientIn, WroteQuotient, Meanings}
 use Rattle.congruence.proofs.Calls.{factors-reducible, quotient-algebra, blocks-injective}
 use Rattle.congruence.proofs.Decomposing.{factorBytes-yes}
 use Rattle.congruence.proofs.Demands.{meet-right, join-right, generated-least, contained-greatest, separated-right, quotient-at-members, listed-right, listed-certified-yes}
-use Rattle.congruence.proofs.Serving.{algebra-passed, of-generateTests, of-containedTests, of-separateTests, of-quotientTests, of-decomposeTests, maps-passed, certify-yes}
+use Rattle.congruence.proofs.Serving.{algebra-passes, of-generateTests, of-containedTests, of-separateTests, of-quotientTests, of-decomposeTests, maps-passed, certify-yes}
 use Rattle.congruence.specs.declared.Generated.the-variants.{Merges, Refused as GenerateRefused}
 use Rattle.congruence.specs.declared.Divided.{Divided}
 use Rattle.congruence.specs.declared.Divided.the-variants.{Blocks, Refused as DivideRefused}
@@ -99,7 +99,7 @@ module _ (a : Algebra) (ps lent out : List ℕ) (k : ℕ) (e : generateCall a ps
   generate-given = serve-given GenerateRefused _ (generated a ps) lent (refused-merges k) (generateTests a ps (length lent)) e
 
   generate-least : LeastCongruence a ps (generated a ps)
-  generate-least = let t = of-generateTests a (length lent) ps (sym (generate-given .0)) in generated-least a (t .0) ps (t .1)
+  generate-least = let t = of-generateTests a (length lent) ps (sym (generate-given .0)) in generated-least a (t .0) ps (t .1 .0)
 
   generate-means : WroteMap (a .size) (LeastCongruence a ps) lent out
   generate-means = wrote-map (a .size) (LeastCongruence a ps) (generated a ps) lent (generate-least .congruence .map) generate-least (generate-given .2)
@@ -119,7 +119,7 @@ unfolding containedCall
 contained-means a m lent out e =
     let g = serve-given WriteRefused Done (contained a m) lent refused-done (containedTests a m (length lent)) e in
     let t = of-containedTests a (length lent) m (sym (g .0)) in
-    let r = contained-greatest a (t .0) m (t .1) in
+    let r = contained-greatest a (t .0) m (t .1 .0) in
     wrote-map (a .size) (GreatestCongruence a m) (contained a m) lent (r .congruence .map) r (g .2)
 
 separate-means : (a : Algebra) (v w : ℕ) (lent out : List ℕ) → separateCall a v w lent ≡ (Done, out) → WroteMap (a .size) (EarliestCongruence a v w) lent out
@@ -127,7 +127,7 @@ unfolding separateCall
 separate-means a v w lent out e =
     let g = serve-given WriteRefused Done (separated a v w) lent refused-done (separateTests a v w (length lent)) e in
     let t = of-separateTests a (length lent) v w (sym (g .0)) in
-    let r = separated-right a (t .0) v w (t .1 .0) (t .1 .1) (t .3) in
+    let r = separated-right a (t .0) v w (t .1 .0) (t .1 .1 .0) (t .1 .1 .1 .0) in
     wrote-map (a .size) (EarliestCongruence a v w) (separated a v w) lent (r .congruence .map) r (g .2)
 
 module _ (n : ℕ) (a b : Map) (lent out : List ℕ) where
@@ -155,15 +155,15 @@ module _ (a : Algebra) (m : Map) (lent out : List ℕ) (b : ℕ) (e : quotientCa
   quotient-means : WroteQuotient a m b lent out
   quotient-means =
       let t = of-quotientTests a (length lent) m (sym (quotient-given .0)) in
-      let p : Congruence a m = record { map = t .1; respects = t .3 } in
+      let p : Congruence a m = record { map = t .1 .1 .0; respects = t .0 } in
       let is : blocks (a .size) m ≡ b = blocks-injective (blocks (a .size) m) b (quotient-given .1) in
       let bytes : quotientCall a m lent .1 ≡ out = ap (λ (r : Divided × List ℕ). r .1) e in
       let q : quotientIn a b out ≡ quotient a m =
       subst (λ (c : ℕ). quotientIn a c out ≡ quotient a m) is
-      (subst (λ (o : List ℕ). quotientIn a (blocks (a .size) m) o ≡ quotient a m) bytes (quotient-algebra a (t .0) m p lent (t .2))) in
+      (subst (λ (o : List ℕ). quotientIn a (blocks (a .size) m) o ≡ quotient a m) bytes (quotient-algebra a (t .1 .0) m p lent (t .1 .1 .1))) in
       record {
         congruence = p;
-        means = subst (QuotientAtMembers a m) (sym q) (quotient-at-members a (t .0) m p);
+        means = subst (QuotientAtMembers a m) (sym q) (quotient-at-members a (t .1 .0) m p);
         kept = wrote-past (cellCount b (a .arities)) (quotientCells a m) lent (quotientCells-length a m ∙ ap (λ (c : ℕ). cellCount c (a .arities)) is) (quotient-given .2);
       }
 
@@ -172,7 +172,9 @@ module _ (a : Algebra) (m : Map) (lent out : List ℕ) (b : ℕ) (e : quotientCa
 module _ (a : Algebra) (accepted : Accepted a) where
   listed-bytes : length (concat (listed a)) ≡ length (listed a) * a .size
   listed-bytes =
-      concat-length (a .size) (listed a) (λ m i. let j = member-index (listed a) m [] i in subst (λ (l : Map). length l ≡ a .size) (j .2) (listed-long a (accepted-wellFormed a accepted) (j .0) (j .1)))
+      concat-length (a .size) (listed a) (λ m i.
+      let j = member-index (listed a) m [] i in
+      subst (λ (l : Map). length l ≡ a .size) (j .2) (listed-long a (accepted-wellFormed a accepted) (j .0) (j .1)))
 
   listed-whole : mapList (a .size) (length (listed a)) (concat (listed a)) ≡ listed a
   listed-whole =
@@ -193,8 +195,8 @@ module _ (a : Algebra) (accepted : Accepted a) where
       subst (λ (ms : List Map). T (every (isMap n) ms)) (sym whole) (every-map (listed a) (λ i l. f .congruences i l .map)) in
       let yes : T (certified a (mapList n (length bytes / n) bytes)) = subst (λ (ms : List Map). T (certified a ms)) (sym whole) (listed-certified-yes a accepted) in
       let passed : Passed ≡ lowest (certifyTests a bytes) =
-      sym (algebra-passed a _ (sym accepted) ∙ maps-passed n bytes [] even (omega (arith, number, f .few, w .most)) (true-is _ maps) refl ∙ lowest-none) in
-      sym (certify-yes a bytes passed (true-is _ yes) refl)
+      algebra-passes a _ accepted refl (sym (maps-passed n bytes [] even (omega (arith, number, f .few, w .most)) (true-is _ maps) refl ∙ lowest-none)) in
+      sym (certify-yes a bytes passed refl (true-is _ yes) refl)
     where
       every-map : (ms : List Map) → ((i : ℕ) → i < length ms → T (isMap (a .size) (getD ms i []))) → T (every (isMap (a .size)) ms)
       every-map ms h = every-of (isMap (a .size)) ms (λ m i. let j = member-index ms m [] i in subst (λ (c : Map). T (isMap (a .size) c)) (j .2) (h (j .0) (j .1)))

@@ -24,7 +24,9 @@ use Rattle.algebra.specs.Accepted.{algebraTests}
 use Rattle.algebra.specs.Algebra.{Algebra}
 use Rattle.theory.specs.Certify.{certified}
 use Rattle.theory.specs.Decompose.{reducible}
-use Rattle.congruence.specs.Calls.{congruenceTest, mapsIn, mapsTest, generateTests, generateCall, containedTests, containedCall, separateTests, separateCall, quotientTests, quotientCall, decomposed, factorBytes, decomposeTests, decomposeCall, certifyTests, certifyCall}
+use Rattle.congruence.specs.Calls.{congruenceTest, mapsIn, mapsTest, generateTests, generateCall, containedTests, containedCall, separateTests}
+use Rattle.congruence.specs.Calls.{separateCall, quotientTests, quotientCall, decomposed, factorBytes, decomposeTests, decomposeCall}
+use Rattle.congruence.specs.Calls.{certifyTests, certifyCall}
 use Rattle.congruence.specs.Reasons.{RefusalRight, Reasons}
 use Rattle.congruence.proofs.Decomposing.{decomposed-yes, decomposed-no, factorBytes-no}
 use Rattle.congruence.specs.declared.Generated.the-variants.{Merges, Refused as GenerateRefused}

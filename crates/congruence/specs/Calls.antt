@@ -3,7 +3,7 @@ use Prim.Native.Nat.{ℕ, _-_, _/_, _%_}
 use mathlib.Core.Bool.{true, false, not, _||_}
 use mathlib.Core.List.{List, [], _∷_, _++_, map}
 use lib.Dec.{eqb, ltb}
-use lib.ListN.{length}
+use lib.ListN.{length, take}
 use Rattle.equivalence.specs.Lists.{upTo, every, concat}
 use Rattle.equivalence.specs.Lent.{stretch}
 use Rattle.equivalence.specs.Equivalence.{Map, isMap, blocks}
@@ -12,7 +12,7 @@ use Rattle.equivalence.specs.declared.Refusal.the-variants.{NotMap, NotCongruen
 use Rattle.equivalence.specs.declared.Element.{Element}
 use Rattle.equivalence.specs.declared.Written.{Written}
 use Rattle.equivalence.specs.declared.Written.the-variants.{Done, Refused as WriteRefused}
-use Rattle.algebra.specs.Algebra.{Algebra, cellCount}
+use Rattle.algebra.specs.Algebra.{Algebra, algebraOf, cellCount}
 use Rattle.algebra.specs.Accepted.{algebraTests}
 use Rattle.algebra.specs.Congruence.{isCongruence}
 use Rattle.theory.specs.Extremal.{generated, contained, separated}
@@ -82,10 +82,17 @@ quotientTests a m room = algebraTests a ++ (mapTest (a .size) m ∷ spaceTest (q
 unfoldable pub quotientCall : Algebra → Map → List ℕ → Divided × List ℕ
 quotientCall a m lent = serve DivideRefused (quotientTests a m (length lent)) (Blocks (blocks (a .size) m)) (quotientCells a m) lent
 
+-- the algebra over b elements whose tables stand at the start of a list
+abbrev pub algebraFrom : ℕ → List ℕ → List ℕ → Algebra
+algebraFrom b arities tables = algebraOf b arities (take (cellCount b arities) tables)
+
+-- 11, with the first pair common to all congruences but the identity
+abbrev pub irreducibleAnswer : Algebra → Decomposed
+irreducibleAnswer a = Irreducible (element (commonPair a .0)) (element (commonPair a .1))
+
 -- what Decompose finds of an accepted algebra: the factors, or 11 with a pair
 unfoldable pub decomposed : Algebra → Decomposed
-decomposed a =
-    elim (reducible a) [ true ↦ Factors (length (listed a)) | false ↦ Irreducible (element (commonPair a .0)) (element (commonPair a .1)) ]
+decomposed a = elim (reducible a) [ true ↦ Factors (length (listed a)) | false ↦ irreducibleAnswer a ]
 
 -- what Decompose writes: factor i from byte i × n; for 11 nothing
 unfoldable pub factorBytes : Algebra → List ℕ

@@ -5,19 +5,19 @@ use mathlib.Core.Logic.{_⊎_, _↔_}
 use mathlib.Core.List.{List, [], map}
 use mathlib.Core.List.{List·Memᴰ as Member}
 use lib.Dec.{T}
-use lib.ListN.{length, getD, take}
+use lib.ListN.{length, getD}
 use Rattle.equivalence.specs.Lists.{without}
 use Rattle.equivalence.specs.Lent.{stretch}
 use Rattle.equivalence.specs.Equivalence.{Map, isMap, holds, inside, identity, meetAll, blocks, blockOf}
 use Rattle.equivalence.specs.Order.{Pair, notLater}
 use Rattle.equivalence.specs.declared.Element.{Element}
-use Rattle.algebra.specs.Algebra.{Algebra, algebraOf, Operation, operations, arguments, value, cellCount}
+use Rattle.algebra.specs.Algebra.{Algebra, Operation, operations, arguments, value}
 use Rattle.algebra.specs.Congruence.{Congruence}
 use Rattle.theory.specs.Extremal.{holdsAll}
 use Rattle.quotient.specs.Quotient.{quotient}
 use Rattle.theory.specs.Decompose.{listed, factorSpace, commonPair}
 use Rattle.theory.specs.Splitting.{Unsplit}
-use Rattle.congruence.specs.Calls.{element, quotientSpace, quotientCall, decomposed, decomposeCall}
+use Rattle.congruence.specs.Calls.{irreducibleAnswer, quotientSpace, quotientCall, algebraFrom, decomposed, decomposeCall}
 use Rattle.congruence.specs.declared.Decomposed.the-variants.{Factors, Irreducible}
 use Rattle.congruence.specs.declared.Divided.the-variants.{Blocks}
 
@@ -76,7 +76,7 @@ pub record EarliestCongruence (a : Algebra) (v w : ℕ) (m : Map) : Type 0 where
 
 -- Decompose answers 11, with the common pair
 abbrev pub Answers11 : Algebra → Type 0
-Answers11 a = decomposed a ≡ Irreducible (element (commonPair a .0)) (element (commonPair a .1))
+Answers11 a = decomposed a ≡ irreducibleAnswer a
 
 -- every congruence but the identity holds the pair
 abbrev pub HeldByAll : Algebra → ℕ → ℕ → Type 0
@@ -111,11 +111,11 @@ pub record QuotientDraws11 (a : Algebra) (m : Map) : Type 0 where
   pub given : (tables : List ℕ) → quotientSpace a m ≤ length tables → quotientCall a m tables .0 ≡ Blocks (blocks (a .size) m)
   pub draws11 : (tables : List ℕ) → quotientSpace a m ≤ length tables
       → (b : ℕ) → quotientCall a m tables .0 ≡ Blocks b → (again : List ℕ) → factorSpace b ≤ length again
-      → (x : Element) × (y : Element) × (decomposeCall (algebraOf b (a .arities) (take (cellCount b (a .arities)) (quotientCall a m tables .1))) again .0 ≡ Irreducible x y)
+      → (x : Element) × (y : Element) × (decomposeCall (algebraFrom b (a .arities) (quotientCall a m tables .1)) again .0 ≡ Irreducible x y)
 
 -- Demand 3 over the calls: Decompose; for each factor, Quotient of the same algebra by the factor's map as listed, bytes i × n to i × n + n;
 -- and Decompose on the tables and b that this gave, with the arities as before: it answers 11; each call is lent at least what it wants
 pub record FactorCalls (a : Algebra) (lent : List ℕ) : Type 0 where
   pub answer : decomposeCall a lent .0 ≡ decomposed a
-  pub mapList : (k i : ℕ) → decomposed a ≡ Factors k → i < k → stretch (a .size) (decomposeCall a lent .1) i ≡ getD (listed a) i []
+  pub maps : (k i : ℕ) → decomposed a ≡ Factors k → i < k → stretch (a .size) (decomposeCall a lent .1) i ≡ getD (listed a) i []
   pub quotients : (k i : ℕ) → decomposeCall a lent .0 ≡ Factors k → i < k → QuotientDraws11 a (stretch (a .size) (decomposeCall a lent .1) i)

@@ -6,9 +6,9 @@ use lib.ListN.{take, drop}
 use Rattle.equivalence.specs.Calls.{meetCall, joinCall}
 use Rattle.equivalence.specs.Equivalence.{Map, blocks}
 use Rattle.equivalence.specs.declared.Written.the-variants.{Done}
-use Rattle.algebra.specs.Algebra.{Algebra, algebraOf, cellCount}
+use Rattle.algebra.specs.Algebra.{Algebra, cellCount}
 use Rattle.algebra.specs.Congruence.{Congruence}
-use Rattle.congruence.specs.Calls.{generateCall, containedCall, separateCall, quotientCall, decomposeCall, certifyCall}
+use Rattle.congruence.specs.Calls.{generateCall, containedCall, separateCall, quotientCall, algebraFrom, decomposeCall, certifyCall}
 use Rattle.congruence.specs.Demands.{LeastCongruence, GreatestCongruence, EarliestCongruence, MeetRight, JoinRight, QuotientAtMembers}
 use Rattle.congruence.specs.declared.Generated.the-variants.{Merges}
 use Rattle.congruence.specs.declared.Divided.the-variants.{Blocks}
@@ -26,7 +26,7 @@ pub record WroteMap (n : ℕ) (P : Map → Type 0) (lent out : List ℕ) : Type 
 
 -- the quotient that b and the tables in the lent bytes make, with the arities as before
 abbrev pub quotientIn : Algebra → ℕ → List ℕ → Algebra
-quotientIn a b out = algebraOf b (a .arities) (take (cellCount b (a .arities)) out)
+quotientIn a b out = algebraFrom b (a .arities) out
 
 -- what Quotient gave: the map is a congruence, and b and the tables are the quotient by it
 pub record WroteQuotient (a : Algebra) (m : Map) (b : ℕ) (lent out : List ℕ) : Type 0 where

@@ -1,7 +1,6 @@
 // The tests of each service, by rising number: the first that applies is the answer.
 ghost use mathlib.Core.Path.{_≡_};
 ghost use Prim.Native.Nat.{ℕ, _*_, _<_, _≤_};
-ghost use lib.Dec.{ltb};
 ghost use lib.ListN.{length, getD};
 ghost use Rattle.equivalence.specs.Lists.{every};
 ghost use Rattle.equivalence.specs.Equivalence.{isMap, blocks};
@@ -11,20 +10,7 @@ ghost use Rattle.congruence.specs.Calls.{generateTests, containedTests, 
 ghost use Rattle.maplist.specs.InnerMapLists.{mapList};
 use equivalence::Check;
 use equivalence::Refusal;
-
-// Whether all of s is below n.
-fn all_below(s: &[u8], n: usize) -> bool
-    ensures { λ r. ⌜ r ≡ every (λ x. ltb x n) (now (s .entry)) ⌝ }
-{
-    let mut i = 0;
-    while i < s.len() {
-        if n <= s[i] as usize {
-            return false;
-        }
-        i += 1;
-    }
-    true
-}
+use equivalence::checks::all_below;
 
 // Generate's tests.
 pub fn generate_check(n: usize, arities: &[u8], cells: &[u8], pairs: &[u8], room: usize) -> Check
@@ -37,7 +23,7 @@ pub fn generate_check(n: usize, arities: &[u8], cells: &[u8], pairs: &[u8], room
     if pairs.len() % 2 != 0 {
         return Check::Failed(Refusal::Range);
     }
-    if !all_below(pairs, n) {
+    if !all_below(n, pairs) {
         return Check::Failed(Refusal::Range);
     }
     if room < n {

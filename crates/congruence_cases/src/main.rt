@@ -6,41 +6,27 @@ use congruence::Generated;
 use equivalence::Refusal;
 use equivalence::Written;
 
-// The bytes, each after a space.
-fn print_bytes(m: &[u8]) {
-    let mut i = 0;
-    while i < m.len() {
-        io::write_all(1, b" ");
-        io::print_decimal(1, wide(m[i]));
-        i += 1;
-    }
-}
-
-fn wide(x: u8) -> u64 {
-    x as u64
-}
-
 // The call's name and the algebra.
 fn print_call(name: &[u8], n: usize, arities: &[u8], cells: &[u8]) {
     io::write_all(1, name);
     io::write_all(1, b" ");
     io::print_decimal(1, n as u64);
     io::write_all(1, b" |");
-    print_bytes(arities);
+    printing::print_bytes(arities);
     io::write_all(1, b" |");
-    print_bytes(cells);
+    printing::print_bytes(cells);
     io::write_all(1, b" |");
 }
 
 fn print_refused(reason: Refusal) {
-    io::write_all(1, b" refused ");
-    io::print_decimal(1, wide(equivalence::checks::number(reason)));
+    io::write_all(1, b" refused");
+    printing::print_bytes(&[equivalence::checks::number(reason)]);
 }
 
 // The lent bytes after the call end the line.
 fn print_lent(lent: &[u8]) {
     io::write_all(1, b" :");
-    print_bytes(lent);
+    printing::print_bytes(lent);
     io::write_all(1, b"\n");
 }
 
@@ -66,13 +52,12 @@ fn print_divided(answer: Divided) {
 }
 
 fn print_count(count: u8) {
-    io::write_all(1, b" ");
-    io::print_decimal(1, wide(count));
+    printing::print_bytes(&[count]);
 }
 
 fn generate_into(n: usize, arities: &[u8], cells: &[u8], pairs: &[u8], lent: &mut [u8]) {
     print_call(b"generate", n, arities, cells);
-    print_bytes(pairs);
+    printing::print_bytes(pairs);
     io::write_all(1, b" ->");
     print_generated(congruence::generate(n, arities, cells, pairs, lent));
     print_lent(lent);
@@ -90,7 +75,7 @@ fn generate_short(n: usize, arities: &[u8], cells: &[u8], pairs: &[u8]) {
 
 fn contained(n: usize, arities: &[u8], cells: &[u8], map: &[u8]) {
     print_call(b"contained", n, arities, cells);
-    print_bytes(map);
+    printing::print_bytes(map);
     io::write_all(1, b" ->");
     let mut lent = [9u8; 5];
     let answer = congruence::contained(n, arities, cells, map, &mut lent);
@@ -115,7 +100,7 @@ fn separate_printed(n: usize, arities: &[u8], cells: &[u8], v: usize, w: usize) 
 
 fn quotient_into(n: usize, arities: &[u8], cells: &[u8], map: &[u8], lent: &mut [u8]) {
     print_call(b"quotient", n, arities, cells);
-    print_bytes(map);
+    printing::print_bytes(map);
     io::write_all(1, b" ->");
     print_divided(congruence::quotient(n, arities, cells, map, lent));
     print_lent(lent);
@@ -145,7 +130,7 @@ fn print_word(word: &[u8]) {
 
 fn certify(n: usize, arities: &[u8], cells: &[u8], maps: &[u8]) {
     print_call(b"certify", n, arities, cells);
-    print_bytes(maps);
+    printing::print_bytes(maps);
     io::write_all(1, b" ->");
     print_certified(congruence::certify(n, arities, cells, maps));
     io::write_all(1, b"\n");

@@ -22,20 +22,20 @@ use Rattle.maplist.specs.InnerMapLists.{mapList, MapsListed}
 use Rattle.theory.proofs.CommonPair.{commonPair-one}
 use Rattle.theory.proofs.Factors.{Gathered, gathered-law, listed-law, split}
 use Rattle.maplist.proofs.MapLists.{mapList-at, mapList-concat, concat-length}
-use Rattle.decomposition.specs.InnerPruning.{chosen, ChosenMaps, Needed}
+use Rattle.decomposition.specs.InnerPruning.{chosen, ChosenMaps, NeededMaps}
 use Rattle.equivalence.specs.declared.Element.{Element}
 use Rattle.decomposition.specs.InnerGathering.{GatheredRight}
 use Rattle.decomposition.specs.declared.gather.Collected.{Collected}
 use Rattle.decomposition.specs.declared.gather.Collected.the-variants.{All, Joined}
-use Rattle.decomposition.specs.InnerFactored.{Storage, FoundIn, Writable, foundWritten, Factored}
+use Rattle.decomposition.specs.InnerFactored.{Storage, FoundIn, FoundFits, foundWritten, Factored}
 use Rattle.decomposition.specs.declared.Found.{Found}
 use Rattle.decomposition.specs.declared.Found.the-variants.{Factors, Irreducible}
 
 -- a list that was found, by what the answer is
 module _ {r : Found} {k : ℕ} (e : r ≡ Factors k) (n : ℕ) (maps needed lent : List ℕ) where
-  pub list-writable : Writable n maps r needed lent → ChosenMaps n maps k needed × (k * n ≤ length lent)
-  unfolding Writable
-  list-writable = subst (λ (z : Found). Writable n maps z needed lent) e
+  pub list-writable : FoundFits n maps r needed lent → ChosenMaps n maps k needed × (k * n ≤ length lent)
+  unfolding FoundFits
+  list-writable = subst (λ (z : Found). FoundFits n maps z needed lent) e
 
   pub list-written : {after : List ℕ} → after ≡ written (concat (chosen n maps k needed)) lent → after ≡ foundWritten n maps r needed lent
   unfolding foundWritten
@@ -90,7 +90,7 @@ module _ (a : Algebra) (accepted : Accepted a) where
         }
 
     -- the factors: those of the list that are needed
-    module _ {r : ℕ} {needed : List ℕ} (h : Needed (a .size) k bytes r needed) where
+    module _ {r : ℕ} {needed : List ℕ} (h : NeededMaps (a .size) k bytes r needed) where
       left : chosen (a .size) bytes r needed ≡ listed a
       unfolding listed
       left = h .left ∙ ap (pruned (a .size) []) mapList-all
@@ -125,7 +125,7 @@ module _ (a : Algebra) (accepted : Accepted a) where
             omega (arith, s .numbers, c .most),
           )
 
-      module _ {count : ℕ} (marks : List ℕ) (n : Needed (a .size) k after count marks) where
+      module _ {count : ℕ} (marks : List ℕ) (n : NeededMaps (a .size) k after count marks) where
         pub marked-few : count ≤ 63
         marked-few = kept-few maps (all-gathered .1) (all-gathered .2) (storage-fits .1) n
 
@@ -137,8 +137,8 @@ module _ (a : Algebra) (accepted : Accepted a) where
     joined-found e after marks g = subst (λ (z : Collected). GatheredRight a z maps after) e g
 
   -- what was found, written
-  pub writable : (r : Found) (maps needed lent : List ℕ) → FoundIn a r maps needed → factorSpace (a .size) ≤ length lent → Writable (a .size) maps r needed lent
-  unfolding FoundIn Writable
+  pub writable : (r : Found) (maps needed lent : List ℕ) → FoundIn a r maps needed → factorSpace (a .size) ≤ length lent → FoundFits (a .size) maps r needed lent
+  unfolding FoundIn FoundFits
   writable (Factors k) maps needed lent f room =
       let few : k ≤ a .size - 1 = omega (arith, f .1, listed-law a c .few) in (f .2, omega (arith, room, mul-le-mul-right (a .size) few))
   writable (Irreducible x y) maps needed lent f room = tt

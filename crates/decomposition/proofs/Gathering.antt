@@ -10,6 +10,7 @@ use native.Mathlib.Numerals.{add-one}
 use native.Mathlib.Omega.{arith}
 use lib.Dec.{T}
 use lib.ListN.{length, length-append}
+use Rattle.equivalence.proofs.Laying.{laid-from}
 use Rattle.equivalence.specs.Equivalence.{Map, byte, blocks, identity, whole, isIdentity, meet}
 use Rattle.kernel.specs.InnerKernel.{Canonical}
 use Rattle.equivalence.specs.Lists.{concat}
@@ -30,7 +31,7 @@ use Rattle.theory.specs.Extremal.{separated}
 use Rattle.decomposition.specs.InnerGathering.{AddStep, pairFound, GatheredRight}
 use Rattle.theory.proofs.CommonPair.{Common, commonPair-law, refuse-when, unsplit-when, reducible-when}
 use Rattle.theory.proofs.Factors.{added-law, split, gathered-end, gathered-step}
-use Rattle.maplist.proofs.MapLists.{Begins, begins-is, begins-refl, begins-written, begins-canonical, begins-meet, begins-isIdentity, begins-firstHeld, onwards, put-laid, laid-snoc, concat-length}
+use Rattle.maplist.proofs.MapLists.{Begins, begins-is, begins-refl, begins-written, begins-canonical, begins-meet, begins-isIdentity, begins-firstHeld, onwards, laid-snoc, concat-length}
 use Rattle.theory.proofs.Separation.{separated-law, lex-asym}
 use borrow.Rule.Slice.PartMut.{putMid}
 use Rattle.decomposition.specs.declared.gather.Collected.{Collected}
@@ -224,7 +225,7 @@ module _ {a : Algebra} (c : WellFormed a) {lent : List ℕ} {k at : ℕ} {met by
       → Collecting a lent (k + 1) (at + a .size) met′ (putMid at (length bytes - at) bytes after)
   collecting-more {stop} {met′} {after} t p e =
       let whole-bytes : putMid at (length bytes - at) bytes after ≡ laid bytes at (added a met) =
-      ap (putMid at (length bytes - at) bytes) (p .new) ∙ put-laid at bytes (added a met) (omega (arith, collecting-fits t)) in
+      ap (putMid at (length bytes - at) bytes) (p .new) ∙ laid-from at bytes (added a met) (omega (arith, collecting-fits t)) in
       let new : added a met ≡ added a (s .meet) = begins-added a (s .begins) in
       let r : k + 1 ≤ a .size - 1 = gathering-room c (s .gathering) (discrete t) in
       let i : ¬ T (isIdentity (a .size) (added a met)) = not-T-of (sym (p .identity) ∙ e) in

@@ -1,5 +1,5 @@
 -- Decompose's second loop, over a list of maps in a slice and the meets of its suffixes: which maps are needed. `Pruning` says what holds when the
--- maps below number i had their turn; laws start it, keep it and end it. What is written then is in `Writing`.
+-- maps below number i had their turn; laws start it, keep it and end it. What is written then is in `Writing.antt`.
 use Prim.Native.Nat.{ℕ, suc, _+_, _*_, _≤_, _<_}
 use mathlib.Core.Bool.{Bool, true, false}
 use mathlib.Core.List.{List, [], _∷_, _++_, map, map-append}
@@ -9,8 +9,9 @@ use native.Mathlib.Numerals.{add-one}
 use native.Mathlib.Decide.{ℕ-discrete}
 use native.Mathlib.Omega.{arith}
 use lib.Dec.{T}
-use lib.ListN.{length, getD, set, take, drop, drop-of-length-le, length-drop, length-set}
+use lib.ListN.{length, set, take, drop, drop-of-length-le, length-drop, length-set}
 use lib.Seq.{take-suc, take-set-le, getD-set-same, getD-set-other}
+use Rattle.equivalence.proofs.Laying.{rest-whole}
 use Rattle.equivalence.specs.Equivalence.{Map, byte, whole, isIdentity, meet, meetAll}
 use Rattle.kernel.specs.InnerKernel.{Canonical}
 use Rattle.equivalence.specs.Lent.{stretch, written}
@@ -19,11 +20,11 @@ use Rattle.equivalence.proofs.Meets.{meet-map, meetAll-map}
 use Rattle.equivalence.proofs.Tests.{T?, T-of, not-T-of, pick-yes, pick-no, true-is, false-is}
 use Rattle.theory.specs.Decompose.{pruned}
 use Rattle.maplist.specs.InnerMapLists.{mapList, MapsListed, SuffixMeets}
-use Rattle.decomposition.specs.InnerPruning.{inTurn, chosen, Needed}
+use Rattle.decomposition.specs.InnerPruning.{inTurn, chosen, NeededMaps}
 use Rattle.theory.proofs.Certificates.{isIdentity-meets, of-isIdentity-meets}
 use Rattle.theory.proofs.Factors.{pruned-drop, pruned-keep}
 use Rattle.maplist.proofs.MapLists.{Begins, begins-sym, begins-is, begins-take, begins-written, begins-canonical, begins-meet}
-use Rattle.maplist.proofs.MapLists.{meetAll-append, meetAll-snoc, mapList-length, mapList-at, mapList-from, listed-map, listed-room, listed-begins, onwards, part-rest}
+use Rattle.maplist.proofs.MapLists.{meetAll-append, meetAll-snoc, mapList-length, mapList-from, listed-map, listed-room, listed-begins, onwards}
 
 -- ---- one turn
 
@@ -95,7 +96,7 @@ pruning-start {n} met p s b r e =
 
 module _ {n k : ℕ} {maps suffixes : List ℕ} {kept i at : ℕ} {met needed : List ℕ} (p : Pruning n k maps suffixes kept i at met needed) where
   -- when all had their turn, those chosen are what `pruned` leaves
-  pub pruning-all : k ≤ i → Needed n k maps kept needed
+  pub pruning-all : k ≤ i → NeededMaps n k maps kept needed
   unfolding pruned
   pruning-all h =
       let none : drop i (mapList n k maps) ≡ [] = drop-of-length-le (mapList n k maps) {i = i} (omega (arith, mapList-length n k maps)) in
@@ -116,12 +117,12 @@ module _ {n k : ℕ} {maps suffixes : List ℕ} {kept i at : ℕ} {met needed : 
 
     -- the map in its turn, and the meet of those behind it
     this : Begins n (onwards at maps) (stretch n maps i)
-    this = rw (part-rest at maps, p .place) (listed-begins (p .listed) i)
+    this = rw (rest-whole at maps, p .place) (listed-begins (p .listed) i)
 
     after : Begins n (onwards (at + n) suffixes) (meetAll n (drop (suc i) (mapList n k maps)))
     unfolding stretch
     after =
-        rw (part-rest (at + n) suffixes, next)
+        rw (rest-whole (at + n) suffixes, next)
         (begins-is (begins-sym (begins-take (drop (suc i * n) suffixes))) (p .ends (suc i) (omega (arith, mapList-length n k maps))))
 
     pub pruning-part : (at + n ≤ length maps) × (at + n + n ≤ length suffixes) × (kept < length needed) × (kept ≤ i) × (i < 64)
@@ -135,8 +136,8 @@ module _ {n k : ℕ} {maps suffixes : List ℕ} {kept i at : ℕ} {met needed : 
 
     pub pruning-fit : (n ≤ length (onwards at maps)) × (n ≤ length (onwards (at + n) suffixes))
     pruning-fit = (
-      rw (part-rest at maps, length-drop at maps) (omega (arith, pruning-part)),
-      rw (part-rest (at + n) suffixes, length-drop (at + n) suffixes) (omega (arith, pruning-part)),
+      rw (rest-whole at maps, length-drop at maps) (omega (arith, pruning-part)),
+      rw (rest-whole (at + n) suffixes, length-drop (at + n) suffixes) (omega (arith, pruning-part)),
     )
 
     pub pruning-canonical : Canonical n (byte (onwards at maps)) × Canonical n (byte (onwards (at + n) suffixes)) × Canonical n (byte met)

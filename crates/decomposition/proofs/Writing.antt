@@ -1,6 +1,6 @@
--- The maps that are needed, written one after the other: what holds when those below number i stand in the lent list (`Writing`), and the laws that start it, keep
+-- The maps that are needed, written one after the other: what holds when those below number i stand in the lent list (`NeededWritten`), and the laws that start it, keep
 -- it and end it.
-use Prim.Native.Nat.{ℕ, suc, _+_, _-_, _*_, _≤_, _<_}
+use Prim.Native.Nat.{ℕ, _+_, _-_, _*_, _≤_, _<_}
 use mathlib.Core.List.{List, [], _∷_, _++_, map, map-append, append-nil}
 use mathlib.Core.Path.{_≡_, refl, sym, ap, _∙_}
 use native.Mathlib.Nat.{suc-mul, mul-le-mul-right}
@@ -8,6 +8,7 @@ use native.Mathlib.Numerals.{add-one}
 use native.Mathlib.Omega.{arith}
 use lib.ListN.{length, take, length-append, length-drop}
 use lib.Seq.{take-suc}
+use Rattle.equivalence.proofs.Laying.{rest-whole}
 use Rattle.equivalence.specs.Equivalence.{Map, byte}
 use Rattle.kernel.specs.InnerKernel.{Filled}
 use Rattle.equivalence.specs.Lists.{concat}
@@ -16,10 +17,10 @@ use Rattle.equivalence.proofs.Maps.{IsMap, of-isMap}
 use Rattle.equivalence.proofs.Stretches.{concat-append}
 use Rattle.equivalence.proofs.Writing.{written-length}
 use Rattle.decomposition.specs.InnerPruning.{chosen, ChosenMaps}
-use Rattle.maplist.proofs.MapLists.{Begins, begins-sym, begins-take, onwards, part-rest, laid-snoc, copied-laid}
+use Rattle.maplist.proofs.MapLists.{Begins, begins-sym, begins-take, onwards, laid-snoc, copied-laid}
 use borrow.Rule.Slice.PartMut.{midOf, putMid}
 
-pub record Writing (n : ℕ) (maps : List ℕ) (k : ℕ) (needed lent : List ℕ) (i at : ℕ) (out : List ℕ) : Type 0 where
+pub record NeededWritten (n : ℕ) (maps : List ℕ) (k : ℕ) (needed lent : List ℕ) (i at : ℕ) (out : List ℕ) : Type 0 where
   pub numbers : ChosenMaps n maps k needed
   pub room : k * n ≤ length lent
   pub upto : i ≤ k
@@ -27,12 +28,12 @@ pub record Writing (n : ℕ) (maps : List ℕ) (k : ℕ) (needed lent : List ℕ
   pub total : length (concat (chosen n maps i needed)) ≡ i * n
   pub bytes : out ≡ written (concat (chosen n maps i needed)) lent
 
-pub writing-none : {n : ℕ} {maps : List ℕ} {k : ℕ} {needed lent : List ℕ} → ChosenMaps n maps k needed → k * n ≤ length lent → Writing n maps k needed lent 0 0 lent
+pub writing-none : {n : ℕ} {maps : List ℕ} {k : ℕ} {needed lent : List ℕ} → ChosenMaps n maps k needed → k * n ≤ length lent → NeededWritten n maps k needed lent 0 0 lent
 unfolding concat written
 writing-none c r =
     record { numbers = c; room = r; upto = omega arith; place = omega arith; total = omega arith; bytes = refl }
 
-module _ {n : ℕ} {maps : List ℕ} {k : ℕ} {needed lent : List ℕ} {i at : ℕ} {out : List ℕ} (w : Writing n maps k needed lent i at out) where
+module _ {n : ℕ} {maps : List ℕ} {k : ℕ} {needed lent : List ℕ} {i at : ℕ} {out : List ℕ} (w : NeededWritten n maps k needed lent i at out) where
   fits : i * n ≤ length lent
   fits = omega (arith, w .room, mul-le-mul-right n (w .upto))
 
@@ -56,8 +57,8 @@ module _ {n : ℕ} {maps : List ℕ} {k : ℕ} {needed lent : List ℕ} {i at : 
 
     pub writing-fit : (n ≤ length (onwards (byte needed i * n) maps)) × (n ≤ length (midOf at (length out - at) out))
     writing-fit = (
-      rw (part-rest (byte needed i * n) maps, length-drop (byte needed i * n) maps) (omega (arith, writing-part)),
-      rw (part-rest at out, length-drop at out) (omega (arith, writing-part)),
+      rw (rest-whole (byte needed i * n) maps, length-drop (byte needed i * n) maps) (omega (arith, writing-part)),
+      rw (rest-whole at out, length-drop at out) (omega (arith, writing-part)),
     )
 
     more : chosen n maps (i + 1) needed ≡ chosen n maps i needed ++ (stretch n maps (byte needed i) ∷ [])
@@ -67,11 +68,11 @@ module _ {n : ℕ} {maps : List ℕ} {k : ℕ} {needed lent : List ℕ} {i at : 
 
     pub writing-more : (part : List ℕ) → length part ≡ length (midOf at (length out - at) out)
         → Filled n (byte (onwards (byte needed i * n) maps)) (byte (midOf at (length out - at) out)) (byte part)
-        → Writing n maps k needed lent (i + 1) (at + n) (putMid at (length out - at) out part)
+        → NeededWritten n maps k needed lent (i + 1) (at + n) (putMid at (length out - at) out part)
     unfolding concat stretch
     writing-more part same copied =
         let m : Map = stretch n maps (byte needed i) in
-        let front : Begins n (onwards (byte needed i * n) maps) m = rw part-rest (begins-sym (begins-take _)) in
+        let front : Begins n (onwards (byte needed i * n) maps) m = rw rest-whole (begins-sym (begins-take _)) in
         let old : at ≡ length (concat (chosen n maps i needed)) = w .place ∙ sym (w .total) in
         record {
           numbers = w .numbers;

@@ -26,9 +26,9 @@ FoundIn a (Factors k) maps needed =
 FoundIn a (Irreducible x y) maps needed = (¬ T (reducible a)) × (commonPair a ≡ (x .0, y .0))
 
 -- what was found can be written: a list stands in the storage, and so many bytes are lent
-unfoldable pub Writable : ℕ → List ℕ → Found → List ℕ → List ℕ → Type 0
-Writable n maps (Factors k) needed lent = ChosenMaps n maps k needed × (k * n ≤ length lent)
-Writable n maps (Irreducible x y) needed lent = Unit {0}
+unfoldable pub FoundFits : ℕ → List ℕ → Found → List ℕ → List ℕ → Type 0
+FoundFits n maps (Factors k) needed lent = ChosenMaps n maps k needed × (k * n ≤ length lent)
+FoundFits n maps (Irreducible x y) needed lent = Unit {0}
 
 -- the lent bytes with the list at their start, where a list was found
 unfoldable pub foundWritten : ℕ → List ℕ → Found → List ℕ → List ℕ → List ℕ

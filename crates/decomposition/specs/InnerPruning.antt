@@ -27,6 +27,6 @@ pub record ChosenMaps (n : ℕ) (maps : List ℕ) (k : ℕ) (places : List ℕ) 
   pub each : (j : ℕ) → j < k → T (isMap n (stretch n maps (byte places j)))
 
 -- they are the numbers of the maps that are left of the list of so many maps
-pub record Needed (n count : ℕ) (maps : List ℕ) (k : ℕ) (places : List ℕ) : Type 0 where
+pub record NeededMaps (n count : ℕ) (maps : List ℕ) (k : ℕ) (places : List ℕ) : Type 0 where
   pub numbers : ChosenMaps n maps k places
   pub left : chosen n maps k places ≡ pruned n [] (mapList n count maps)

@@ -6,7 +6,7 @@ ghost use lib.ListN.{length};
 ghost use Rattle.algebra.specs.Algebra.{algebraIn};
 ghost use Rattle.algebra.specs.Accepted.{Accepted};
 ghost use Rattle.theory.specs.Decompose.{factorSpace};
-ghost use Rattle.decomposition.specs.InnerFactored.{Storage, FoundIn, Writable, foundWritten, Factored};
+ghost use Rattle.decomposition.specs.InnerFactored.{Storage, FoundIn, FoundFits, foundWritten, Factored};
 use crate::gather::Collected;
 use crate::gather::gather;
 use crate::prune::mark_needed;
@@ -51,7 +51,7 @@ fn find(
 
 // Writes what was found, where it is a list.
 fn write_found(n: usize, maps: &[u8], found: Found, needed: &[u8], out: &mut [u8])
-    requires { ⌜ Writable n (now maps) found (now needed) (now out) ⌝ }
+    requires { ⌜ FoundFits n (now maps) found (now needed) (now out) ⌝ }
     ensures { λ _. ⌜ now (out .exit) ≡ foundWritten n (now (maps .entry)) found (now (needed .entry)) (now (out .entry)) ⌝ }
 {
     if let Found::Factors(kept) = found {

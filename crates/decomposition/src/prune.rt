@@ -6,7 +6,7 @@ ghost use lib.ListN.{length};
 ghost use Rattle.equivalence.specs.Equivalence.{byte};
 ghost use Rattle.kernel.specs.InnerKernel.{Canonical};
 ghost use Rattle.maplist.specs.InnerMapLists.{mapList, MapsListed, SuffixMeets};
-ghost use Rattle.decomposition.specs.InnerPruning.{inTurn, Needed};
+ghost use Rattle.decomposition.specs.InnerPruning.{inTurn, NeededMaps};
 use maplist::meet_with;
 use maplist::meets_in_identity;
 use maplist::suffix_meets;
@@ -45,7 +45,7 @@ fn mark_in_turn(
     requires { ⌜ count * n + n ≤ length (now suffixes) ⌝ }
     requires { ⌜ n ≤ length (now met) ⌝ }
     requires { ⌜ count ≤ length (now needed) ⌝ }
-    ensures { λ r. ⌜ Needed n count (now (maps .entry)) r (now (needed .exit)) ⌝ }
+    ensures { λ r. ⌜ NeededMaps n count (now (maps .entry)) r (now (needed .exit)) ⌝ }
 {
     whole_into(met, n);
     let mut kept = 0;
@@ -76,7 +76,7 @@ pub fn mark_needed(
     requires { ⌜ count * n + n ≤ length (now suffixes) ⌝ }
     requires { ⌜ n ≤ length (now met) ⌝ }
     requires { ⌜ count ≤ length (now needed) ⌝ }
-    ensures { λ r. ⌜ Needed n count (now (maps .entry)) r (now (needed .exit)) ⌝ }
+    ensures { λ r. ⌜ NeededMaps n count (now (maps .entry)) r (now (needed .exit)) ⌝ }
 {
     suffix_meets(n, count, maps, met, suffixes);
     mark_in_turn(n, count, maps, suffixes, met, needed)

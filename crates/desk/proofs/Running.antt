@@ -19,7 +19,7 @@ use Rattle.desk.specs.Writing.{Next}
 use Rattle.desk.specs.InnerRoom.{Enough}
 
 -- a run over the text of which `written` bytes are written out
-pub record Running (text : List ℕ) (s : Standing) (arities room out : List ℕ) (written : ℕ) : Type 0 where
+pub record RunWritten (text : List ℕ) (s : Standing) (arities room out : List ℕ) (written : ℕ) : Type 0 where
   pub sound : Sound text s
   pub enough : Enough text arities room out
   pub within : written ≤ length (transcript text)
@@ -31,12 +31,12 @@ drop-part : (whole part rest : List ℕ) (written : ℕ) → drop written whole 
 drop-part whole part rest written e = sym (drop-drop (length part) written whole) ∙ rw e (drop-append-seam part rest)
 
 -- it begins with nothing written
-pub running-begins : (text arities room out : List ℕ) (s : Standing) → s ≡ unread true → Enough text arities room out → Running text s arities room out 0
+pub run-written-begins : (text arities room out : List ℕ) (s : Standing) → s ≡ unread true → Enough text arities room out → RunWritten text s arities room out 0
 unfolding remaining transcript due
-running-begins text arities room out s e w = rw e (record { sound = omega arith; enough = w; within = omega arith; rest = refl; bounded = omega arith })
+run-written-begins text arities room out s e w = rw e (record { sound = omega arith; enough = w; within = omega arith; rest = refl; bounded = omega arith })
 
 -- a fill of a run that goes on
-module _ (text : List ℕ) (s : Standing) (arities room out : List ℕ) (written : ℕ) (w : Running text s arities room out written) (g : s .goes ≡ true)
+module _ (text : List ℕ) (s : Standing) (arities room out : List ℕ) (written : ℕ) (w : RunWritten text s arities room out written) (g : s .goes ≡ true)
     (arities′ room′ out′ : List ℕ) (r : Stepped) (f : FillPromise text s arities room out arities′ room′ out′ r) where
   filling : Filling text s arities room out arities′ room′ out′ r
   filling =
@@ -74,9 +74,9 @@ module _ (text : List ℕ) (s : Standing) (arities room out : List ℕ) (written
   count-fits = omega (arith, ap length part-laid, few, w .bounded, w .enough .most, fill-nearer)
 
   -- and the loop goes on from there
-  pub running-on : length arities′ ≡ length arities → length room′ ≡ length room → (n : ℕ) → n ≡ written + length (take (r .wrote - 0) (drop 0 out′))
-      → Running text (r .standing) arities′ room′ out′ n
-  running-on ea er n en =
+  pub run-written-on : length arities′ ≡ length arities → length room′ ≡ length room → (n : ℕ) → n ≡ written + length (take (r .wrote - 0) (drop 0 out′))
+      → RunWritten text (r .standing) arities′ room′ out′ n
+  run-written-on ea er n en =
       let e : n ≡ written + length (filling .bytes) = en ∙ ap (λ (x : List ℕ). written + length x) part-laid in
       let t : length (transcript text) - written ≡ length (filling .bytes) + length (remaining text (positionOf (r .standing) arities′ room′)) =
       sym (length-drop written (transcript text)) ∙ ap length to-come ∙ length-append (filling .bytes) (remaining text (positionOf (r .standing) arities′ room′)) in
@@ -95,8 +95,8 @@ module _ (text : List ℕ) (s : Standing) (arities room out : List ℕ) (written
       }
 
 -- where the run is over, all is written
-pub running-ends : (text : List ℕ) (s : Standing) (arities room out : List ℕ) (written : ℕ) → Running text s arities room out written → s .goes ≡ false
+pub run-written-ends : (text : List ℕ) (s : Standing) (arities room out : List ℕ) (written : ℕ) → RunWritten text s arities room out written → s .goes ≡ false
     → written ≡ length (transcript text)
 unfolding remaining due output
-running-ends text s arities room out written w g =
+run-written-ends text s arities room out written w g =
     let e : drop written (transcript text) ≡ [] = w .rest ∙ rw g in omega (arith, w .within, sym (length-drop written (transcript text)) ∙ ap length e)

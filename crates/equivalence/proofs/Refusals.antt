@@ -93,11 +93,11 @@ of-sizeTest n t = (
 )
 
 -- a size that a flag passes
-pub sized : (n : ℕ) {r : Bool} → r ≡ not (sizeTest n .applies) → not r ≡ false → (1 ≤ n) × (n ≤ 64)
-sized n {r} e f = of-sizeTest n (not-T-of (not-true (sizeTest n .applies) (sym e ∙ not-false r f)))
+pub sized-bounds : (n : ℕ) {r : Bool} → r ≡ not (sizeTest n .applies) → not r ≡ false → (1 ≤ n) × (n ≤ 64)
+sized-bounds n {r} e f = of-sizeTest n (not-T-of (not-true (sizeTest n .applies) (sym e ∙ not-false r f)))
 
 pub sized-most : (n : ℕ) {r : Bool} → r ≡ not (sizeTest n .applies) → not r ≡ false → n ≤ 64
-sized-most n e f = sized n e f .1
+sized-most n e f = sized-bounds n e f .1
 
 pub sizeTest-of : (n : ℕ) → 1 ≤ n → n ≤ 64 → ¬ T (sizeTest n .applies)
 unfolding sizeTest

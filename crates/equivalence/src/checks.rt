@@ -26,7 +26,7 @@ pub fn is_size(n: usize) -> bool
 }
 
 // Whether every byte is below n.
-pub fn all_below(bytes: &[u8], n: usize) -> bool
+pub fn all_below(n: usize, bytes: &[u8]) -> bool
     ensures { λ r. ⌜ r ≡ every (λ c. ltb c n) (now (bytes .entry)) ⌝ }
 {
     let mut i = 0;

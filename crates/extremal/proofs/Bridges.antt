@@ -8,20 +8,23 @@ use native.Mathlib.Omega.{arith}
 use lib.Dec.{T}
 use lib.ListN.{length, take}
 use lib.Seq.{getD-take, length-take-le}
-use Rattle.equivalence.specs.Equivalence.{Map, byte, holds, blocks}
+use mir.Syntax.{w8}
+use mir.Val.{Fits}
+use Rattle.equivalence.specs.Equivalence.{Map, byte, isMap, holds, blocks}
 use Rattle.kernel.specs.InnerKernel.{Canonical, Within, Filled, names}
 use Rattle.equivalence.specs.Order.{Pair, pairs}
 use Rattle.equivalence.specs.Lent.{written}
-use Rattle.equivalence.proofs.Bytes.{names-blocks}
+use Rattle.equivalence.proofs.Bytes.{names-blocks, canonical-of}
 use Rattle.equivalence.proofs.Earlier.{notLater-by}
 use Rattle.kernel.proofs.Kernels.{names-same}
-use Rattle.equivalence.proofs.Maps.{holds-of, of-holds, IsMap}
+use Rattle.equivalence.proofs.Maps.{holds-of, of-holds, IsMap, of-isMap}
 use Rattle.equivalence.proofs.Pairs.{member-pairs, of-pairs, Sorted, Lex, sorted-pairs}
 use Rattle.equivalence.proofs.Tests.{both, left, right}
 use Rattle.equivalence.proofs.Writing.{filled-written}
-use Rattle.algebra.specs.Algebra.{Algebra}
+use Rattle.algebra.specs.Accepted.{Accepted}
+use Rattle.algebra.specs.Algebra.{Algebra, algebraOf}
 use Rattle.translation.specs.InnerTranslations.{Compatible, Closed, Refined}
-use Rattle.algebra.proofs.Accepted.{WellFormed}
+use Rattle.algebra.proofs.Accepted.{WellFormed, accepted-wellFormed}
 use Rattle.algebra.proofs.Congruences.{IsCongruence}
 use Rattle.translation.proofs.Translations.{congruence-compatible, compatible-congruence}
 use Rattle.theory.specs.Extremal.{holdsAll, generated, extended, contained, separated}
@@ -185,41 +188,61 @@ module _ (a : Algebra) (c : WellFormed a) (l : List ℕ) (fits : a .size ≤ len
             ∙ front-same y ly;
       })
 
--- ---- the slice afterwards
+-- ---- the slice afterwards, and the blocks lost; for an algebra as it is handed in
 
-module _ (a : Algebra) (c : WellFormed a) (lent after : List ℕ) (fits : a .size ≤ length lent) (long : length after ≡ length lent) where
-  -- a map that the first n bytes are
-  pub map-written : (m : Map) → m ≡ take (a .size) after → ((x : ℕ) → a .size ≤ x → byte after x ≡ byte lent x) → after ≡ written m lent
-  map-written m e rest = front-written (a .size) lent after fits long rest ∙ ap (λ (k : Map). written k lent) (sym e)
+-- the bytes past n are as they were
+abbrev KeptPast : ℕ → List ℕ → List ℕ → Type 0
+KeptPast n lent after = (x : ℕ) → n ≤ x → byte after x ≡ byte lent x
 
-  pub generated-written : (ps : List ℕ) → Below (a .size) ps → Closed a (JoinsPairs ps) (byte after) → ((x : ℕ) → a .size ≤ x → byte after x ≡ byte lent x)
-      → after ≡ written (generated a ps) lent
-  generated-written ps b h = map-written (generated a ps) (closed-generated a c after (omega arith) ps b h)
+module _ (n : ℕ) (arities cells : List ℕ) (accepted : Accepted (algebraOf n arities cells)) where
+  abbrev a : Algebra
+  a = algebraOf n arities cells
 
-  pub extended-written : (x y : ℕ) → x < a .size → y < a .size → Closed a (Extends (a .size) (byte lent) x y) (byte after) → ((z : ℕ) → a .size ≤ z → byte after z ≡ byte lent z)
-      → after ≡ written (extended a (take (a .size) lent) x y) lent
-  extended-written x y lx ly h = map-written (extended a (take (a .size) lent) x y) (closed-extended a c after (omega arith) lent x y lx ly h)
+  well : WellFormed a
+  well = accepted-wellFormed a accepted
 
-  pub contained-written : (e : Map) → IsMap (a .size) e → (copied : List ℕ) → Filled (a .size) (byte e) (byte lent) (byte copied) → Refined a (byte copied) (byte after)
-      → ((x : ℕ) → a .size ≤ x → byte after x ≡ byte copied x) → after ≡ written (contained a e) lent
-  contained-written e p copied k h rest =
-      map-written (contained a e) (refined-contained a c after (omega arith) e p (byte copied) (k .first) h) (λ x l. rest x l ∙ k .rest x l)
+  pub merges-few : {merges : ℕ} (after : List ℕ) → merges + names n (byte after) ≡ n → Fits w8 merges
+  merges-few after e = omega (arith, well .most)
 
-  pub separated-written : (v w : ℕ) → v < a .size → w < a .size → Earliest a v w (byte after) → ((x : ℕ) → a .size ≤ x → byte after x ≡ byte lent x)
-      → after ≡ written (separated a v w) lent
-  separated-written v w lv lw h = map-written (separated a v w) (earliest-front a c after (omega arith) v w lv lw h)
+  module _ (lent after : List ℕ) (fits : n ≤ length lent) (long : length after ≡ length lent) where
+    -- a map that the first n bytes are
+    map-written : (m : Map) → m ≡ take n after → KeptPast n lent after → after ≡ written m lent
+    map-written m e rest = front-written n lent after fits long rest ∙ ap (λ (k : Map). written k lent) (sym e)
 
--- ---- the blocks lost
+    module _ (ps : List ℕ) (b : Below n ps) (h : Closed a (JoinsPairs ps) (byte after)) where
+      generated-front : generated a ps ≡ take n after
+      generated-front = closed-generated a well after (omega arith) ps b h
 
--- merges and blocks left make n
-pub generated-merges : (a : Algebra) → WellFormed a → (after : List ℕ) → a .size ≤ length after → (ps : List ℕ) → Below (a .size) ps → Closed a (JoinsPairs ps) (byte after)
-    → (merges : ℕ) → merges + names (a .size) (byte after) ≡ a .size → merges ≡ a .size - blocks (a .size) (generated a ps)
-generated-merges a c after fits ps b h merges e =
-    rw (closed-generated a c after fits ps b h) (omega (arith, front-blocks (a .size) after))
+      pub generated-written : KeptPast n lent after → after ≡ written (generated a ps) lent
+      generated-written = map-written (generated a ps) generated-front
 
--- blocks lost and blocks left make the blocks there were
-pub extended-lost : (a : Algebra) → WellFormed a → (before after : List ℕ) → a .size ≤ length after → (x y : ℕ) → x < a .size → y < a .size
-    → Closed a (Extends (a .size) (byte before) x y) (byte after) → (lost : ℕ) → lost + names (a .size) (byte after) ≡ names (a .size) (byte before)
-    → lost + blocks (a .size) (extended a (take (a .size) before) x y) ≡ blocks (a .size) (take (a .size) before)
-extended-lost a c before after fits x y lx ly h lost e =
-    rw (closed-extended a c after fits before x y lx ly h) (omega (arith, front-blocks (a .size) before, front-blocks (a .size) after))
+      -- merges and blocks left make n
+      pub generated-merges : {merges : ℕ} → merges + names n (byte after) ≡ n → merges ≡ n - blocks n (generated a ps)
+      generated-merges e = rw generated-front (omega (arith, front-blocks n after))
+
+    module _ (x y : ℕ) (lx : x < n) (ly : y < n) (h : Closed a (Extends n (byte lent) x y) (byte after)) where
+      extended-front : extended a (take n lent) x y ≡ take n after
+      extended-front = closed-extended a well after (omega arith) lent x y lx ly h
+
+      pub extended-written : KeptPast n lent after → after ≡ written (extended a (take n lent) x y) lent
+      extended-written = map-written (extended a (take n lent) x y) extended-front
+
+      -- blocks lost and blocks left make the blocks there were
+      pub extended-lost : (lost : ℕ) → lost + names n (byte after) ≡ names n (byte lent)
+          → lost + blocks n (extended a (take n lent) x y) ≡ blocks n (take n lent)
+      extended-lost lost e = rw extended-front (omega (arith, front-blocks n lent, front-blocks n after))
+
+    pub contained-written : (e : Map) → T (isMap n e) → {copied : ℕ → ℕ} → Filled n (byte e) (byte lent) copied → Refined a copied (byte after)
+        → ((x : ℕ) → n ≤ x → byte after x ≡ copied x) → after ≡ written (contained a e) lent
+    contained-written e t {copied} k h rest =
+        map-written (contained a e) (refined-contained a well after (omega arith) e (of-isMap n e t) copied (k .first) h) (λ x l. rest x l ∙ k .rest x l)
+
+    pub separated-written : (v w : ℕ) → v < n → w < n → Earliest a v w (byte after) → KeptPast n lent after → after ≡ written (separated a v w) lent
+    separated-written v w lv lw h = map-written (separated a v w) (earliest-front a well after (omega arith) v w lv lw h)
+
+-- a copied map is canonical
+pub copied-canonical : (n : ℕ) (e : Map) {old f : ℕ → ℕ} → T (isMap n e) → Filled n (byte e) old f → Canonical n f
+copied-canonical n e {old} {f} t k = canonical-same n (byte e) f (k .first) (canonical-of n e (of-isMap n e t))
+
+pub map-long : (n : ℕ) (e : Map) → T (isMap n e) → n ≤ length e
+map-long n e t = omega (arith, of-isMap n e t .long)

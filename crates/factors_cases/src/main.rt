@@ -3,49 +3,31 @@
 use congruence::Decomposed;
 use equivalence::Refusal;
 
-// The bytes, each after a space.
-fn print_bytes(m: &[u8]) {
-    let mut i = 0;
-    while i < m.len() {
-        io::write_all(1, b" ");
-        io::print_decimal(1, wide(m[i]));
-        i += 1;
-    }
-}
-
-fn wide(x: u8) -> u64 {
-    x as u64
-}
-
 // The call's name and the algebra.
 fn print_call(name: &[u8], n: usize, arities: &[u8], cells: &[u8]) {
     io::write_all(1, name);
     io::write_all(1, b" ");
     io::print_decimal(1, n as u64);
     io::write_all(1, b" |");
-    print_bytes(arities);
+    printing::print_bytes(arities);
     io::write_all(1, b" |");
-    print_bytes(cells);
+    printing::print_bytes(cells);
     io::write_all(1, b" | ->");
-}
-
-fn print_count(count: u8) {
-    io::write_all(1, b" ");
-    io::print_decimal(1, wide(count));
 }
 
 fn print_refused(reason: Refusal) {
     io::write_all(1, b" refused");
-    print_count(equivalence::checks::number(reason));
+    printing::print_bytes(&[equivalence::checks::number(reason)]);
 }
 
 fn print_decomposed(answer: Decomposed) {
     match answer {
-        Decomposed::Factors(count) => print_count(count),
+        Decomposed::Factors(count) => {
+            printing::print_bytes(&[count]);
+        }
         Decomposed::Irreducible(x, y) => {
-            io::write_all(1, b" refused 11");
-            print_count(x.0);
-            print_count(y.0);
+            io::write_all(1, b" refused");
+            printing::print_bytes(&[11, x.0, y.0]);
         }
         Decomposed::Refused(reason) => print_refused(reason),
     }
@@ -55,7 +37,7 @@ fn decompose_into(n: usize, arities: &[u8], cells: &[u8], lent: &mut [u8]) {
     print_call(b"decompose", n, arities, cells);
     print_decomposed(congruence::decompose(n, arities, cells, lent));
     io::write_all(1, b" :");
-    print_bytes(lent);
+    printing::print_bytes(lent);
     io::write_all(1, b"\n");
 }
 
@@ -79,11 +61,11 @@ fn decompose_short(n: usize, arities: &[u8], cells: &[u8]) {
 // The three lent slices end the line.
 fn print_lent(list: &[u8], tables: &[u8], again: &[u8]) {
     io::write_all(1, b" :");
-    print_bytes(list);
+    printing::print_bytes(list);
     io::write_all(1, b" |");
-    print_bytes(tables);
+    printing::print_bytes(tables);
     io::write_all(1, b" |");
-    print_bytes(again);
+    printing::print_bytes(again);
     io::write_all(1, b"\n");
 }
 
@@ -96,11 +78,11 @@ fn claim_into(
     again: &mut [u8],
 ) {
     print_call(b"claim", n, arities, cells);
-    let drawn = claim::factors_draw_eleven(n, arities, cells, list, tables, again);
-    let first = drawn.first;
+    let made = claim::decompose_factors(n, arities, cells, list, tables, again);
+    let first = made.first;
     print_decomposed(first);
     io::write_all(1, b" drew ");
-    io::print_decimal(1, drawn.elevens as u64);
+    io::print_decimal(1, made.irreducible as u64);
     print_lent(list, tables, again);
 }
 

@@ -3,40 +3,26 @@
 use equivalence::Place;
 use equivalence::Written;
 
-// The bytes, each after a space.
-fn print_bytes(m: &[u8]) {
-    let mut i = 0;
-    while i < m.len() {
-        io::write_all(1, b" ");
-        io::print_decimal(1, wide(m[i]));
-        i += 1;
-    }
-}
-
-fn wide(x: u8) -> u64 {
-    x as u64
-}
-
 // The call's name and what it is handed.
 fn print_call(name: &[u8], n: usize, a: &[u8], b: &[u8]) {
     io::write_all(1, name);
     io::write_all(1, b" ");
     io::print_decimal(1, n as u64);
     io::write_all(1, b" |");
-    print_bytes(a);
+    printing::print_bytes(a);
     io::write_all(1, b" |");
-    print_bytes(b);
+    printing::print_bytes(b);
     io::write_all(1, b" ->");
 }
 
 // The answer and the lent bytes.
 fn print_written(answer: Written, lent: &[u8]) {
     if let Written::Refused(reason) = answer {
-        io::write_all(1, b" refused ");
-        io::print_decimal(1, wide(equivalence::checks::number(reason)));
+        io::write_all(1, b" refused");
+        printing::print_bytes(&[equivalence::checks::number(reason)]);
     }
     io::write_all(1, b" :");
-    print_bytes(lent);
+    printing::print_bytes(lent);
     io::write_all(1, b"\n");
 }
 
@@ -70,15 +56,13 @@ fn both_short(n: usize, a: &[u8], b: &[u8]) {
 
 fn prefer<'a>(n: usize, a: &'a [u8], b: &'a [u8]) {
     print_call(b"prefer", n, a, b);
-    print_bytes(equivalence::prefer(n, a, b));
+    printing::print_bytes(equivalence::prefer(n, a, b));
     io::write_all(1, b"\n");
 }
 
 fn place(x: u8, y: u8) {
-    io::write_all(1, b"place ");
-    io::print_decimal(1, wide(x));
-    io::write_all(1, b" ");
-    io::print_decimal(1, wide(y));
+    io::write_all(1, b"place");
+    printing::print_bytes(&[x, y]);
     io::write_all(1, b" -> ");
     let answer = equivalence::pair_place(x, y);
     if let Place::At(k) = answer {

@@ -8,8 +8,8 @@ use mathlib.Core.Logic.{inl, inr}
 use mathlib.Core.Path.{_≡_, refl, sym, ap, subst, _∙_}
 use native.Mathlib.Nat.{suc-mul, mul-le-mul-right}
 use native.Mathlib.Omega.{arith}
-use lib.ListN.{length, getD, take, drop, length-map, length-append, List·getD-append, drop-of-length-le, length-drop}
-use lib.Seq.{getD-take, ext-getD, take-all, length-take-le, drop-drop, take-at, drop-at, drop-cons}
+use lib.ListN.{length, getD, take, drop, length-map, length-append, List·getD-append, length-drop}
+use lib.Seq.{getD-take, ext-getD, length-take-le, drop-drop, take-at, drop-at, drop-cons}
 use Rattle.equivalence.specs.Equivalence.{Map, byte, holds, whole, same, isIdentity, meet, meetAll}
 use Rattle.kernel.specs.InnerKernel.{Canonical, Filled}
 use Rattle.equivalence.specs.Lists.{upTo, first, concat}
@@ -23,7 +23,7 @@ use Rattle.equivalence.proofs.Stretches.{concat-append, stretch-concat}
 use Rattle.equivalence.proofs.Tests.{T?, true-is, false-is}
 use Rattle.equivalence.proofs.Writing.{filled-written}
 use Rattle.maplist.specs.InnerMapLists.{mapList, MapsListed}
-use Rattle.equivalence.proofs.Laying.{laid-laid}
+use Rattle.equivalence.proofs.Laying.{laid-laid, rest-whole, laid-from}
 use borrow.Rule.Slice.PartMut.{putMid, midOf}
 
 -- ---- slices that begin with the same n bytes: a map, and a slice that begins with it
@@ -166,23 +166,13 @@ module _ {n k : ℕ} {bytes : List ℕ} (p : MapsListed n k bytes) where
 abbrev pub onwards : ℕ → List ℕ → List ℕ
 onwards at l = take (length l - at) (drop at l)
 
-pub part-rest : (at : ℕ) (l : List ℕ) → onwards at l ≡ drop at l
-part-rest at l = take-all (length l - at) (drop at l) (omega (arith, length-drop at l))
-
--- what a callee that was lent the bytes from `at` on wrote at their start, said of the whole
-pub put-laid : (at : ℕ) (lent new : List ℕ) → at ≤ length lent → putMid at (length lent - at) lent (written new (midOf at (length lent - at) lent)) ≡ laid lent at new
-unfolding laid
-put-laid at lent new h =
-    let none : drop (length lent - at) (drop at lent) ≡ [] = drop-of-length-le (drop at lent) {i = length lent - at} (omega (arith, length-drop at lent)) in
-    rw (part-rest at lent, none, append-nil (written new (drop at lent)))
-
 -- n bytes copied there
 pub copied-laid : {n : ℕ} {from m : List ℕ} (at : ℕ) (lent after : List ℕ) → Begins n from m → IsMap n m → at + n ≤ length lent
     → length after ≡ length (midOf at (length lent - at) lent) → Filled n (byte from) (byte (midOf at (length lent - at) lent)) (byte after)
     → putMid at (length lent - at) lent after ≡ laid lent at m
 copied-laid {n} {from} {m} at lent after g p fits long f =
-    let room : n ≤ length (midOf at (length lent - at) lent) = rw (part-rest at lent, length-drop at lent) (omega arith) in
-    ap (putMid at (length lent - at) lent) (copied-written (midOf at (length lent - at) lent) after g p room long f) ∙ put-laid at lent m (omega arith)
+    let room : n ≤ length (midOf at (length lent - at) lent) = rw (rest-whole at lent, length-drop at lent) (omega arith) in
+    ap (putMid at (length lent - at) lent) (copied-written (midOf at (length lent - at) lent) after g p room long f) ∙ laid-from at lent m (omega arith)
 
 -- a map laid is that stretch
 pub laid-stretch : (n i : ℕ) (lent m : List ℕ) → length m ≡ n → i * n + n ≤ length lent → stretch n (laid lent (i * n) m) i ≡ m

@@ -1,74 +1,80 @@
--- The packed number of each case of an answer.
+-- The packed number of each case of an answer: a success, a refusal, and 11 with its pair; then each answer by its case.
 use Prim.Native.Nat.{ℕ, _+_, _*_}
-use mathlib.Core.Path.{_≡_, refl}
+use mathlib.Core.Path.{_≡_}
 use native.Mathlib.Omega.{arith}
 use Rattle.equivalence.specs.Refusal.{numberOf}
 use Rattle.equivalence.specs.Outcome.{success, refusal, writtenOutcome, packed}
 use Rattle.congruence.specs.Outcome.{generatedOutcome, dividedOutcome, decomposedOutcome, certifiedOutcome}
 use Rattle.equivalence.specs.declared.Refusal.{Refusal}
 use Rattle.equivalence.specs.declared.Element.{Element}
+use Rattle.equivalence.specs.declared.Written.{Written}
 use Rattle.equivalence.specs.declared.Written.the-variants.{Done, Refused as WriteRefused}
+use Rattle.congruence.specs.declared.Generated.{Generated}
 use Rattle.congruence.specs.declared.Generated.the-variants.{Merges, Refused as GenerateRefused}
+use Rattle.congruence.specs.declared.Divided.{Divided}
 use Rattle.congruence.specs.declared.Divided.the-variants.{Blocks, Refused as DivideRefused}
+use Rattle.congruence.specs.declared.Certified.{Certified}
 use Rattle.congruence.specs.declared.Certified.the-variants.{Yes, No, Refused as CertifyRefused}
+use Rattle.congruence.specs.declared.Decomposed.{Decomposed}
 use Rattle.congruence.specs.declared.Decomposed.the-variants.{Factors, Irreducible, Refused as DecomposeRefused}
 
 -- a refusal's bare number
-pub packed-refusal : (r : Refusal) → packed (refusal r) ≡ numberOf r
+pub refusal-number : (r : Refusal) {number wide : ℕ} → number ≡ numberOf r → wide ≡ number → wide ≡ packed (refusal r)
 unfolding packed refusal
-packed-refusal r = omega arith
+refusal-number r e f = omega arith
 
 -- 256 times the count
-pub packed-success : (k : ℕ) → packed (success k) ≡ 256 * k
+pub success-number : (k : ℕ) {wide : ℕ} → wide ≡ k → 256 * wide ≡ packed (success k)
 unfolding packed success
-packed-success k = omega arith
+success-number k e = omega arith
 
 -- 11 with its two elements
-pub packed-irreducible : (x y : Element) → packed (decomposedOutcome (Irreducible x y)) ≡ 11 + 65536 * (x .0) + 16777216 * (y .0)
+pub irreducible-number : (answer : Decomposed) (x y : Element) {first second : ℕ} → answer ≡ Irreducible x y → first ≡ x .0 → second ≡ y .0
+    → 11 + 65536 * first + 16777216 * second ≡ packed (decomposedOutcome answer)
 unfolding packed decomposedOutcome
-packed-irreducible x y = omega arith
+irreducible-number answer x y told e f = rw told (omega arith)
 
 -- the cases of the answers
-pub merges-outcome : (k : ℕ) → generatedOutcome (Merges k) ≡ success k
+pub merges-number : (answer : Generated) (k : ℕ) {number : ℕ} → answer ≡ Merges k → number ≡ packed (success k) → number ≡ packed (generatedOutcome answer)
 unfolding generatedOutcome
-merges-outcome k = refl
+merges-number answer k told e = rw told e
 
-pub generate-refused : (r : Refusal) → generatedOutcome (GenerateRefused r) ≡ refusal r
+pub generate-refused : (answer : Generated) (r : Refusal) {number : ℕ} → answer ≡ GenerateRefused r → number ≡ packed (refusal r) → number ≡ packed (generatedOutcome answer)
 unfolding generatedOutcome
-generate-refused r = refl
+generate-refused answer r told e = rw told e
 
-pub done-outcome : writtenOutcome Done ≡ success 0
+pub done-number : (answer : Written) {number : ℕ} → answer ≡ Done → number ≡ packed (success 0) → number ≡ packed (writtenOutcome answer)
 unfolding writtenOutcome
-done-outcome = refl
+done-number answer told e = rw told e
 
-pub write-refused : (r : Refusal) → writtenOutcome (WriteRefused r) ≡ refusal r
+pub write-refused : (answer : Written) (r : Refusal) {number : ℕ} → answer ≡ WriteRefused r → number ≡ packed (refusal r) → number ≡ packed (writtenOutcome answer)
 unfolding writtenOutcome
-write-refused r = refl
+write-refused answer r told e = rw told e
 
-pub factors-outcome : (k : ℕ) → decomposedOutcome (Factors k) ≡ success k
+pub factors-number : (answer : Decomposed) (k : ℕ) {number : ℕ} → answer ≡ Factors k → number ≡ packed (success k) → number ≡ packed (decomposedOutcome answer)
 unfolding decomposedOutcome
-factors-outcome k = refl
+factors-number answer k told e = rw told e
 
-pub decompose-refused : (r : Refusal) → decomposedOutcome (DecomposeRefused r) ≡ refusal r
+pub decompose-refused : (answer : Decomposed) (r : Refusal) {number : ℕ} → answer ≡ DecomposeRefused r → number ≡ packed (refusal r) → number ≡ packed (decomposedOutcome answer)
 unfolding decomposedOutcome
-decompose-refused r = refl
+decompose-refused answer r told e = rw told e
 
-pub blocks-outcome : (k : ℕ) → dividedOutcome (Blocks k) ≡ success k
+pub blocks-number : (answer : Divided) (k : ℕ) {number : ℕ} → answer ≡ Blocks k → number ≡ packed (success k) → number ≡ packed (dividedOutcome answer)
 unfolding dividedOutcome
-blocks-outcome k = refl
+blocks-number answer k told e = rw told e
 
-pub divide-refused : (r : Refusal) → dividedOutcome (DivideRefused r) ≡ refusal r
+pub divide-refused : (answer : Divided) (r : Refusal) {number : ℕ} → answer ≡ DivideRefused r → number ≡ packed (refusal r) → number ≡ packed (dividedOutcome answer)
 unfolding dividedOutcome
-divide-refused r = refl
+divide-refused answer r told e = rw told e
 
-pub yes-outcome : certifiedOutcome Yes ≡ success 1
+pub certified-yes : (answer : Certified) {number : ℕ} → answer ≡ Yes → number ≡ packed (success 1) → number ≡ packed (certifiedOutcome answer)
 unfolding certifiedOutcome
-yes-outcome = refl
+certified-yes answer told e = rw told e
 
-pub no-outcome : certifiedOutcome No ≡ success 0
+pub certified-no : (answer : Certified) {number : ℕ} → answer ≡ No → number ≡ packed (success 0) → number ≡ packed (certifiedOutcome answer)
 unfolding certifiedOutcome
-no-outcome = refl
+certified-no answer told e = rw told e
 
-pub certify-refused : (r : Refusal) → certifiedOutcome (CertifyRefused r) ≡ refusal r
+pub certify-refused : (answer : Certified) (r : Refusal) {number : ℕ} → answer ≡ CertifyRefused r → number ≡ packed (refusal r) → number ≡ packed (certifiedOutcome answer)
 unfolding certifiedOutcome
-certify-refused r = refl
+certify-refused answer r told e = rw told e

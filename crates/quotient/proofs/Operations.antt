@@ -49,7 +49,8 @@ module _ {q : Source} {arities lent out : List ℕ} {j from to : ℕ} (r : Divid
   pub divided-fits : Fits q (getD arities j 0) from out to
   divided-fits = record {
     source = omega (arith, r .start, r .fits .source, cellCount-more (q .size) arities j l, cellCount-part (q .size) arities (suc j));
-    target = omega (arith, r .laid .place, r .laid .long, concatUpTo-count q arities j (r .upto), r .fits .target, cellCount-more (length (q .names)) arities j l, cellCount-part (length (q .names)) arities (suc j));
+    target = let b = length (q .names) in
+        omega (arith, r .laid .place, r .laid .long, concatUpTo-count q arities j (r .upto), r .fits .target, cellCount-more b arities j l, cellCount-part b arities (suc j));
   }
 
   pub divided-more : (out′ : List ℕ) (w v : ℕ) → out′ ≡ laid out to (divided q (getD arities j 0) from) → w ≡ q .size ^ getD arities j 0 → v ≡ length (q .names) ^ getD arities j 0

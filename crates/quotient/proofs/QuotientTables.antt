@@ -35,7 +35,8 @@ abbrev cellAt : Source → ℕ → List ℕ → ℕ
 cellAt q from bs = byte (q .numbers) (byte (q .cells) (from + place (q .size) (map (byte (q .names)) bs)))
 
 -- the cells with block k as the first argument
-first-argument : (q : Source) (s from k : ℕ) → map (cellAt q (from + byte (q .names) k * q .size ^ s)) (arguments (length (q .names)) s) ≡ map (cellAt q from) (map (λ t. k ∷ t) (arguments (length (q .names)) s))
+first-argument : (q : Source) (s from k : ℕ)
+    → map (cellAt q (from + byte (q .names) k * q .size ^ s)) (arguments (length (q .names)) s) ≡ map (cellAt q from) (map (λ t. k ∷ t) (arguments (length (q .names)) s))
 unfolding place
 first-argument q s from k =
     map-same (cellAt q (from + byte (q .names) k * q .size ^ s)) (λ t. cellAt q from (k ∷ t)) (arguments (length (q .names)) s)

@@ -1,12 +1,12 @@
 // The numbers of a map's blocks, and each block's smallest member.
 ghost use mathlib.Core.Path.{_≡_};
 ghost use Prim.Native.Nat.{_+_, _<_, _≤_};
-ghost use lib.Dec.{T, eqb};
+ghost use lib.Dec.{T};
 ghost use Rattle.equivalence.specs.Equivalence.{byte, isMap};
-ghost use Rattle.kernel.specs.InnerKernel.{bit};
 ghost use Rattle.quotient.specs.InnerNumbers.{Numbered};
 use crate::Block;
 use equivalence::Element;
+use equivalence::map::self_named;
 
 // The number of the element's block.
 pub fn block_of(numbers: &[u8], e: Element) -> Block
@@ -15,13 +15,6 @@ pub fn block_of(numbers: &[u8], e: Element) -> Block
 {
     let i = e.0 as usize;
     Block(numbers[i])
-}
-
-// How many blocks the element x opens: one if it is its own name.
-fn opened(name: usize, x: usize) -> usize
-    ensures { λ r. ⌜ r ≡ bit (eqb name x) ⌝ }
-{
-    if name == x { 1 } else { 0 }
 }
 
 // Gives the number of blocks, the number of each element's block, and each block's smallest member.
@@ -42,7 +35,7 @@ pub fn number_blocks(n: usize, map: &[u8], numbers: &mut [u8], names: &mut [u8])
         let b = block_of(numbers, name);
         numbers[x] = b.0;
         names[count] = x as u8;
-        count += opened(name.0 as usize, x);
+        count += self_named(name.0, x);
         x += 1;
     }
     count

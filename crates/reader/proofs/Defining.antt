@@ -1,5 +1,5 @@
 -- Operation lines: each way they come to an end.
-use Prim.Native.Nat.{ℕ, _+_, _-_}
+use Prim.Native.Nat.{ℕ, _+_, _-_, _^_}
 use mathlib.Core.Bool.{Bool, true, false, not}
 use mathlib.Core.List.{List, [], _∷_}
 use mathlib.Core.Path.{_≡_, refl, ap, sym, _∙_}
@@ -19,12 +19,13 @@ use Rattle.algebra.specs.Algebra.{algebraOf}
 use Rattle.reader.specs.Reading.{ascii, found, fault, _>>_, done, begins}
 use Rattle.reader.specs.Tables.{table}
 use Rattle.reader.specs.Lines.{close, tested, arity, lastTable, operationTests, cellTest, withOperation, afterTable, afterArity, operation}
-use Rattle.reader.specs.InnerPromises.{readOf, NumberRead, Roomy, Stored, tableProgress, TableRead, operationProgress, OperationRead}
+use Rattle.reader.specs.InnerPromises.{NumberRead, RoomFor, RoomForCells, Stored, tableProgress, TableRead, operationProgress, OperationRead}
 use Rattle.reader.specs.declared.lines.OperationLine.{OperationLine}
 use Rattle.reader.specs.declared.reading.Number.{Number}
 use Rattle.reader.specs.declared.reading.Spot.{Spot}
 use Rattle.reader.proofs.Laying.{laid-part, laid-before, laid-front}
 use Rattle.reader.proofs.Readers.{then-found, then-fault}
+use Rattle.reader.proofs.Storing.{stored-found, stored-missing}
 use Rattle.reader.proofs.SpacedNumbers.{close-found, close-fault, found-number, missing-number}
 use Rattle.reader.proofs.Words.{begins-within}
 
@@ -42,7 +43,7 @@ unfolding cellTest
 cells-below n cells e = lowest-next (cellTest n cells) [] (rw e (λ f. f)) ∙ lowest-none
 
 -- its table
-module _ (text : List ℕ) (at s n : ℕ) (lent : List ℕ) (put : ℕ) (w : Roomy text at lent put) (after : List ℕ) (t : Spot)
+module _ (text : List ℕ) (at s n : ℕ) (lent : List ℕ) (put : ℕ) (w : RoomFor (n ^ s) text at lent put) (after : List ℕ) (t : Spot)
     (st : Stored text at lent put (table n s text at) after t) where
   faulty : lastTable n s text at ≡ fault → TableRead text at s n lent put after (refusal Text s at put)
   unfolding tableProgress afterTable
@@ -52,6 +53,7 @@ module _ (text : List ℕ) (at s n : ℕ) (lent : List ℕ) (put : ℕ) (w : Roo
         reached = omega arith;
         paced = omega arith;
         behind = omega arith;
+        stored = w .start;
         before = laid-front (st .laid);
       }
 
@@ -60,14 +62,14 @@ module _ (text : List ℕ) (at s n : ℕ) (lent : List ℕ) (put : ℕ) (w : Roo
   table-faulty h =
       faulty
       (then-fault (table n s) (λ cells. _>>_ close (done cells)) text at
-      (st .value ∙ ap (λ (b : Bool). readOf b (st .new) (t .at)) (not-true (t .ok) h)))
+      (stored-missing st (not-true (t .ok) h)))
 
   module _ (h : not (t .ok) ≡ false) (q : Bool) (eq : q ≡ begins text (t .at) (ascii "]\n")) where
     table-found : lastTable n s text at ≡ _>>_ close (done (st .new)) text (t .at)
     unfolding lastTable
     table-found =
         then-found (table n s) (λ cells. _>>_ close (done cells)) text at (st .new) (t .at)
-        (st .value ∙ ap (λ (b : Bool). readOf b (st .new) (t .at)) (not-false (t .ok) h))
+        (stored-found st (not-false (t .ok) h))
 
     pub table-open : not q ≡ true → TableRead text at s n lent put after (refusal Text s at put)
     table-open g =
@@ -91,6 +93,7 @@ module _ (text : List ℕ) (at s n : ℕ) (lent : List ℕ) (put : ℕ) (w : Roo
             reached = omega arith;
             paced = omega arith;
             behind = omega arith;
+            stored = w .start;
             before = laid-front (st .laid);
           }
 
@@ -103,19 +106,20 @@ module _ (text : List ℕ) (at s n : ℕ) (lent : List ℕ) (put : ℕ) (w : Roo
             reached = omega (arith, begins-within text (ascii "]\n") (t .at) tt (st .reached .within) (sym eq ∙ not-false q g), st .reached .past);
             paced = omega (arith, st .paced);
             behind = omega (arith, st .laid .place);
+            stored = st .laid .within;
             before = laid-front (st .laid);
           }
 
 -- its arity, and the tests after that
-module _ (text : List ℕ) (at n operations : ℕ) (lent : List ℕ) (put : ℕ) (w : Roomy text at lent put) (s : Number)
+module _ (text : List ℕ) (at n operations : ℕ) (lent : List ℕ) (put : ℕ) (w : RoomForCells text at lent put) (s : Number)
     (r : NumberRead text at (arity text at) s) where
   count : length (take put lent) ≡ put
-  count = length-take-le put lent (omega arith)
+  count = length-take-le put lent (w .start)
 
   pub arity-faulty : not (s .ok) ≡ true → OperationRead text at n operations lent put lent (refusal Text (s .value) at put)
   unfolding operationProgress tableProgress operation afterArity
   arity-faulty h =
-      record { value = λ arities l. rw (missing-number r h); reached = omega arith; paced = omega arith; behind = omega arith; before = refl }
+      record { value = λ arities l. rw (missing-number r h); reached = omega arith; paced = omega arith; behind = omega arith; stored = w .start; before = refl }
 
   module _ (h : not (s .ok) ≡ false) (c : Check) (ec : c ≡ lowest (operationTests n operations put (s .value))) where
     arity-known : (arities : List ℕ) → length arities ≡ operations
@@ -126,7 +130,7 @@ module _ (text : List ℕ) (at n operations : ℕ) (lent : List ℕ) (put : ℕ)
     pub operation-refused : (x : Refusal) → c ≡ Failed x → OperationRead text at n operations lent put lent (refusal x (s .value) at put)
     unfolding tested
     operation-refused x e =
-        record { value = λ arities l. arity-known arities l ∙ rw e; reached = omega arith; paced = omega arith; behind = omega arith; before = refl }
+        record { value = λ arities l. arity-known arities l ∙ rw e; reached = omega arith; paced = omega arith; behind = omega arith; stored = w .start; before = refl }
 
     pub operation-read : c ≡ Passed → (after : List ℕ) (o : OperationLine)
         → TableRead text (s .next) (s .value) n lent put after o
@@ -138,5 +142,6 @@ module _ (text : List ℕ) (at n operations : ℕ) (lent : List ℕ) (put : ℕ)
           reached = omega (arith, q .reached, r .past);
           paced = omega (arith, q .paced, r .past);
           behind = q .behind;
+          stored = q .stored;
           before = q .before;
         }

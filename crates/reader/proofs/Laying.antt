@@ -28,16 +28,16 @@ laid-more lent put a mid at b after end p q =
     }
 
 -- the first i bytes of a word are laid
-pub record Lettered (lent : List ℕ) (put : ℕ) (word out : List ℕ) (i : ℕ) : Type 0 where
+pub record LaidSoFar (lent : List ℕ) (put : ℕ) (word out : List ℕ) (i : ℕ) : Type 0 where
   pub passed : i ≤ length word
   pub laid : Laid lent put (take i word) out (put + i)
 
 module _ (lent : List ℕ) (put : ℕ) (word : List ℕ) (room : put + length word ≤ length lent) where
-  pub lettered-none : Lettered lent put word lent 0
-  lettered-none = record { passed = omega arith; laid = rw add-zero (laid-none lent put (omega arith)) }
+  pub laid-so-far-none : LaidSoFar lent put word lent 0
+  laid-so-far-none = record { passed = omega arith; laid = rw add-zero (laid-none lent put (omega arith)) }
 
-  pub lettered-more : (out : List ℕ) (i : ℕ) → Lettered lent put word out i → i < length word → Lettered lent put word (set out (put + i) (getD word i 0)) (i + 1)
-  lettered-more out i p h =
+  pub laid-so-far-more : (out : List ℕ) (i : ℕ) → LaidSoFar lent put word out i → i < length word → LaidSoFar lent put word (set out (put + i) (getD word i 0)) (i + 1)
+  laid-so-far-more out i p h =
       let e : put + i + 1 ≡ put + suc i = omega arith in
       record {
         passed = omega arith;
@@ -47,8 +47,8 @@ module _ (lent : List ℕ) (put : ℕ) (word : List ℕ) (room : put + length wo
             (laid-one out (put + i) (getD word i 0) (omega (arith, p .laid .long))));
       }
 
-  pub lettered-all : (out : List ℕ) (i : ℕ) → Lettered lent put word out i → length word ≤ i → Laid lent put word out (put + i)
-  lettered-all out i p h = rw take-all at (p .laid)
+  pub laid-so-far-all : (out : List ℕ) (i : ℕ) → LaidSoFar lent put word out i → length word ≤ i → Laid lent put word out (put + i)
+  laid-so-far-all out i p h = rw take-all at (p .laid)
 
 -- what was laid, what stands before its end, and what stood there before
 module _ {lent : List ℕ} {put : ℕ} {new after : List ℕ} {end : ℕ} (p : Laid lent put new after end) where

@@ -2,9 +2,14 @@ pub mod Readers
 pub mod Words
 pub mod Digits
 pub mod Laying
-pub mod Storing
-pub mod Listing
-pub mod SpacedNumbers
+pub mod Lengths
 pub mod Judging
+pub mod RoomLeft
+pub mod Storing
+pub mod Items
+pub mod SpacedNumbers
 pub mod Defining
+pub mod TakenLines
 pub mod Asking
+pub mod Accepting
+pub mod Forward

@@ -1,35 +1,37 @@
 -- Numbers, rows and tables read into storage: each way that the readers of tables come to an end.
-use Prim.Native.Nat.{ℕ, zero, suc, _+_, _-_, _*_, _≤_, _<_}
+use Prim.Native.Nat.{ℕ, zero, suc, _+_, _-_, _^_, _≤_, _<_}
 use mathlib.Core.Bool.{Bool, true, false}
 use mathlib.Core.List.{List, [], _∷_, _++_}
 use mathlib.Core.Path.{_≡_, refl, ap, sym, _∙_}
-use native.Mathlib.Nat.{suc-mul}
 use native.Mathlib.Numerals.{sub-one}
 use native.Mathlib.Omega.{arith}
 use lib.ListN.{length, set}
 use Rattle.reader.specs.Reading.{Read, found, fault, Reader, byteAt, onward, _>>=_, _>>_, done, mark, gap}
 use Rattle.reader.specs.Numbers.{number}
 use Rattle.reader.specs.Tables.{cell, parted, bracket, table}
-use Rattle.reader.specs.InnerPromises.{readOf, GapRead, NumberRead, Roomy, Stored}
+use Rattle.reader.specs.InnerPromises.{readOf, GapRead, NumberRead, RoomFor, Stored}
 use Rattle.reader.specs.declared.reading.Number.{Number}
 use Rattle.reader.specs.declared.reading.Spot.{Spot}
 use Rattle.reader.proofs.Laying.{laid-none, laid-one, laid-more}
 use Rattle.reader.proofs.Readers.{within-text, then-found, then-fault, marked, unmarked, gapped, ungapped}
 
--- a part less
-pub part-less : (k w : ℕ) → 0 < k → (k - 1) * w + w ≡ k * w
-part-less zero w h = absurd (omega arith)
-part-less (suc k) w h = rw (sub-one (suc k), suc-mul k w)
-
 -- a place in the text and one in the storage, found well or not
 abbrev pub spot : Bool → ℕ → ℕ → Spot
 spot ok at put = record { ok = ok; at = at; put = put }
 
+-- what a flag says of a list that was read and stored
+module _ {text : List ℕ} {at : ℕ} {lent : List ℕ} {put : ℕ} {d : Read (List ℕ)} {after : List ℕ} {r : Spot} (s : Stored text at lent put d after r) where
+  pub stored-found : r .ok ≡ true → d ≡ found (s .new) (r .at)
+  stored-found e = s .value ∙ ap (λ (b : Bool). readOf b (s .new) (r .at)) e
+
+  pub stored-missing : r .ok ≡ false → d ≡ fault
+  stored-missing e = s .value ∙ ap (λ (b : Bool). readOf b (s .new) (r .at)) e
+
 -- a fault, found before anything was stored
-pub stored-nothing : (text : List ℕ) (at : ℕ) (lent : List ℕ) (put : ℕ) (d : Read (List ℕ)) → Roomy text at lent put → d ≡ fault
+pub stored-nothing : {need : ℕ} (text : List ℕ) (at : ℕ) (lent : List ℕ) (put : ℕ) (d : Read (List ℕ)) → RoomFor need text at lent put → d ≡ fault
     → Stored text at lent put d lent (spot false at put)
 stored-nothing text at lent put d w e =
-    record { new = []; value = e; laid = laid-none lent put (omega arith); reached = omega arith; paced = omega arith }
+    record { new = []; value = e; laid = laid-none lent put (w .start); reached = omega arith; paced = omega arith }
 
 -- a fault after something was stored
 pub stored-fault : (text : List ℕ) (at from : ℕ) (lent : List ℕ) (put : ℕ) (d d′ : Read (List ℕ)) (after : List ℕ) (r : Spot) → at ≤ from
@@ -37,7 +39,7 @@ pub stored-fault : (text : List ℕ) (at from : ℕ) (lent : List ℕ) (put : �
 stored-fault text at from lent put d d′ after r l s e =
     record { new = s .new; value = e; laid = s .laid; reached = omega (arith, s .reached); paced = omega (arith, s .paced) }
 
-module _ (text : List ℕ) (at : ℕ) (lent : List ℕ) (put : ℕ) (w : Roomy text at lent put) where
+module _ (text : List ℕ) (at : ℕ) (lent : List ℕ) (put : ℕ) (w : RoomFor 1 text at lent put) where
   pub cell-none : (v : Number) → NumberRead text at (number text at) v → v .ok ≡ false → Stored text at lent put (cell text at) lent (spot false at put)
   unfolding cell
   cell-none v n e =
@@ -45,7 +47,7 @@ module _ (text : List ℕ) (at : ℕ) (lent : List ℕ) (put : ℕ) (w : Roomy t
       (then-fault number (λ v. done (v ∷ [])) text at (n .value ∙ ap (λ (b : Bool). readOf b (v .value) (v .next)) e))
 
   pub cell-room : (v : Number) → NumberRead text at (number text at) v → v .ok ≡ true → put < length lent
-  cell-room v n e = let past : at + 1 ≤ v .next = rw e at (n .past) in omega (arith, n .within)
+  cell-room v n e = let past : at + 1 ≤ v .next = rw e at (n .past) in omega (arith, w .fits 1 (omega arith) (omega (arith, n .within)))
 
   pub cell-one : (v : Number) → NumberRead text at (number text at) v → v .ok ≡ true
       → Stored text at lent put (cell text at) (set lent put (v .value)) (spot true (v .next) (put + 1))
@@ -92,13 +94,13 @@ module _ (text : List ℕ) (at : ℕ) (lent : List ℕ) (put : ℕ) (item : Read
   pub rows-fault : 0 < left → r .ok ≡ false → Stored text at lent put (parted item left text at) after (spot false (r .at) (r .put))
   rows-fault p e =
       stored-fault text at at lent put (item text at) (parted item left text at) after r (omega arith) s
-      (parted-fault item text at left p (s .value ∙ ap (λ (b : Bool). readOf b (s .new) (r .at)) e))
+      (parted-fault item text at left p (stored-missing s e))
 
   pub rows-last : left ≡ 1 → r .ok ≡ true → Stored text at lent put (parted item left text at) after (spot true (r .at) (r .put))
   rows-last l e =
       record {
         new = s .new;
-        value = parted-one item text at left l ∙ s .value ∙ ap (λ (b : Bool). readOf b (s .new) (r .at)) e;
+        value = parted-one item text at left l ∙ stored-found s e;
         laid = s .laid;
         reached = s .reached;
         paced = s .paced;
@@ -109,7 +111,7 @@ module _ (text : List ℕ) (at : ℕ) (lent : List ℕ) (put : ℕ) (item : Read
     first =
         parted-next item text at left p h
         ∙ then-found item (λ xs. _>>_ gap (_>>=_ (parted item (left - 1)) (λ ys. done (xs ++ ys)))) text at (s .new) (r .at)
-        (s .value ∙ ap (λ (b : Bool). readOf b (s .new) (r .at)) e)
+        (stored-found s e)
 
     pub rows-unparted : end ≡ r .at → Stored text at lent put (parted item left text at) after (spot false (r .at) (r .put))
     rows-unparted n =
@@ -168,7 +170,7 @@ table-bracket n zero h = absurd (h refl)
 table-bracket n (suc s) h = rw (sub-one (suc s))
 
 module _ (text : List ℕ) (at : ℕ) (lent : List ℕ) (put n arity : ℕ) (h : arity ≡ 0 → ⊥) (b : ℕ) (eb : b ≡ byteAt text at) where
-  pub table-unopened : Roomy text at lent put → (b ≡ 91 → ⊥) → Stored text at lent put (table n arity text at) lent (spot false at put)
+  pub table-unopened : RoomFor (n ^ arity) text at lent put → (b ≡ 91 → ⊥) → Stored text at lent put (table n arity text at) lent (spot false at put)
   table-unopened w k =
       rw (table-bracket n arity h)
       (stored-nothing text at lent put (bracket (table n (arity - 1)) n text at) w (bracket-unopened (table n (arity - 1)) n text at (λ g. k (eb ∙ g))))
@@ -178,11 +180,11 @@ module _ (text : List ℕ) (at : ℕ) (lent : List ℕ) (put n arity : ℕ) (h :
     table-fault e =
         rw (table-bracket n arity h)
         (stored-fault text at (at + 1) lent put (parted (table n (arity - 1)) n text (at + 1)) (bracket (table n (arity - 1)) n text at) after r (omega arith) s
-        (bracket-fault (table n (arity - 1)) n text at (sym eb ∙ k) (s .value ∙ ap (λ (b : Bool). readOf b (s .new) (r .at)) e)))
+        (bracket-fault (table n (arity - 1)) n text at (sym eb ∙ k) (stored-missing s e)))
 
     module _ (e : r .ok ≡ true) (c : ℕ) (ec : c ≡ byteAt text (r .at)) where
       items : parted (table n (arity - 1)) n text (at + 1) ≡ found (s .new) (r .at)
-      items = s .value ∙ ap (λ (b : Bool). readOf b (s .new) (r .at)) e
+      items = stored-found s e
 
       pub table-unclosed : (c ≡ 93 → ⊥) → Stored text at lent put (table n arity text at) after (spot false (r .at) (r .put))
       table-unclosed u =

@@ -1,11 +1,12 @@
 -- What inner readers promise: what they came to, where they stand, and what they laid in the lent bytes.
-use Prim.Native.Nat.{ℕ, _+_, _≤_}
+use Prim.Native.Nat.{ℕ, _+_, _-_, _≤_}
 use mathlib.Core.Bool.{Bool, true, false}
 use mathlib.Core.List.{List, [], _∷_, _++_}
 use mathlib.Core.Path.{_≡_}
+use denote.Ref.{RefT, now}
 use lib.ListN.{length, take}
 use Rattle.kernel.specs.InnerKernel.{bit}
-use Rattle.reader.specs.Reading.{Read, found, fault, gap}
+use Rattle.reader.specs.Reading.{Read, found, fault, Reader, gap}
 use Rattle.reader.specs.Laying.{Laid}
 use Rattle.equivalence.specs.declared.Check.{Check}
 use Rattle.equivalence.specs.declared.Check.the-variants.{Passed, Failed}
@@ -15,7 +16,7 @@ use Rattle.reader.specs.declared.lines.OperationLine.{OperationLine}
 use Rattle.reader.specs.declared.reading.Number.{Number}
 use Rattle.reader.specs.declared.reading.Spot.{Spot}
 use Rattle.reader.specs.declared.requests.Asked.{Asked}
-use Rattle.reader.specs.declared.requests.Asked.the-variants.{Generate, Contained, Separate, Decompose, Nothing}
+use Rattle.reader.specs.declared.requests.Asked.the-variants.{Generate, Contained, Separate, Decompose}
 use Rattle.reader.specs.declared.requests.RequestLine.{RequestLine}
 
 -- a value and the place after it, or a fault, as a flag tells
@@ -40,10 +41,19 @@ pub record NumberRead (text : List ℕ) (at : ℕ) (d : Read ℕ) (r : Number) :
   pub within : r .next ≤ length text
   pub past : at + bit (r .ok) ≤ r .next
 
--- the storage has room from `put` on for as many bytes as the text has from `at` on
-pub record Roomy (text : List ℕ) (at : ℕ) (cells : List ℕ) (put : ℕ) : Type 0 where
+-- the storage has room from `put` on for the `need` cells that may still come, and for no more than the text has bytes from `at` on
+pub record RoomFor (need : ℕ) (text : List ℕ) (at : ℕ) (cells : List ℕ) (put : ℕ) : Type 0 where
   pub within : at ≤ length text
-  pub room : put + length text ≤ length cells + at
+  pub start : put ≤ length cells
+  pub fits : (k : ℕ) → k ≤ need → k + at ≤ length text → put + k ≤ length cells
+
+-- the same for the cells of an algebra, of which 32,768 at most are stored
+abbrev pub RoomForCells : List ℕ → ℕ → List ℕ → ℕ → Type 0
+RoomForCells text at cells put = RoomFor (32768 - put) text at cells put
+
+-- the same for a list that only the text's end bounds
+abbrev pub RoomForText : List ℕ → ℕ → List ℕ → ℕ → Type 0
+RoomForText text at cells put = RoomFor (length text) text at cells put
 
 -- a reader of lists came to what `d` says, and laid the list, or before a fault some list, in the storage from `put` on
 pub record Stored (text : List ℕ) (at : ℕ) (lent : List ℕ) (put : ℕ) (d : Read (List ℕ)) (after : List ℕ) (r : Spot) : Type 0 where
@@ -53,10 +63,14 @@ pub record Stored (text : List ℕ) (at : ℕ) (lent : List ℕ) (put : ℕ) (d 
   pub reached : Reached text at (r .at)
   pub paced : r .put + at ≤ put + r .at
 
--- 1 where the tests pass, else 0
-abbrev pub passing : Check → ℕ
-passing Passed = 1
-passing (Failed r) = 0
+-- the same of a reader over lent slices: the text, and the storage before and after
+abbrev pub StoredBy : Reader (List ℕ) → RefT (List ℕ) → ℕ → RefT (List ℕ) → ℕ → RefT (List ℕ) → Spot → Type 0
+StoredBy read text at lent put after r = Stored (now text) at (now lent) put (read (now text) at) (now after) r
+
+-- whether tests pass
+abbrev pub passes : Check → Bool
+passes Passed = true
+passes (Failed r) = false
 
 -- what an operation line came to, behind operations of these arities
 abbrev pub progressOf : ℕ → List ℕ → List ℕ → ℕ → ℕ → ℕ → Check → Progress
@@ -73,6 +87,7 @@ pub record TableRead (text : List ℕ) (at s n : ℕ) (lent : List ℕ) (put : �
   pub reached : Reached text at (r .next)
   pub paced : r .cells + at ≤ put + r .next
   pub behind : put ≤ r .cells
+  pub stored : r .cells ≤ length lent
   pub before : take put after ≡ take put lent
 
 -- an operation line, behind these arities and so many cells of the storage
@@ -86,34 +101,29 @@ pub record OperationRead (text : List ℕ) (at n operations : ℕ) (lent : List 
   pub reached : Reached text at (r .next)
   pub paced : r .cells + at ≤ put + r .next
   pub behind : put ≤ r .cells
+  pub stored : r .cells ≤ length lent
   pub before : take put after ≡ take put lent
 
--- the request that was read, where these numbers were stored
-abbrev pub requestOf : List ℕ → ℕ → Asked → Read Request
-requestOf xs next Generate = found (generate xs) next
-requestOf xs next Contained = found (contained xs) next
-requestOf xs next (Separate v w) = found (separate v w) next
-requestOf xs next Decompose = found decompose next
-requestOf xs next Nothing = fault
-
--- whether a reader found anything
-abbrev pub isFound : {A : Type 0} → Read A → Bool
-isFound (found a next) = true
-isFound fault = false
-
--- something was asked, so that the run goes on
-abbrev pub goesOn : Asked → Bool
-goesOn asked = isFound (requestOf [] 0 asked)
+-- what is asked, with the numbers that were stored for it
+abbrev pub requestOf : Asked → List ℕ → Request
+requestOf Generate xs = generate xs
+requestOf Contained xs = contained xs
+requestOf (Separate v w) xs = separate v w
+requestOf Decompose xs = decompose
 
 -- a request came to what `d` says, and its numbers stand in the storage from `put` on
 pub record Requested (text : List ℕ) (at : ℕ) (lent : List ℕ) (put : ℕ) (d : Read Request) (after : List ℕ) (r : RequestLine) : Type 0 where
   pub new : List ℕ
-  pub value : d ≡ requestOf new (r .next) (r .asked)
+  pub value : d ≡ readOf (r .ok) (requestOf (r .asked) new) (r .next)
   pub laid : Laid lent put new after (r .end)
   pub reached : Reached text at (r .next)
 
+-- the same of a reader over lent slices: the text, and the storage before and after
+abbrev pub RequestedBy : Reader Request → RefT (List ℕ) → ℕ → RefT (List ℕ) → ℕ → RefT (List ℕ) → RequestLine → Type 0
+RequestedBy read text at lent put after r = Requested (now text) at (now lent) put (read (now text) at) (now after) r
+
 -- the same of a request that stores nothing
 pub record RequestRead (text : List ℕ) (at put : ℕ) (d : Read Request) (r : RequestLine) : Type 0 where
-  pub value : d ≡ requestOf [] (r .next) (r .asked)
+  pub value : d ≡ readOf (r .ok) (requestOf (r .asked) []) (r .next)
   pub end : r .end ≡ put
   pub reached : Reached text at (r .next)

@@ -1,4 +1,4 @@
--- Bytes laid in a lent slice: those that are new, where, and that all others stay.
+-- Bytes laid in a lent slice: those that are new, where, and that all others stay. The public promise of `bracket::run::fill` cites it.
 use Prim.Native.Nat.{ℕ, _+_, _≤_}
 use mathlib.Core.List.{List}
 use mathlib.Core.Path.{_≡_}

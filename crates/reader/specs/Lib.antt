@@ -4,3 +4,4 @@ pub mod Tables
 pub mod Lines
 pub mod Laying
 pub mod InnerPromises
+pub mod InnerTaking

@@ -46,9 +46,9 @@ unfoldable pub afterSize : Read ℕ → Progress
 afterSize fault = refused Text
 afterSize (found n at) = tested (lowest (sizeTest n ∷ [])) (defined (algebraOf n [] []) at)
 
--- the text's size line, at its start
-unfoldable pub sized : List ℕ → Progress
-sized text = afterSize (sizeLine text 0)
+-- the size line at a place
+unfoldable pub sized : List ℕ → ℕ → Progress
+sized text at = afterSize (sizeLine text at)
 
 -- the arity of an operation line and the gap after it, behind `[op`
 unfoldable pub arity : Reader ℕ
@@ -105,24 +105,18 @@ pub data Request : Type 0 where
   separate : ℕ → ℕ → Request
   decompose : Request
 
--- the rest of a line behind its word: any count of items, each after a gap
-unfoldable pub listing : Reader (List ℕ) → Reader (List ℕ)
-listing item = do
+-- any count of items, each after a gap, to the line's end
+unfoldable pub itemsToEnd : Reader (List ℕ) → Reader (List ℕ)
+itemsToEnd item = do
   xs ← items item
   close
   done xs
 
--- pairs, to the line's end
-unfoldable pub generating : Reader Request
-generating = do
-  ps ← listing pair
-  done (generate ps)
-
--- numbers, to the line's end
-unfoldable pub containing : Reader Request
-containing = do
-  xs ← listing cell
-  done (contained xs)
+-- a request over such items
+unfoldable pub asksWith : (List ℕ → Request) → Reader (List ℕ) → Reader Request
+asksWith ask item = do
+  xs ← itemsToEnd item
+  done (ask xs)
 
 -- two numbers, to the line's end
 unfoldable pub twoNumbers : Reader Request
@@ -135,7 +129,7 @@ twoNumbers = do
 -- a request line: `[generate [0 2]]`, `[contained 0 0 0 3]`, `[separate 0 2]` or `[decompose]`
 unfoldable pub request : Reader Request
 request =
-    opened (ascii "[generate") generating
-    (opened (ascii "[contained") containing
+    opened (ascii "[generate") (asksWith generate pair)
+    (opened (ascii "[contained") (asksWith contained cell)
     (opened (ascii "[separate") twoNumbers
     (opened (ascii "[decompose]\n") (done decompose) failed)))

@@ -1,5 +1,6 @@
-// Reading bracket text: numbers and tables, the lines of an algebra, and requests.
+// Reading bracket text: numbers and tables, the lines of an algebra, taken one by one, and requests.
 
 pub mod lines;
 pub mod reading;
 pub mod requests;
+pub mod taking;

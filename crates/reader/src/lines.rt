@@ -4,14 +4,14 @@ use crate::reading::begins_with;
 use crate::reading::gap_end;
 use crate::reading::read_number;
 use crate::reading::read_table;
+use equivalence::checks::all_below;
 ghost use mathlib.Core.Path.{_≡_};
 ghost use Prim.Native.Nat.{_+_, _^_, _≤_, _<_};
 ghost use lib.ListN.{length};
-ghost use lib.Dec.{ltb};
-ghost use Rattle.equivalence.specs.Lists.{every};
+ghost use Rattle.kernel.specs.InnerKernel.{bit};
 ghost use Rattle.equivalence.specs.Refusal.{lowest};
 ghost use Rattle.reader.specs.Lines.{spacedNumber, sizeLine, arity, operationTests};
-ghost use Rattle.reader.specs.InnerPromises.{passing, NumberRead, Roomy, TableRead, OperationRead};
+ghost use Rattle.reader.specs.InnerPromises.{passes, NumberRead, RoomFor, RoomForCells, TableRead, OperationRead};
 
 // What an operation line came to: its arity, the place after it, and how many cells there are with its own; or a refusal.
 pub struct OperationLine {
@@ -94,32 +94,18 @@ fn read_arity(text: &[u8], at: usize) -> Number
 fn check_operation(n: u8, operations: usize, cells: usize, s: u8) -> equivalence::Check
     requires { ⌜ (n ≤ 64) × ((operations ≤ 16) × (cells < 2 ^ 63)) ⌝ }
     ensures { λ r. ⌜ r ≡ lowest (operationTests n operations cells s) ⌝ }
-    ensures few { λ r. ⌜ operations + passing r ≤ 16 ⌝ }
+    ensures few { λ r. ⌜ operations + bit (passes r) ≤ 16 ⌝ }
 {
-    if 16 < operations + 1 {
+    if algebra::MAX_OPERATIONS < operations + 1 {
         return equivalence::Check::Failed(equivalence::Refusal::Operations);
     }
-    if 3 < s {
+    if algebra::MAX_ARITY < s {
         return equivalence::Check::Failed(equivalence::Refusal::Arity);
     }
-    if 32768 < cells + algebra::power(n as usize, s as usize) {
+    if algebra::MAX_CELLS < cells + algebra::power(n as usize, s as usize) {
         return equivalence::Check::Failed(equivalence::Refusal::Cells);
     }
     equivalence::Check::Passed
-}
-
-// Whether every cell is below n.
-fn all_below(cells: &[u8], n: u8) -> bool
-    ensures { λ r. ⌜ r ≡ every (λ c. ltb c n) (now (cells .entry)) ⌝ }
-{
-    let mut i = 0;
-    while i < cells.len() {
-        if n <= cells[i] {
-            return false;
-        }
-        i += 1;
-    }
-    true
 }
 
 // The table of an operation line, to the line's end: 14, then 6.
@@ -131,7 +117,7 @@ fn read_last_table(
     cells: &mut [u8],
     put: usize,
 ) -> OperationLine
-    requires { ⌜ Roomy (now text) at (now cells) put ⌝ }
+    requires { ⌜ RoomFor (n ^ s) (now text) at (now cells) put ⌝ }
     requires { ⌜ 0 < n ⌝ }
     ensures { λ r. ⌜ TableRead (now (text .entry)) at s n (now (cells .entry)) put (now (cells .exit)) r ⌝ }
 {
@@ -154,7 +140,7 @@ fn read_last_table(
             cells: put,
         };
     }
-    if !all_below(&cells[put..end], n) {
+    if !all_below(n as usize, &cells[put..end]) {
         return OperationLine {
             check: equivalence::Check::Failed(equivalence::Refusal::Cell),
             arity: s,
@@ -179,10 +165,10 @@ pub fn read_operation(
     cells: &mut [u8],
     put: usize,
 ) -> OperationLine
-    requires { ⌜ Roomy (now text) at (now cells) put ⌝ }
+    requires { ⌜ RoomForCells (now text) at (now cells) put ⌝ }
     requires { ⌜ (0 < n) × ((n ≤ 64) × (operations ≤ 16)) ⌝ }
     ensures { λ r. ⌜ OperationRead (now (text .entry)) at n operations (now (cells .entry)) put (now (cells .exit)) r ⌝ }
-    ensures few { λ r. ⌜ operations + passing (r .check) ≤ 16 ⌝ }
+    ensures few { λ r. ⌜ operations + bit (passes (r .check)) ≤ 16 ⌝ }
 {
     let s = read_arity(text, at);
     let arity = s.value;

@@ -1,11 +1,11 @@
 // Reading bracket text by places. Past the end of a text every byte counts as 0, which no form has.
 ghost use mathlib.Core.Path.{_≡_};
-ghost use Prim.Native.Nat.{_+_, _-_, _≤_, _<_};
+ghost use Prim.Native.Nat.{_+_, _-_, _*_, _^_, _≤_, _<_};
 ghost use lib.ListN.{length};
 ghost use Rattle.reader.specs.Reading.{byteAt, begins};
 ghost use Rattle.reader.specs.Numbers.{digitAt, number};
 ghost use Rattle.reader.specs.Tables.{cell, table, parted, items};
-ghost use Rattle.reader.specs.InnerPromises.{GapRead, NumberRead, Roomy, Stored};
+ghost use Rattle.reader.specs.InnerPromises.{GapRead, NumberRead, RoomFor, RoomForText, StoredBy};
 
 // A number that was read, and the place after it; where `ok` is false, nothing.
 pub struct Number {
@@ -117,10 +117,10 @@ pub fn read_number(text: &[u8], at: usize) -> Number
     }
 }
 
-// A number, stored as one byte. The storage has room for as many bytes as the text has left.
+// A number, stored as one byte.
 fn read_cell(text: &[u8], at: usize, cells: &mut [u8], put: usize) -> Spot
-    requires { ⌜ Roomy (now text) at (now cells) put ⌝ }
-    ensures { λ r. ⌜ Stored (now (text .entry)) at (now (cells .entry)) put (cell (now (text .entry)) at) (now (cells .exit)) r ⌝ }
+    requires { ⌜ RoomFor 1 (now text) at (now cells) put ⌝ }
+    ensures { λ r. ⌜ StoredBy cell (text .entry) at (cells .entry) put (cells .exit) r ⌝ }
 {
     let v = read_number(text, at);
     let next = v.next;
@@ -137,9 +137,9 @@ fn read_cell(text: &[u8], at: usize, cells: &mut [u8], put: usize) -> Spot
 
 // A table of an arity: a number, or a bracket of n tables of the arity below.
 pub fn read_table(text: &[u8], at: usize, arity: u8, n: u8, cells: &mut [u8], put: usize) -> Spot
-    requires { ⌜ Roomy (now text) at (now cells) put ⌝ }
+    requires { ⌜ RoomFor (n ^ arity) (now text) at (now cells) put ⌝ }
     requires { ⌜ 0 < n ⌝ }
-    ensures { λ r. ⌜ Stored (now (text .entry)) at (now (cells .entry)) put (table n arity (now (text .entry)) at) (now (cells .exit)) r ⌝ }
+    ensures { λ r. ⌜ StoredBy (table n arity) (text .entry) at (cells .entry) put (cells .exit) r ⌝ }
 {
     if arity == 0 {
         return read_cell(text, at, cells, put);
@@ -181,9 +181,9 @@ fn read_rows(
     cells: &mut [u8],
     put: usize,
 ) -> Spot
-    requires { ⌜ Roomy (now text) at (now cells) put ⌝ }
+    requires { ⌜ RoomFor (left * n ^ (arity - 1)) (now text) at (now cells) put ⌝ }
     requires { ⌜ (0 < n) × ((0 < arity) × (0 < left)) ⌝ }
-    ensures { λ r. ⌜ Stored (now (text .entry)) at (now (cells .entry)) put (parted (table n (arity - 1)) left (now (text .entry)) at) (now (cells .exit)) r ⌝ }
+    ensures { λ r. ⌜ StoredBy (parted (table n (arity - 1)) left) (text .entry) at (cells .entry) put (cells .exit) r ⌝ }
 {
     let row = read_table(text, at, arity - 1, n, cells, put);
     let next = row.at;
@@ -215,9 +215,9 @@ fn read_rows(
 
 // Any count of tables of an arity, each after a gap.
 pub fn read_items(text: &[u8], at: usize, arity: u8, n: u8, cells: &mut [u8], put: usize) -> Spot
-    requires { ⌜ Roomy (now text) at (now cells) put ⌝ }
+    requires { ⌜ RoomForText (now text) at (now cells) put ⌝ }
     requires { ⌜ 0 < n ⌝ }
-    ensures { λ r. ⌜ Stored (now (text .entry)) at (now (cells .entry)) put (items (table n arity) (now (text .entry)) at) (now (cells .exit)) r ⌝ }
+    ensures { λ r. ⌜ StoredBy (items (table n arity)) (text .entry) at (cells .entry) put (cells .exit) r ⌝ }
 {
     let mut next = at;
     let mut so_far = put;

@@ -3,48 +3,33 @@ use crate::lines::read_spaced_number;
 use crate::reading::Spot;
 use crate::reading::begins_with;
 use crate::reading::read_items;
-ghost use mathlib.Core.Path.{_≡_};
-ghost use Prim.Native.Nat.{_+_, _≤_, _<_};
+ghost use Prim.Native.Nat.{_≤_, _<_};
 ghost use lib.ListN.{length};
 ghost use Rattle.reader.specs.Tables.{table};
-ghost use Rattle.reader.specs.Lines.{listing, twoNumbers, request, generating, containing};
-ghost use Rattle.kernel.specs.InnerKernel.{bit};
-ghost use Rattle.reader.specs.InnerPromises.{goesOn, Roomy, Stored, Requested, RequestRead};
+ghost use Rattle.reader.specs.Lines.{itemsToEnd, asksWith, twoNumbers, request};
+ghost use Rattle.reader.specs.InnerPromises.{RoomForText, StoredBy, requestOf, RequestedBy, RequestRead};
 
-// What a request asks: Generate or Contained with the numbers that were stored, Separate with two elements, Decompose; or nothing, where the line is faulty.
+// What a request asks: Generate or Contained with the numbers that were stored, Separate with two elements, Decompose.
 pub enum Asked {
     Generate,
     Contained,
     Separate(u8, u8),
     Decompose,
-    Nothing,
 }
 
-// A request, the place after it in the text, and the place after its numbers in the storage.
+// What is asked, the place after it in the text, and the place after its numbers in the storage; where `ok` is false, the line is faulty and nothing is asked.
 pub struct RequestLine {
+    pub ok: bool,
     pub asked: Asked,
     pub next: usize,
     pub end: usize,
 }
 
-// Whether something is asked, so that the run goes on.
-pub fn goes_on(asked: Asked) -> bool
-    ensures { λ r. ⌜ r ≡ goesOn asked ⌝ }
-{
-    match asked {
-        Asked::Generate => true,
-        Asked::Contained => true,
-        Asked::Separate(_, _) => true,
-        Asked::Decompose => true,
-        Asked::Nothing => false,
-    }
-}
-
 // Any count of tables of an arity, each after a gap, to the line's end.
-fn read_listing(text: &[u8], at: usize, arity: u8, n: u8, room: &mut [u8], put: usize) -> Spot
-    requires { ⌜ Roomy (now text) at (now room) put ⌝ }
+fn read_items_to_end(text: &[u8], at: usize, arity: u8, n: u8, room: &mut [u8], put: usize) -> Spot
+    requires { ⌜ RoomForText (now text) at (now room) put ⌝ }
     requires { ⌜ 0 < n ⌝ }
-    ensures { λ r. ⌜ Stored (now (text .entry)) at (now (room .entry)) put (listing (table n arity) (now (text .entry)) at) (now (room .exit)) r ⌝ }
+    ensures { λ r. ⌜ StoredBy (itemsToEnd (table n arity)) (text .entry) at (room .entry) put (room .exit) r ⌝ }
 {
     let items = read_items(text, at, arity, n, room, put);
     let next = items.at;
@@ -70,47 +55,26 @@ fn read_listing(text: &[u8], at: usize, arity: u8, n: u8, room: &mut [u8], put: 
     }
 }
 
-// Pairs, to the line's end.
-fn read_generate(text: &[u8], at: usize, room: &mut [u8], put: usize) -> RequestLine
-    requires { ⌜ Roomy (now text) at (now room) put ⌝ }
-    ensures { λ r. ⌜ Requested (now (text .entry)) at (now (room .entry)) put (generating (now (text .entry)) at) (now (room .exit)) r ⌝ }
+// A request over such tables.
+fn read_asking(
+    text: &[u8],
+    at: usize,
+    asked: Asked,
+    arity: u8,
+    n: u8,
+    room: &mut [u8],
+    put: usize,
+) -> RequestLine
+    requires { ⌜ RoomForText (now text) at (now room) put ⌝ }
+    requires { ⌜ 0 < n ⌝ }
+    ensures { λ r. ⌜ RequestedBy (asksWith (requestOf asked) (table n arity)) (text .entry) at (room .entry) put (room .exit) r ⌝ }
 {
-    let pairs = read_listing(text, at, 1, 2, room, put);
-    let next = pairs.at;
-    let end = pairs.put;
-    if !pairs.ok {
-        return RequestLine {
-            asked: Asked::Nothing,
-            next,
-            end,
-        };
-    }
+    let items = read_items_to_end(text, at, arity, n, room, put);
     RequestLine {
-        asked: Asked::Generate,
-        next,
-        end,
-    }
-}
-
-// The numbers of a map, to the line's end.
-fn read_contained(text: &[u8], at: usize, room: &mut [u8], put: usize) -> RequestLine
-    requires { ⌜ Roomy (now text) at (now room) put ⌝ }
-    ensures { λ r. ⌜ Requested (now (text .entry)) at (now (room .entry)) put (containing (now (text .entry)) at) (now (room .exit)) r ⌝ }
-{
-    let map = read_listing(text, at, 0, 1, room, put);
-    let next = map.at;
-    let end = map.put;
-    if !map.ok {
-        return RequestLine {
-            asked: Asked::Nothing,
-            next,
-            end,
-        };
-    }
-    RequestLine {
-        asked: Asked::Contained,
-        next,
-        end,
+        ok: items.ok,
+        asked,
+        next: items.at,
+        end: items.put,
     }
 }
 
@@ -120,7 +84,8 @@ fn read_separate(text: &[u8], at: usize, put: usize) -> RequestLine
     ensures { λ r. ⌜ RequestRead (now (text .entry)) at put (twoNumbers (now (text .entry)) at) r ⌝ }
 {
     let nothing = RequestLine {
-        asked: Asked::Nothing,
+        ok: false,
+        asked: Asked::Decompose,
         next: at,
         end: put,
     };
@@ -138,6 +103,7 @@ fn read_separate(text: &[u8], at: usize, put: usize) -> RequestLine
         return nothing;
     }
     RequestLine {
+        ok: true,
         asked: Asked::Separate(v.value, w.value),
         next: next + 2,
         end: put,
@@ -146,28 +112,29 @@ fn read_separate(text: &[u8], at: usize, put: usize) -> RequestLine
 
 // A request line.
 pub fn read_request(text: &[u8], at: usize, room: &mut [u8], put: usize) -> RequestLine
-    requires { ⌜ Roomy (now text) at (now room) put ⌝ }
-    ensures { λ r. ⌜ Requested (now (text .entry)) at (now (room .entry)) put (request (now (text .entry)) at) (now (room .exit)) r ⌝ }
-    ensures past { λ r. ⌜ at + bit (goesOn (r .asked)) ≤ r .next ⌝ }
+    requires { ⌜ RoomForText (now text) at (now room) put ⌝ }
+    ensures { λ r. ⌜ RequestedBy request (text .entry) at (room .entry) put (room .exit) r ⌝ }
 {
     if begins_with(text, at, b"[generate") {
-        return read_generate(text, at + 9, room, put);
+        return read_asking(text, at + 9, Asked::Generate, 1, 2, room, put);
     }
     if begins_with(text, at, b"[contained") {
-        return read_contained(text, at + 10, room, put);
+        return read_asking(text, at + 10, Asked::Contained, 0, 1, room, put);
     }
     if begins_with(text, at, b"[separate") {
         return read_separate(text, at + 9, put);
     }
     if begins_with(text, at, b"[decompose]\n") {
         return RequestLine {
+            ok: true,
             asked: Asked::Decompose,
             next: at + 12,
             end: put,
         };
     }
     RequestLine {
-        asked: Asked::Nothing,
+        ok: false,
+        asked: Asked::Decompose,
         next: at,
         end: put,
     }

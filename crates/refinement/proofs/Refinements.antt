@@ -15,16 +15,12 @@ use Rattle.algebra.specs.Congruence.{isCongruence}
 use Rattle.translation.specs.InnerTranslations.{result, Compatible, Refined}
 use Rattle.algebra.proofs.Accepted.{WellFormed}
 use Rattle.algebra.proofs.Congruences.{congruence-is, congruence-of}
-use Rattle.translation.proofs.Translations.{congruence-compatible, compatible-congruence}
+use Rattle.translation.proofs.Translations.{congruence-compatible, compatible-congruence, identity-compatible}
 use Rattle.refinement.specs.InnerSplitting.{Elements, Sifted, Lists, Split, Represented}
 use Rattle.kernel.proofs.Names.{names-one}
 use Rattle.refinement.proofs.Compatibility.{result-below}
 
--- the identity is compatible with every operation
-pub identity-compatible : (a : Algebra) (g : ℕ → ℕ) → ((x : ℕ) → x < a .size → g x ≡ x) → Compatible a g
-identity-compatible a g h x y lx ly p j l pre post s b d = ap (λ (z : ℕ). g (result a j (pre ++ (z ∷ post)))) (sym (h x lx) ∙ p ∙ h y ly)
-
--- so is a single block
+-- a single block is compatible with every operation
 whole-compatible : (a : Algebra) → WellFormed a → (g : ℕ → ℕ) → Canonical (a .size) g → names (a .size) g ≡ 1 → Compatible a g
 whole-compatible a w g c e x y lx ly p j l pre post s b d =
     names-one (a .size) g c e (result a j (pre ++ (x ∷ post))) (result-below a w j (pre ++ (x ∷ post)))

@@ -7,9 +7,7 @@ ghost use lib.ListN.{length};
 ghost use Rattle.equivalence.specs.Equivalence.{byte};
 ghost use Rattle.kernel.specs.InnerKernel.{bit, Listed};
 ghost use Rattle.refinement.specs.InnerSplitting.{Elements, lineAt, Keeps, KeepsOn, MapLent, OnLine, Broken, Alike, FirstsSeen, Sifted, Split};
-
-// No element was seen.
-const NONE: u8 = 64;
+use equivalence::lattice::NONE;
 
 // The first index from `start` on of an element whose image is in another block than the image of its block's smallest member, or `count`.
 fn broken_from(

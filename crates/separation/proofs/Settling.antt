@@ -1,7 +1,7 @@
 -- The search's steps: it starts at the identity, settles a pair (held, taken, passed, or skipped since one of its elements is no smallest member), and ends,
 -- once every row up to v is settled, with the greatest congruence inside "v's block and the rest" (004, Lemma 10).
 use Prim.Native.Nat.{ℕ, zero, suc, _+_, _-_, _*_, _≤_, _<_}
-use mathlib.Core.List.{List, _∷_, _++_}
+use mathlib.Core.List.{List}
 use mathlib.Core.Logic.{_⊎_, inl, inr}
 use mathlib.Core.Path.{_≡_, refl, sym, ap, subst, _∙_}
 use native.Mathlib.Decide.{decLt, ℕ-discrete}
@@ -13,7 +13,7 @@ use Rattle.kernel.specs.InnerKernel.{Within, Filled}
 use Rattle.equivalence.specs.Lists.{first}
 use Rattle.kernel.proofs.Kernels.{identity-canonical, identity-within}
 use Rattle.algebra.specs.Algebra.{Algebra}
-use Rattle.translation.specs.InnerTranslations.{result, Compatible, Closed, Refined}
+use Rattle.translation.specs.InnerTranslations.{Compatible, Closed, Refined}
 use Rattle.closure.specs.InnerStarts.{RefusedRightlyAbove}
 use Rattle.separation.specs.InnerSearch.{KeepsBefore, Before, Refused, Settled, TwoBlocks, Earliest, Rooms}
 
@@ -213,10 +213,6 @@ module _ (a : Algebra) (v w : ℕ) (f : ℕ → ℕ) where
   ]
 
 -- ---- the slices of the search
-
--- the identity holds no pair, and so is compatible with everything
-pub identity-compatible : (a : Algebra) (f : ℕ → ℕ) → ((x : ℕ) → x < a .size → f x ≡ x) → Compatible a f
-identity-compatible a f e x y lx ly q j l pre post s b c = ap (λ (z : ℕ). f (result a j (pre ++ (z ∷ post)))) (sym (e x lx) ∙ q ∙ e y ly)
 
 -- a slice that is copied whole
 pub copied-whole : (k : ℕ) (from to : List ℕ) {old : ℕ → ℕ} → length from ≡ k → length to ≡ k → Filled k (byte from) old (byte to) → to ≡ from

@@ -34,8 +34,9 @@ module _ (a : Algebra) (m : Map) where
         cong = q;
         apart = λ e. T-not (holds m p.0 p.1) (left (not (holds m p.0 p.1)) _ t) (holds-of m p.0 p.1 e);
         joined = λ c r h n.
-            elim (or-cases (inside (a .size) c m) (holds c p.0 p.1)
-            (implied (inside (a .size) m c) (inside (a .size) c m || holds c p.0 p.1) (of-every _ (congruences a) (right (not (holds m p.0 p.1)) _ t) c (member-congruences a c r)) (inside-of (a .size) m c h))) [
+            let each = of-every _ (congruences a) (right (not (holds m p.0 p.1)) _ t) c (member-congruences a c r) in
+            let larger = implied (inside (a .size) m c) (inside (a .size) c m || holds c p.0 p.1) each (inside-of (a .size) m c h) in
+            elim (or-cases (inside (a .size) c m) (holds c p.0 p.1) larger) [
               | inl s ↦ absurd (n (map-ext (a .size) c m (r .map) (q .map) (of-inside (a .size) c m s) h))
               | inr s ↦ of-holds c p.0 p.1 s
             ];
@@ -105,12 +106,22 @@ pub of-isIdentity-meets : (n : ℕ) (ms : List Map) → T (isIdentity n (meetAll
 of-isIdentity-meets n ms t x y l k h = of-isIdentity n (meetAll n ms) t x y l k (meetAll-holds n ms x y l k h)
 
 module _ (a : Algebra) (ms : List Map) where
+  -- the conditions but the last, as tests
+  abbrev congruent : Bool
+  congruent = every (λ m. isMap (a .size) m && isCongruence a m) ms
+
+  abbrev meet-is-identity : Bool
+  meet-is-identity = isIdentity (a .size) (meetAll (a .size) ms)
+
+  abbrev each-needed : Bool
+  each-needed = every (λ i. not (isIdentity (a .size) (meetAll (a .size) (without i ms)))) (upTo (length ms))
+
   pub certified-of : IsCertified a ms → T (certified a ms)
   unfolding certified
   certified-of c =
-      both (every (λ m. isMap (a .size) m && isCongruence a m) ms && isIdentity (a .size) (meetAll (a .size) ms) && every (λ i. not (isIdentity (a .size) (meetAll (a .size) (without i ms)))) (upTo (length ms))) _
-      (both (every (λ m. isMap (a .size) m && isCongruence a m) ms && isIdentity (a .size) (meetAll (a .size) ms)) _
-      (both (every (λ m. isMap (a .size) m && isCongruence a m) ms) _
+      both (congruent && meet-is-identity && each-needed) _
+      (both (congruent && meet-is-identity) _
+      (both congruent _
       (every-of _ ms (λ m i. let q = congruence-of a m (c .each m i) in both (isMap (a .size) m) (isCongruence a m) (q .map) (q .respects)))
       (isIdentity-meets (a .size) ms (c .meets)))
       (below-of (length ms) _ (λ i l. not-T (isIdentity (a .size) (meetAll (a .size) (without i ms))) (λ t. c .needed i l (of-isIdentity-meets (a .size) (without i ms) t)))))
@@ -119,23 +130,20 @@ module _ (a : Algebra) (ms : List Map) where
   pub of-certified : T (certified a ms) → IsCertified a ms
   unfolding certified
   of-certified t =
-      let one : Bool = every (λ m. isMap (a .size) m && isCongruence a m) ms in
-      let two-at-least : Bool = isIdentity (a .size) (meetAll (a .size) ms) in
-      let three : Bool = every (λ i. not (isIdentity (a .size) (meetAll (a .size) (without i ms)))) (upTo (length ms)) in
       let four : Bool = every (λ m. any (isMaximalFor a m) (pairs (a .size))) ms in
-      let t3 : T (one && two-at-least && three) = left (one && two-at-least && three) four t in
-      let t2 : T (one && two-at-least) = left (one && two-at-least) three t3 in
+      let t3 : T (congruent && meet-is-identity && each-needed) = left (congruent && meet-is-identity && each-needed) four t in
+      let t2 : T (congruent && meet-is-identity) = left (congruent && meet-is-identity) each-needed t3 in
       let each : (m : Map) → Member m ms → IsCongruence a m =
-      λ m i. let s = of-every (λ m. isMap (a .size) m && isCongruence a m) ms (left one two-at-least t2) m i in
+      λ m i. let s = of-every (λ m. isMap (a .size) m && isCongruence a m) ms (left congruent meet-is-identity t2) m i in
       congruence-is a m (record { map = left (isMap (a .size) m) (isCongruence a m) s; respects = right (isMap (a .size) m) (isCongruence a m) s }) in
       record {
         each = each;
-        meets = of-isIdentity-meets (a .size) ms (right one two-at-least t2);
+        meets = of-isIdentity-meets (a .size) ms (right congruent meet-is-identity t2);
         needed = λ i l h. T-not (isIdentity (a .size) (meetAll (a .size) (without i ms)))
-            (of-below (length ms) (λ i. not (isIdentity (a .size) (meetAll (a .size) (without i ms)))) (right (one && two-at-least) three t3) i l)
+            (of-below (length ms) (λ i. not (isIdentity (a .size) (meetAll (a .size) (without i ms)))) (right (congruent && meet-is-identity) each-needed t3) i l)
             (isIdentity-meets (a .size) (without i ms) h);
         maximal = λ m i.
-            let s = of-any (isMaximalFor a m) (pairs (a .size)) (of-every (λ m. any (isMaximalFor a m) (pairs (a .size))) ms (right (one && two-at-least && three) four t) m i) in
+            let s = of-any (isMaximalFor a m) (pairs (a .size)) (of-every (λ m. any (isMaximalFor a m) (pairs (a .size))) ms (right (congruent && meet-is-identity && each-needed) four t) m i) in
             let o = of-pairs (a .size) (s .0) (s .1) in
             (s .0 .0, s .0 .1, omega (arith, o .0, o .1), o .1, of-isMaximalFor a m (each m i) (s .0) (s .2));
       }

@@ -103,7 +103,9 @@ module _ (a : Algebra) (c : WellFormed a) where
 
   pub reducible-when : 2 ≤ a .size → ((m : Map) → Member m (gathered (a .size) a (whole (a .size))) → ¬ Discrete (a .size) m) → T (reducible a)
   unfolding reducible listed
-  reducible-when two h = not-T (every (isIdentity (a .size)) (listed a)) (λ t. go (listed a) (listed-law a c .meets) member (λ m i. of-isIdentity (a .size) m (of-every (isIdentity (a .size)) (listed a) t m i)))
+  reducible-when two h =
+      not-T (every (isIdentity (a .size)) (listed a)) (λ t.
+      go (listed a) (listed-law a c .meets) member (λ m i. of-isIdentity (a .size) m (of-every (isIdentity (a .size)) (listed a) t m i)))
     where
       member : (m : Map) → Member m (listed a) → Member m (gathered (a .size) a (whole (a .size)))
       member m i =

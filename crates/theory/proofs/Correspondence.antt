@@ -28,7 +28,8 @@ module _ (a : Algebra) (c : WellFormed a) (m : Map) (p : IsCongruence a m) where
           same = λ x l. holds-of d (smallest (a .size) m x) (smallest (a .size) m x) refl;
           swap = λ x y l k t. holds-of d (smallest (a .size) m y) (smallest (a .size) m x) (sym (of-holds d (smallest (a .size) m x) (smallest (a .size) m y) t));
           chain = λ x y z l k j t s.
-              holds-of d (smallest (a .size) m x) (smallest (a .size) m z) (of-holds d (smallest (a .size) m x) (smallest (a .size) m y) t ∙ of-holds d (smallest (a .size) m y) (smallest (a .size) m z) s);
+              holds-of d (smallest (a .size) m x) (smallest (a .size) m z)
+              (of-holds d (smallest (a .size) m x) (smallest (a .size) m y) t ∙ of-holds d (smallest (a .size) m y) (smallest (a .size) m z) s);
         }
 
     pub pushed-holds : (i j : ℕ) → i < blocks (a .size) m → j < blocks (a .size) m → Holds d (smallest (a .size) m i) (smallest (a .size) m j) → Holds (pushed d) i j
@@ -71,7 +72,8 @@ module _ (a : Algebra) (c : WellFormed a) (m : Map) (p : IsCongruence a m) where
         let o : Args (a .size) (f .arity) xs = args-map (blocks (a .size) m) (a .size) (f .arity) (smallest (a .size) m) (λ b z. smallest-below (a .size) m (p .map) b z .0) bs h in
         let t : Holds d (getD xs j 0) (smallest (a .size) m y) =
         ap (byte d) (map-at (smallest (a .size) m) bs j 0 0 (omega (arith, h .long))) ∙ of-pushed (getD bs j 0) y (h .below j l) k e in
-        let w : Holds d (value (a .size) f xs) (value (a .size) f (set xs j (smallest (a .size) m y))) = q .respects f i xs o j (smallest (a .size) m y) l (smallest-below (a .size) m (p .map) y k .0) t in
+        let w : Holds d (value (a .size) f xs) (value (a .size) f (set xs j (smallest (a .size) m y))) =
+        q .respects f i xs o j (smallest (a .size) m y) l (smallest-below (a .size) m (p .map) y k .0) t in
         pushed-holds _ _ (u .0) (v .0) (u .1 ∙ w ∙ ap (λ (z : List ℕ). byte d (value (a .size) f z)) (sym (map-set (smallest (a .size) m) bs j y)) ∙ sym (v .1))
 
     pub pushed-congruence : IsCongruence (quotient a m) (pushed d)
@@ -102,9 +104,9 @@ module _ (a : Algebra) (c : WellFormed a) (m : Map) (p : IsCongruence a m) where
       let r : IsCongruence a d = pulled-congruence a c m p e q in
       let above : Inside (a .size) m d = pulled-inside a c m p e q in
       let back : (i : ℕ) → i < blocks (a .size) m → byte e (blockOf m (smallest (a .size) m i)) ≡ byte e i = λ i l. ap (byte e) (block-smallest (a .size) m (p .map) i l) in
+      let least : ℕ → ℕ = smallest (a .size) m in
+      let low : (i : ℕ) → i < blocks (a .size) m → least i < a .size = λ i l. smallest-below (a .size) m (p .map) i l .0 in
       map-ext (blocks (a .size) m) (pushed d) e (pushed-congruence d r above .map) (q .map)
-      (λ i j l k g. sym (back i l)
-      ∙ of-pulled a c m p e q (smallest (a .size) m i) (smallest (a .size) m j) (smallest-below (a .size) m (p .map) i l .0) (smallest-below (a .size) m (p .map) j k .0) (of-pushed d r above i j l k g)
-      ∙ back j k)
+      (λ i j l k g. sym (back i l) ∙ of-pulled a c m p e q (least i) (least j) (low i l) (low j k) (of-pushed d r above i j l k g) ∙ back j k)
       (λ i j l k g. pushed-holds d r above i j l k
-      (pulled-holds a c m p e q (smallest (a .size) m i) (smallest (a .size) m j) (smallest-below (a .size) m (p .map) i l .0) (smallest-below (a .size) m (p .map) j k .0) (back i l ∙ g ∙ sym (back j k))))
+      (pulled-holds a c m p e q (least i) (least j) (low i l) (low j k) (back i l ∙ g ∙ sym (back j k))))

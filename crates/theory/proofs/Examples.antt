@@ -38,7 +38,9 @@ pub record Examples : Type 0 where
   pub divided : quotientCells u (0 ∷ 1 ∷ 0 ∷ 1 ∷ []) ≡ 1 ∷ 0 ∷ []
 
 pub examples : Examples
-unfolding upTo every any first holds concat mapOf keep maps namesOf blocks blockOf best meetAll inside same isIdentity isMap notLater notLaterOn pairs identity whole meet firstHeld isCongruence operations operationsOf cellCount arguments place value respects quotientCells quotientTable congruences holdsAll above generated contained separated added gathered pruned listed commonPair reducible certified isMaximalFor
+unfolding upTo every any first holds concat mapOf keep maps namesOf blocks blockOf best meetAll inside same isIdentity isMap notLater notLaterOn pairs
+    identity whole meet firstHeld isCongruence operations operationsOf cellCount arguments place value respects quotientCells quotientTable
+    congruences holdsAll above generated contained separated added gathered pruned listed commonPair reducible certified isMaximalFor
 examples =
     record {
       one = refl;

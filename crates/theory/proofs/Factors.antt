@@ -1,7 +1,9 @@
 -- Decompose's two loops: what `gathered` gathers and `pruned` leaves, and that the list is as demand 3 says.
 use Prim.Native.Nat.{ℕ, zero, suc, _+_, _≤_, _<_}
 use mathlib.Core.Bool.{true}
-use mathlib.Core.List.{List, [], _∷_, _++_, List·Memᴰ as Member, List·Memᴰ·head as here, List·Memᴰ·tail as there, List·Memᴰ·not-nil as not-nil, List·Memᴰ·cases-cons as cases-cons, List·Memᴰ·eq-of-singleton as eq-of-singleton, Memᴰ·append-left as append-left, append-assoc, append-nil}
+use mathlib.Core.List.{List, [], _∷_, _++_, append-assoc, append-nil, Memᴰ·append-left as append-left}
+use mathlib.Core.List.{List·Memᴰ as Member, List·Memᴰ·head as here, List·Memᴰ·tail as there, List·Memᴰ·not-nil as not-nil}
+use mathlib.Core.List.{List·Memᴰ·cases-cons as cases-cons, List·Memᴰ·eq-of-singleton as eq-of-singleton}
 use mathlib.Core.Logic.{inl, inr, _≢_}
 use mathlib.Core.Path.{_≡_, refl, sym, ap, subst, _∙_}
 use native.Mathlib.Decide.{decLt, ℕ-discrete}
@@ -95,7 +97,9 @@ pruned-law n kept [] h g =
 pruned-law n kept (m ∷ rest) h g =
     elim (T? (isIdentity n (meetAll n (kept ++ rest)))) [
       | yes t ↦ rw (pick-yes (isIdentity n (meetAll n (kept ++ rest))) (pruned n kept rest) (pruned n (kept ++ (m ∷ [])) rest) t)
-          (let less : Meets n (kept ++ rest) = of-meets n (kept ++ rest) (discrete-identity n (meetAll n (kept ++ rest)) (meetAll-map n (kept ++ rest)) (of-isIdentity n (meetAll n (kept ++ rest)) t)) in
+          (let all : Map = meetAll n (kept ++ rest) in
+          let less : Meets n (kept ++ rest) =
+          of-meets n (kept ++ rest) (discrete-identity n all (meetAll-map n (kept ++ rest)) (of-isIdentity n all t)) in
           let r = pruned-law n kept rest less
           (λ i l k. g i l (meets-more n (without i kept ++ rest) (without i kept ++ (m ∷ rest)) (member-insert (without i kept) rest m) k)) in
           record {

@@ -35,7 +35,9 @@ operationsOf-quotient n m [] cells = refl
 operationsOf-quotient n m (s ∷ rest) cells =
     let f : Operation = record { arity = s; table = take (n ^ s) cells } in
     let more : List ℕ = concat (map (quotientTable n m) (operationsOf n rest (drop (n ^ s) cells))) in
-    rw (take-at (quotientTable n m f) more (blocks n m ^ s) (quotientTable-long n m f), drop-at (quotientTable n m f) more (blocks n m ^ s) (quotientTable-long n m f), operationsOf-quotient n m rest (drop (n ^ s) cells))
+    let first : List ℕ = quotientTable n m f in
+    let long : length first ≡ blocks n m ^ s = quotientTable-long n m f in
+    rw (take-at first more (blocks n m ^ s) long, drop-at first more (blocks n m ^ s) long, operationsOf-quotient n m rest (drop (n ^ s) cells))
 
 pub operations-quotient : (a : Algebra) (m : Map) → operations (quotient a m) ≡ map (onBlocks (a .size) m) (operations a)
 unfolding operations quotient quotientCells

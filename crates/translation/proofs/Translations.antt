@@ -88,3 +88,7 @@ compatible-congruence a m p c = record {
       ∙ c (getD xs i 0) y (h .below i li) ly e j l pre post s (b .0) (b .1 .1)
       ∙ ap (byte m) (sym (value-result a j (pre ++ (y ∷ post)) ay)) ∙ ap (λ (z : List ℕ). byte m (value n (operationAt a j) z)) (sym t));
 }
+
+-- the identity holds no pair, and so is compatible with every operation
+pub identity-compatible : (a : Algebra) (f : ℕ → ℕ) → ((x : ℕ) → x < a .size → f x ≡ x) → Compatible a f
+identity-compatible a f e x y lx ly q j l pre post s b c = ap (λ (z : ℕ). f (result a j (pre ++ (z ∷ post)))) (sym (e x lx) ∙ q ∙ e y ly)

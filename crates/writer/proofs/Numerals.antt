@@ -40,9 +40,11 @@ two-stand : (text : List ℕ) (at a b : ℕ) → a ≡ digitAt text at → b ≡
 unfolding begins
 two-stand text at a b ea eb p h k =
     let v = 10 * a + b in
+    let tens = eq-eqb (byteAt text at) (48 + v / 10) (omega (arith, digit-byte text at (omega arith))) in
+    let ones = eq-eqb (byteAt text (at + 1)) (48 + v % 10) (omega (arith, digit-byte text (at + 1) (omega arith))) in
     rw (decimal-two v (omega arith) (omega arith)) (
       omega arith,
-      simp (eq-eqb (byteAt text at) (48 + v / 10) (omega (arith, digit-byte text at (omega arith))), eq-eqb (byteAt text (at + 1)) (48 + v % 10) (omega (arith, digit-byte text (at + 1) (omega arith)))),
+      simp (tens, ones),
       refl,
     )
 

@@ -162,7 +162,7 @@ pub part-more : (i count w : ℕ) → i < count → i * w + w ≤ count * w
 part-more i count w h = rw (← suc-mul i w) (mul-le-mul-right w h)
 
 -- the first i maps are written
-pub record Factored (lent : List ℕ) (put n : ℕ) (maps out : List ℕ) (at from i : ℕ) : Type 0 where
+pub record MapsWritten (lent : List ℕ) (put n : ℕ) (maps out : List ℕ) (at from i : ℕ) : Type 0 where
   pub place : from ≡ i * n
   pub short : at ≤ put + i * (4 * n + 2)
   pub laid : Laid lent put (bracketsUpTo n maps i) out at
@@ -173,18 +173,18 @@ pub record OneMore (n : ℕ) (maps out : List ℕ) (at from : ℕ) : Type 0 wher
   pub room : at + 4 * n + 2 ≤ length out
 
 module _ (lent : List ℕ) (put n : ℕ) (maps : List ℕ) where
-  pub factored-none : put ≤ length lent → Factored lent put n maps lent put 0 0
+  pub maps-written-none : put ≤ length lent → MapsWritten lent put n maps lent put 0 0
   unfolding bracketsUpTo upTo spacedBrackets
-  factored-none h = record { place = omega (arith, zero-mul n); short = omega arith; laid = laid-none lent put h }
+  maps-written-none h = record { place = omega (arith, zero-mul n); short = omega arith; laid = laid-none lent put h }
 
-  module _ (out : List ℕ) (at from i : ℕ) (p : Factored lent put n maps out at from i) where
-    pub factored-room : (count : ℕ) → i < count → put + count * (4 * n + 2) ≤ length lent → count * n ≤ length maps → OneMore n maps out at from
-    factored-room count h r s =
+  module _ (out : List ℕ) (at from i : ℕ) (p : MapsWritten lent put n maps out at from i) where
+    pub maps-written-room : (count : ℕ) → i < count → put + count * (4 * n + 2) ≤ length lent → count * n ≤ length maps → OneMore n maps out at from
+    maps-written-room count h r s =
         omega (arith, p .place, p .short, p .laid .long, part-more i count n h, part-more i count (4 * n + 2) h)
 
-    pub factored-more : (out′ : List ℕ) (at′ : ℕ) → Laid out at (spacedBrackets (take (from + n - from) (drop from maps) ∷ [])) out′ at′
-        → at′ ≤ at + 4 * length (take (from + n - from) (drop from maps)) + 2 → Factored lent put n maps out′ at′ (from + n) (i + 1)
-    factored-more out′ at′ q s =
+    pub maps-written-more : (out′ : List ℕ) (at′ : ℕ) → Laid out at (spacedBrackets (take (from + n - from) (drop from maps) ∷ [])) out′ at′
+        → at′ ≤ at + 4 * length (take (from + n - from) (drop from maps)) + 2 → MapsWritten lent put n maps out′ at′ (from + n) (i + 1)
+    maps-written-more out′ at′ q s =
         let e : from + n - from ≡ n = omega arith in
         record {
           place = rw (add-one i, suc-mul i n) (omega (arith, p .place));
@@ -194,9 +194,9 @@ module _ (lent : List ℕ) (put n : ℕ) (maps : List ℕ) where
               (laid-more lent put (bracketsUpTo n maps i) out at (spacedBrackets (take n (drop from maps) ∷ [])) out′ at′ (p .laid) (rw e at q));
         }
 
-    pub factored-all : (count : ℕ) → i ≤ count → count ≤ i → Laid lent put (spacedBrackets (map (stretch n maps) (upTo count))) out at
+    pub maps-written-all : (count : ℕ) → i ≤ count → count ≤ i → Laid lent put (spacedBrackets (map (stretch n maps) (upTo count))) out at
     unfolding bracketsUpTo
-    factored-all count l g = let e : i ≡ count = omega arith in rw e at (p .laid)
+    maps-written-all count l g = let e : i ≡ count = omega arith in rw e at (p .laid)
 
-    pub factored-short : (count : ℕ) → i ≤ count → count ≤ i → at ≤ put + count * (4 * n + 2)
-    factored-short count l g = let e : i ≡ count = omega arith in rw e at (p .short)
+    pub maps-written-short : (count : ℕ) → i ≤ count → count ≤ i → at ≤ put + count * (4 * n + 2)
+    maps-written-short count l g = let e : i ≡ count = omega arith in rw e at (p .short)

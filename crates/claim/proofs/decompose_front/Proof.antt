@@ -1,10 +1,5 @@
 -- `decompose_front`: the tables are the first cells, as many as `cell_count` says.
-use Prim.Native.Nat.{ℕ, _-_}
-use native.Mathlib.Omega.{arith}
-use mathlib.Core.Path.{_≡_, ap, _∙_}
-use lib.ListN.{take}
-use Rattle.algebra.specs.Algebra.{algebraOf, cellCount}
-use Rattle.congruence.specs.Calls.{decomposeCall}
+use Rattle.claim.proofs.Claims.{front-decomposed}
 use borrow.Author.Needs.{needs}
 use Rattle.claim.proofs.decompose_front.Statement.{statement}
 use Rattle.claim.proofs.decompose_front.Tie as tie
@@ -28,11 +23,7 @@ same-length : tie.Need-same-length
 same-length c = search needs
 
 returns : tie.Need-returns
-returns c =
-    let k = c .before .before .before .before .before .before .before .before .before in
-    let all : c .before .before .before .before .before .cell-count .result - 0 ≡ cellCount (k .args .b) (k .args .arities .now) = omega (arith, c .before .before .before .before .before .cell-count .ensures) in
-    c .before .before .decompose .ensures
-    ∙ ap (λ (count : ℕ). decomposeCall (algebraOf (k .args .b) (k .args .arities .now) (take count (k .args .tables .now))) (k .args .again .now)) all
+returns c = search front-decomposed
 
 pub decompose-front-spec : {M : Type 1} → statement M
 decompose-front-spec =

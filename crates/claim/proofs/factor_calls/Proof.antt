@@ -1,5 +1,4 @@
 -- `factor_calls`: Quotient gives blocks, and the last call is made; or it declines.
-use Rattle.algebra.specs.Algebra.{algebraOf}
 use Rattle.claim.proofs.Claims.{quotient-given, calls-given, calls-declined}
 use borrow.Author.Needs.{needs}
 use Rattle.claim.proofs.factor_calls.Statement.{statement}
@@ -15,7 +14,7 @@ cast-decompose-front : tie.Need-cast-decompose-front
 cast-decompose-front c = search needs
 
 decompose-front-requires : tie.Need-decompose-front-requires
-decompose-front-requires c κs = let k = c .before .before .before .before .before .before .before .before .before .before .before .before .before .before in quotient-given (algebraOf (k .args .n) (k .args .arities .now) (k .args .cells .now)) (k .args .map .now) (k .args .tables .now) (c .before .before .before .before .before .before .before .quotient .ensures) (c .before .before .before .divided .given .1)
+decompose-front-requires c κs = search quotient-given
 
 enum-known-divided-2 : tie.Need-enum-known-divided-2
 enum-known-divided-2 c = search needs
@@ -27,13 +26,13 @@ same-length-2 : tie.Need-same-length-2
 same-length-2 c = search needs
 
 returns : tie.Need-returns
-returns c = let k = c .before .before .before .before .before .before .before .before .before .before .before .before .before .before .before .before .before in calls-given (algebraOf (k .args .n) (k .args .arities .now) (k .args .cells .now)) (k .args .map .now) (k .args .tables .now, k .args .again .now) (c .before .before .before .before .before .before .before .before .before .before .quotient .ensures) (c .before .before .before .before .before .before .divided .given .1) (c .before .before .decompose-front .ensures)
+returns c = search calls-given
 
 same-length-3 : tie.Need-same-length-3
 same-length-3 c = search needs
 
 returns-2 : tie.Need-returns-2
-returns-2 c = let k = c .before .before .before .before .before .before .before .before .before .before .before .before in calls-declined (algebraOf (k .args .n) (k .args .arities .now) (k .args .cells .now)) (k .args .map .now) (k .args .tables .now, k .args .again .now) (c .before .before .before .before .before .quotient .ensures) (c .before .divided2 .given .1)
+returns-2 c = search calls-declined
 
 pub factor-calls-spec : {M : Type 1} → statement M
 factor-calls-spec =

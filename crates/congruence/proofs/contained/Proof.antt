@@ -1,7 +1,5 @@
-use mathlib.Core.Path.{refl, sym, _∙_}
-use Rattle.algebra.specs.Algebra.{algebraOf}
-use Rattle.congruence.specs.Calls.{containedCall}
-use Rattle.congruence.proofs.Serving.{of-containedTests, declined, granted}
+-- `contained`: a test declines, or the greatest congruence is written.
+use Rattle.congruence.proofs.Serving.{of-containedTests, tests-passed, contained-declined, contained-granted}
 use borrow.Author.Needs.{needs}
 use Rattle.congruence.proofs.contained.Statement.{statement}
 use Rattle.congruence.proofs.contained.Tie as tie
@@ -13,24 +11,19 @@ enum-known-check : tie.Need-enum-known-check
 enum-known-check c = search needs
 
 returns : tie.Need-returns
-unfolding containedCall
-returns c = declined _ _ _ _ _ _ (sym (c .before .check .given .1) ∙ c .before .before .before .contained-check .ensures)
+returns c = search contained-declined
 
 enum-told : tie.Need-enum-told
 enum-told c = search needs
 
 contained-into-requires : tie.Need-contained-into-requires
-contained-into-requires c κs =
-    let s = c .before .before .before .before .before .before .before .before in
-    let t = of-containedTests (algebraOf (s .args .n) (s .args .arities .now) (s .args .cells .now)) _ (s .args .map .now) (sym (c .before .enum-told .given .1) ∙ c .before .before .before .contained-check .ensures) in
-    (t .0, (t .1, t .2))
+contained-into-requires c κs = of-containedTests _ _ _ (search tests-passed)
 
 same-length : tie.Need-same-length
 same-length c = search needs
 
 returns-2 : tie.Need-returns-2
-unfolding containedCall
-returns-2 c = granted _ _ _ _ _ (sym (c .before .before .before .before .enum-told .given .1) ∙ c .before .before .before .before .before .before .contained-check .ensures) refl (c .before .before .contained-into .ensures)
+returns-2 c = search contained-granted
 
 pub contained-spec : {M : Type 1} → statement M
 contained-spec =

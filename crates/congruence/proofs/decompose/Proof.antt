@@ -1,10 +1,7 @@
 -- `decompose`: a test declines, or the answer and the bytes are what was found.
-use mathlib.Core.Path.{sym, _∙_}
 use borrow.Author.Needs.{needs}
-use Rattle.algebra.specs.Algebra.{algebraOf}
-use Rattle.congruence.proofs.Decomposing.{answer-factors, answer-irreducible}
-use Rattle.congruence.proofs.Serving.{of-decomposeTests, declined, granted}
-use Rattle.congruence.specs.Calls.{decomposeCall}
+use Rattle.congruence.proofs.Decomposing.{decompose-factors, decompose-irreducible}
+use Rattle.congruence.proofs.Serving.{of-decomposeTests, tests-passed, decompose-declined}
 use Rattle.congruence.proofs.decompose.Statement.{statement}
 use Rattle.congruence.proofs.decompose.Tie as tie
 
@@ -15,14 +12,13 @@ enum-known-check : tie.Need-enum-known-check
 enum-known-check c = search needs
 
 returns : tie.Need-returns
-unfolding decomposeCall
-returns c = declined _ _ _ _ _ _ (sym (c .before .check .given .1) ∙ c .before .before .before .decompose-check .ensures)
+returns c = search decompose-declined
 
 enum-told : tie.Need-enum-told
 enum-told c = search needs
 
 factors-requires : tie.Need-factors-requires
-factors-requires c κs = let s = c .before .before .before .before .before .before .before in of-decomposeTests (algebraOf (s .args .n) (s .args .arities .now) (s .args .cells .now)) _ (sym (c .before .enum-told .given .1) ∙ c .before .before .before .decompose-check .ensures)
+factors-requires c κs = of-decomposeTests _ _ (search tests-passed)
 
 enum-known-found : tie.Need-enum-known-found
 enum-known-found c = search needs
@@ -34,21 +30,13 @@ same-length : tie.Need-same-length
 same-length c = search needs
 
 returns-2 : tie.Need-returns-2
-unfolding decomposeCall
-returns-2 c =
-    let s = c .before .before .before .before .before .before .before .before .before .before .before .before .before in
-    let r = answer-factors (algebraOf (s .args .n) (s .args .arities .now) (s .args .cells .now)) (s .args .out .now) (c .before .before .before .before .before .factors .ensures) (c .before .found .given .1) in
-    granted _ _ _ _ _ (sym (c .before .before .before .before .before .before .before .enum-told .given .1) ∙ c .before .before .before .before .before .before .before .before .before .decompose-check .ensures) (r .0) (r .1)
+returns-2 c = search decompose-factors
 
 same-length-2 : tie.Need-same-length-2
 same-length-2 c = search needs
 
 returns-3 : tie.Need-returns-3
-unfolding decomposeCall
-returns-3 c =
-    let s = c .before .before .before .before .before .before .before .before .before .before .before .before .before in
-    let r = answer-irreducible (algebraOf (s .args .n) (s .args .arities .now) (s .args .cells .now)) (s .args .out .now) (c .before .before .before .before .before .factors .ensures) (c .before .found2 .given .1) in
-    granted _ _ _ _ _ (sym (c .before .before .before .before .before .before .before .enum-told .given .1) ∙ c .before .before .before .before .before .before .before .before .before .decompose-check .ensures) (r .0) (r .1)
+returns-3 c = search decompose-irreducible
 
 pub decompose-spec : {M : Type 1} → statement M
 decompose-spec =

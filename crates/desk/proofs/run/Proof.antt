@@ -4,13 +4,13 @@ use borrow.Author.Needs.{needs}
 use lib.ListN.{length}
 use Rattle.bracket.specs.Standings.{positionOf}
 use Rattle.bracket.proofs.Fills.{left}
-use Rattle.desk.proofs.Running.{Running, running-begins, part-next, part-within, count-fits, fill-nearer, running-on, running-ends}
+use Rattle.desk.proofs.Running.{RunWritten, run-written-begins, part-next, part-within, count-fits, fill-nearer, run-written-on, run-written-ends}
 use Rattle.desk.proofs.run.Statement.{statement}
 use Rattle.desk.proofs.run.Tie as tie
 
 abbrev Inv-loop : tie.InvT-loop
 Inv-loop text arities₀ room₀ out₀ standing₀ written₀ arities room out standing written =
-    Running text standing arities room out written × ((length arities ≡ length arities₀) × (length room ≡ length room₀))
+    RunWritten text standing arities room out written × ((length arities ≡ length arities₀) × (length room ≡ length room₀))
 
 abbrev μ-loop : tie.MeasureT-loop
 μ-loop text arities₀ room₀ out₀ standing₀ written₀ arities room out standing written = left text (positionOf standing arities room)
@@ -19,7 +19,7 @@ unread-requires : tie.Need-unread-requires Inv-loop μ-loop
 unread-requires c κs = search needs
 
 loop-holds : tie.Need-loop-holds Inv-loop μ-loop
-loop-holds c = (search running-begins, (refl, refl))
+loop-holds c = (search run-written-begins, (refl, refl))
 
 fill-requires : tie.Need-fill-requires Inv-loop μ-loop
 fill-requires c κs = search needs
@@ -43,7 +43,7 @@ loop-less : tie.Need-loop-less Inv-loop μ-loop
 loop-less c = search fill-nearer
 
 loop-again : tie.Need-loop-again Inv-loop μ-loop
-loop-again c = (search running-on, search needs)
+loop-again c = (search run-written-on, search needs)
 
 same-length : tie.Need-same-length Inv-loop μ-loop
 same-length c = search needs
@@ -55,7 +55,7 @@ same-length-3 : tie.Need-same-length-3 Inv-loop μ-loop
 same-length-3 c = search needs
 
 returns : tie.Need-returns Inv-loop μ-loop
-returns c = search running-ends
+returns c = search run-written-ends
 
 pub run-spec : {M : Type 1} → statement M
 run-spec =

@@ -5,10 +5,11 @@ use mathlib.Core.Path.{ap, _∙_}
 use native.Mathlib.Omega.{arith}
 use lib.ListN.{length-drop}
 use borrow.Author.Needs.{needs}
+use Rattle.equivalence.proofs.Laying.{rest-whole}
 use Rattle.equivalence.proofs.Meets.{meet-map}
 use Rattle.equivalence.specs.Equivalence.{meet}
 use Rattle.equivalence.specs.Lent.{written}
-use Rattle.maplist.proofs.MapLists.{begins-written, part-rest, copied-laid}
+use Rattle.maplist.proofs.MapLists.{begins-written, copied-laid}
 use Rattle.maplist.proofs.meet_back.Statement.{statement}
 use Rattle.maplist.proofs.meet_back.Tie as tie
 
@@ -24,7 +25,7 @@ part-meet-with-end c = search needs
 meet-with-requires : tie.Need-meet-with-requires
 meet-with-requires c κs =
     let k = c .before .before .before .before .before in
-    let e = part-rest (k .args .at) (k .args .maps .now) in
+    let e = rest-whole (k .args .at) (k .args .maps .now) in
     (k .pre .0, (rw (e, length-drop (k .args .at) (k .args .maps .now)) (omega arith), (k .pre .1 .1 .0, (rw e (k .pre .1 .1 .1 .1 .0), k .pre .1 .1 .1 .1 .1))))
 
 sub-copy : tie.Need-sub-copy
@@ -49,7 +50,7 @@ returns : tie.Need-returns
 returns c =
     let w = c .before .before .before .before .before .before .before .meet-with in
     let k = c .before .before .before .before .before .before .before .before .before .before .before .before .before in
-    let e = w .ensures ∙ ap (λ (m : List ℕ). written (meet (k .args .n) (k .args .met .now) m) (k .args .met .now)) (part-rest (k .args .at) (k .args .maps .now)) in
+    let e = w .ensures ∙ ap (λ (m : List ℕ). written (meet (k .args .n) (k .args .met .now) m) (k .args .met .now)) (rest-whole (k .args .at) (k .args .maps .now)) in
     let r = c .before .before .copy in
     let front = begins-written _ _ e (meet-map _ _ _) in
     (e, copied-laid (k .args .at) (k .args .suffixes .now) (r .last .1 .0) front (meet-map _ _ _) (k .pre .1 .1 .1 .0) (r .kept .1 .0) (r .ensures))

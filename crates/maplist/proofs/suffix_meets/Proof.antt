@@ -6,8 +6,8 @@ use native.Mathlib.Omega.{arith}
 use lib.ListN.{length}
 use borrow.Author.Needs.{needs}
 use borrow.Rule.Slice.PartMut.{putMid}
+use Rattle.equivalence.proofs.Laying.{laid-from}
 use Rattle.equivalence.specs.Equivalence.{whole}
-use Rattle.maplist.proofs.MapLists.{put-laid}
 use Rattle.maplist.proofs.Suffixes.{Suffixes, suffixes-start, suffixes-canonical, suffixes-all, suffixes-fits, suffixes-this, suffixes-more}
 use Rattle.maplist.proofs.suffix_meets.Statement.{statement}
 use Rattle.maplist.proofs.suffix_meets.Tie as tie
@@ -41,7 +41,7 @@ loop-holds c =
     let k = c .before .before .before .before .before .before .before .before .before .before .before in
     let at = k .args .count * k .args .n in
     let lent = k .args .suffixes .now in
-    let e = ap (putMid at (length lent - at) lent) (c .before .before .whole-into2 .ensures) ∙ put-laid at lent (whole (k .args .n)) (omega arith) in
+    let e = ap (putMid at (length lent - at) lent) (c .before .before .whole-into2 .ensures) ∙ laid-from at lent (whole (k .args .n)) (omega arith) in
     ((refl, refl), suffixes-start (k .args .suffixes .now) _ (k .pre .0) (k .pre .1 .1) (c .before .before .before .before .before .before .whole-into .ensures) e)
 
 sub-i : tie.Need-sub-i Inv-loop μ-loop

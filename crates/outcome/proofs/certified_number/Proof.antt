@@ -1,8 +1,5 @@
-use mathlib.Core.Path.{sym, ap, _∙_}
-use Rattle.equivalence.specs.Outcome.{packed}
-use Rattle.congruence.specs.Outcome.{certifiedOutcome}
-use Rattle.outcome.proofs.Numbers.{yes-outcome, no-outcome, certify-refused}
-use Rattle.congruence.specs.declared.Certified.{Certified}
+-- `certified_number`: by the cases of the answer, each by its law of Numbers.
+use Rattle.outcome.proofs.Numbers.{certified-yes, certified-no, certify-refused}
 use borrow.Author.Needs.{needs}
 use Rattle.outcome.proofs.certified_number.Statement.{statement}
 use Rattle.outcome.proofs.certified_number.Tie as tie
@@ -26,13 +23,13 @@ refused-requires : tie.Need-refused-requires
 refused-requires c κs = search needs
 
 returns : tie.Need-returns
-returns c = c .succeeded .ensures ∙ ap packed (sym yes-outcome) ∙ ap (λ (a : Certified). packed (certifiedOutcome a)) (sym (c .before .enum-told .given .1))
+returns c = search certified-yes
 
 returns-2 : tie.Need-returns-2
-returns-2 c = c .succeeded2 .ensures ∙ ap packed (sym no-outcome) ∙ ap (λ (a : Certified). packed (certifiedOutcome a)) (sym (c .before .enum-told2 .given .1))
+returns-2 c = search certified-no
 
 returns-3 : tie.Need-returns-3
-returns-3 c = c .refused .ensures ∙ ap packed (sym (certify-refused _)) ∙ ap (λ (a : Certified). packed (certifiedOutcome a)) (sym (c .before .before .answer .given .1))
+returns-3 c = search certify-refused
 
 pub certified-number-spec : {M : Type 1} → statement M
 certified-number-spec =

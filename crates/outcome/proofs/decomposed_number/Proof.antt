@@ -1,8 +1,5 @@
-use mathlib.Core.Path.{sym, ap, _∙_}
-use Rattle.equivalence.specs.Outcome.{packed}
-use Rattle.congruence.specs.Outcome.{decomposedOutcome}
-use Rattle.outcome.proofs.Numbers.{factors-outcome, decompose-refused, packed-irreducible}
-use Rattle.congruence.specs.declared.Decomposed.{Decomposed}
+-- `decomposed_number`: by the cases of the answer, each by its law of Numbers.
+use Rattle.outcome.proofs.Numbers.{factors-number, irreducible-number, decompose-refused}
 use borrow.Author.Needs.{needs}
 use Rattle.outcome.proofs.decomposed_number.Statement.{statement}
 use Rattle.outcome.proofs.decomposed_number.Tie as tie
@@ -41,15 +38,13 @@ refused-requires : tie.Need-refused-requires
 refused-requires c κs = search needs
 
 returns : tie.Need-returns
-returns c = c .succeeded .ensures ∙ ap packed (sym (factors-outcome _)) ∙ ap (λ (a : Decomposed). packed (decomposedOutcome a)) (sym (c .before .before .answer .given .1))
+returns c = search factors-number
 
 returns-2 : tie.Need-returns-2
-returns-2 c =
-    rw (c .before .wide .ensures, c .wide2 .ensures)
-    (sym (ap (λ (a : Decomposed). packed (decomposedOutcome a)) (c .before .before .before .answer2 .given .1) ∙ packed-irreducible _ _))
+returns-2 c = search irreducible-number
 
 returns-3 : tie.Need-returns-3
-returns-3 c = c .refused .ensures ∙ ap packed (sym (decompose-refused _)) ∙ ap (λ (a : Decomposed). packed (decomposedOutcome a)) (sym (c .before .before .answer3 .given .1))
+returns-3 c = search decompose-refused
 
 pub decomposed-number-spec : {M : Type 1} → statement M
 decomposed-number-spec =

@@ -1,8 +1,5 @@
-use mathlib.Core.Path.{sym, ap, _∙_}
-use Rattle.equivalence.specs.Outcome.{packed}
-use Rattle.congruence.specs.Outcome.{dividedOutcome}
-use Rattle.outcome.proofs.Numbers.{blocks-outcome, divide-refused}
-use Rattle.congruence.specs.declared.Divided.{Divided}
+-- `divided_number`: by the cases of the answer, each by its law of Numbers.
+use Rattle.outcome.proofs.Numbers.{blocks-number, divide-refused}
 use borrow.Author.Needs.{needs}
 use Rattle.outcome.proofs.divided_number.Statement.{statement}
 use Rattle.outcome.proofs.divided_number.Tie as tie
@@ -20,10 +17,10 @@ refused-requires : tie.Need-refused-requires
 refused-requires c κs = search needs
 
 returns : tie.Need-returns
-returns c = c .succeeded .ensures ∙ ap packed (sym (blocks-outcome _)) ∙ ap (λ (a : Divided). packed (dividedOutcome a)) (sym (c .before .before .answer .given .1))
+returns c = search blocks-number
 
 returns-2 : tie.Need-returns-2
-returns-2 c = c .refused .ensures ∙ ap packed (sym (divide-refused _)) ∙ ap (λ (a : Divided). packed (dividedOutcome a)) (sym (c .before .before .answer2 .given .1))
+returns-2 c = search divide-refused
 
 pub divided-number-spec : {M : Type 1} → statement M
 divided-number-spec =

@@ -1,8 +1,5 @@
-use mathlib.Core.Path.{sym, ap, _∙_}
-use Rattle.equivalence.specs.Outcome.{packed}
-use Rattle.congruence.specs.Outcome.{generatedOutcome}
-use Rattle.outcome.proofs.Numbers.{merges-outcome, generate-refused}
-use Rattle.congruence.specs.declared.Generated.{Generated}
+-- `generated_number`: by the cases of the answer, each by its law of Numbers.
+use Rattle.outcome.proofs.Numbers.{merges-number, generate-refused}
 use borrow.Author.Needs.{needs}
 use Rattle.outcome.proofs.generated_number.Statement.{statement}
 use Rattle.outcome.proofs.generated_number.Tie as tie
@@ -20,10 +17,10 @@ refused-requires : tie.Need-refused-requires
 refused-requires c κs = search needs
 
 returns : tie.Need-returns
-returns c = c .succeeded .ensures ∙ ap packed (sym (merges-outcome _)) ∙ ap (λ (a : Generated). packed (generatedOutcome a)) (sym (c .before .before .answer .given .1))
+returns c = search merges-number
 
 returns-2 : tie.Need-returns-2
-returns-2 c = c .refused .ensures ∙ ap packed (sym (generate-refused _)) ∙ ap (λ (a : Generated). packed (generatedOutcome a)) (sym (c .before .before .answer2 .given .1))
+returns-2 c = search generate-refused
 
 pub generated-number-spec : {M : Type 1} → statement M
 generated-number-spec =

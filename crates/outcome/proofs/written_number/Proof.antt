@@ -1,7 +1,5 @@
-use mathlib.Core.Path.{sym, ap, _∙_}
-use Rattle.equivalence.specs.Outcome.{packed, writtenOutcome}
-use Rattle.outcome.proofs.Numbers.{done-outcome, write-refused}
-use Rattle.equivalence.specs.declared.Written.{Written}
+-- `written_number`: by the cases of the answer, each by its law of Numbers.
+use Rattle.outcome.proofs.Numbers.{done-number, write-refused}
 use borrow.Author.Needs.{needs}
 use Rattle.outcome.proofs.written_number.Statement.{statement}
 use Rattle.outcome.proofs.written_number.Tie as tie
@@ -19,10 +17,10 @@ refused-requires : tie.Need-refused-requires
 refused-requires c κs = search needs
 
 returns : tie.Need-returns
-returns c = c .succeeded .ensures ∙ ap packed (sym done-outcome) ∙ ap (λ (a : Written). packed (writtenOutcome a)) (sym (c .before .enum-told .given .1))
+returns c = search done-number
 
 returns-2 : tie.Need-returns-2
-returns-2 c = c .refused .ensures ∙ ap packed (sym (write-refused _)) ∙ ap (λ (a : Written). packed (writtenOutcome a)) (sym (c .before .before .answer .given .1))
+returns-2 c = search write-refused
 
 pub written-number-spec : {M : Type 1} → statement M
 written-number-spec =

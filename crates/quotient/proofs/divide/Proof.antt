@@ -38,7 +38,8 @@ part-divide-tables-end c =
     let s = c .before .before .before .before .before .before .before .before .before .before .before in
     let a = algebraOf (s .args .n) (s .args .arities .now) (s .args .cells .now) in
     let ok = accepted-wellFormed a (s .pre .0) in
-    omega (arith, ok .most, c .before .before .before .before .number-blocks .ensures .count, blocks-le (s .args .n) (s .args .map .now), c .before .before .before .before .number-blocks .kept .1 .1 .1 .0)
+    let r = c .before .before .before .before .number-blocks in
+    omega (arith, ok .most, r .ensures .count, blocks-le (s .args .n) (s .args .map .now), r .kept .1 .1 .1 .0)
 
 divide-tables-requires : tie.Need-divide-tables-requires
 divide-tables-requires c κs =

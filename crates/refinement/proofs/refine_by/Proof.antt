@@ -12,7 +12,8 @@ use Rattle.refinement.specs.InnerSplitting.{Lists, Split}
 use Rattle.kernel.proofs.Names.{names-most, names-full}
 use Rattle.refinement.proofs.Splits.{split-none, split-more}
 use Rattle.refinement.proofs.Compatibility.{represented-again}
-use Rattle.refinement.proofs.Refinements.{identity-compatible, whole-refined, split-refined}
+use Rattle.refinement.proofs.Refinements.{whole-refined, split-refined}
+use Rattle.translation.proofs.Translations.{identity-compatible}
 use Rattle.refinement.proofs.refine_by.Statement.{statement}
 use Rattle.refinement.proofs.refine_by.Tie as tie
 

@@ -4,7 +4,8 @@ use native.Mathlib.Omega.{arith}
 use Rattle.algebra.proofs.Accepted.{accepted-wellFormed}
 use Rattle.closure.proofs.Collections.{collected-most}
 use Rattle.separation.proofs.TwoBlocks.{names-represent}
-use Rattle.separation.proofs.Settling.{settled-start, settled-end, refusals-none, identity-compatible, rooms-kept}
+use Rattle.translation.proofs.Translations.{identity-compatible}
+use Rattle.separation.proofs.Settling.{settled-start, settled-end, refusals-none, rooms-kept}
 use borrow.Author.Needs.{needs}
 use Rattle.separation.proofs.separate_in.Statement.{statement}
 use Rattle.separation.proofs.separate_in.Tie as tie

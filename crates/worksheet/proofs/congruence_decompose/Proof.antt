@@ -1,9 +1,6 @@
-use Prim.Native.Nat.{ℕ}
-use mathlib.Core.List.{List}
-use mathlib.Core.Path.{ap, _∙_}
-use Rattle.equivalence.specs.Outcome.{packed}
+-- `congruence_decompose`: the call's answer as a number, and its bytes.
 use Rattle.congruence.specs.Outcome.{decomposedOutcome}
-use Rattle.congruence.specs.declared.Decomposed.{Decomposed}
+use Rattle.worksheet.proofs.Packing.{packed-call}
 use borrow.Author.Needs.{needs}
 use Rattle.worksheet.proofs.congruence_decompose.Statement.{statement}
 use Rattle.worksheet.proofs.congruence_decompose.Tie as tie
@@ -18,9 +15,7 @@ same-length : tie.Need-same-length
 same-length c = search needs
 
 returns : tie.Need-returns
-returns c =
-    let e = c .before .before .before .decompose .ensures in
-    (c .decomposed-number .ensures ∙ ap (λ (r : Decomposed × List ℕ). packed (decomposedOutcome (r .0))) e, ap (λ (r : Decomposed × List ℕ). r .1) e)
+returns c = packed-call decomposedOutcome (c .before .before .before .decompose .ensures) (c .decomposed-number .ensures)
 
 pub congruence-decompose-spec : {M : Type 1} → statement M
 congruence-decompose-spec =

@@ -1,9 +1,6 @@
-use Prim.Native.Nat.{ℕ}
-use mathlib.Core.List.{List}
-use mathlib.Core.Path.{ap, _∙_}
-use Rattle.equivalence.specs.Outcome.{packed}
+-- `congruence_generate`: the call's answer as a number, and its bytes.
 use Rattle.congruence.specs.Outcome.{generatedOutcome}
-use Rattle.congruence.specs.declared.Generated.{Generated}
+use Rattle.worksheet.proofs.Packing.{packed-call}
 use borrow.Author.Needs.{needs}
 use Rattle.worksheet.proofs.congruence_generate.Statement.{statement}
 use Rattle.worksheet.proofs.congruence_generate.Tie as tie
@@ -18,9 +15,7 @@ same-length : tie.Need-same-length
 same-length c = search needs
 
 returns : tie.Need-returns
-returns c =
-    let e = c .before .before .before .generate .ensures in
-    (c .generated-number .ensures ∙ ap (λ (r : Generated × List ℕ). packed (generatedOutcome (r .0))) e, ap (λ (r : Generated × List ℕ). r .1) e)
+returns c = packed-call generatedOutcome (c .before .before .before .generate .ensures) (c .generated-number .ensures)
 
 pub congruence-generate-spec : {M : Type 1} → statement M
 congruence-generate-spec =

@@ -1,8 +1,6 @@
-use Prim.Native.Nat.{ℕ}
-use mathlib.Core.List.{List}
-use mathlib.Core.Path.{ap, _∙_}
-use Rattle.equivalence.specs.Outcome.{packed, writtenOutcome}
-use Rattle.equivalence.specs.declared.Written.{Written}
+-- `congruence_separate`: the call's answer as a number, and its bytes.
+use Rattle.equivalence.specs.Outcome.{writtenOutcome}
+use Rattle.worksheet.proofs.Packing.{packed-call}
 use borrow.Author.Needs.{needs}
 use Rattle.worksheet.proofs.congruence_separate.Statement.{statement}
 use Rattle.worksheet.proofs.congruence_separate.Tie as tie
@@ -17,9 +15,7 @@ same-length : tie.Need-same-length
 same-length c = search needs
 
 returns : tie.Need-returns
-returns c =
-    let e = c .before .before .before .separate .ensures in
-    (c .written-number .ensures ∙ ap (λ (r : Written × List ℕ). packed (writtenOutcome (r .0))) e, ap (λ (r : Written × List ℕ). r .1) e)
+returns c = packed-call writtenOutcome (c .before .before .before .separate .ensures) (c .written-number .ensures)
 
 pub congruence-separate-spec : {M : Type 1} → statement M
 congruence-separate-spec =

@@ -8,10 +8,10 @@ use Rattle.writer.proofs.write_spaced.Statement.{statement}
 use Rattle.writer.proofs.write_spaced.Tie as tie
 
 abbrev Inv-loop : tie.InvT-loop
-Inv-loop out₀ put m at₀ i₀ out at i = Spaced out₀ put m out at i
+Inv-loop m out₀ put at₀ i₀ out at i = Spaced out₀ put m out at i
 
 abbrev μ-loop : tie.MeasureT-loop
-μ-loop out₀ put m at₀ i₀ out at i = length m - i
+μ-loop m out₀ put at₀ i₀ out at i = length m - i
 
 loop-holds : tie.Need-loop-holds Inv-loop μ-loop
 loop-holds c = search spaced-start

@@ -3,7 +3,7 @@ use Prim.Native.Nat.{_+_, _≤_}
 use native.Mathlib.Omega.{arith}
 use lib.ListN.{length}
 use Rattle.bracket.proofs.Fills.{left}
-use Rattle.bracket.proofs.Gathering.{Gathered, gathered-none, gathered-more, gathered-over, gathered-short, gathered-fits, gathered-lent, line-less}
+use Rattle.bracket.proofs.Gathering.{LinesGathered, lines-gathered-none, lines-gathered-more, lines-gathered-over, lines-gathered-short, lines-gathered-fits, lines-gathered-lent, line-less}
 use Rattle.bracket.specs.Standings.{positionOf}
 use borrow.Author.Needs.{needs}
 use Rattle.bracket.proofs.run.gather.Statement.{statement}
@@ -11,13 +11,13 @@ use Rattle.bracket.proofs.run.gather.Tie as tie
 
 abbrev Inv-loop : tie.InvT-loop
 Inv-loop text arities₀ room₀ out₀ standing₀ put₀ arities room out standing put =
-    Gathered text standing₀ arities₀ room₀ out₀ standing arities room out put
+    LinesGathered text standing₀ arities₀ room₀ out₀ standing arities room out put
 
 abbrev μ-loop : tie.MeasureT-loop
 μ-loop text arities₀ room₀ out₀ standing₀ put₀ arities room out standing put = left text (positionOf standing arities room)
 
 loop-holds : tie.Need-loop-holds Inv-loop μ-loop
-loop-holds c = search gathered-none
+loop-holds c = search lines-gathered-none
 
 sub-if1 : tie.Need-sub-if1 Inv-loop μ-loop
 sub-if1 c = search needs
@@ -32,7 +32,7 @@ same-length-3 : tie.Need-same-length-3 Inv-loop μ-loop
 same-length-3 c = search needs
 
 returns : tie.Need-returns Inv-loop μ-loop
-returns c = search gathered-short
+returns c = search lines-gathered-short
 
 sub-line : tie.Need-sub-line Inv-loop μ-loop
 sub-line c = search needs
@@ -44,20 +44,20 @@ part-line-end : tie.Need-part-line-end Inv-loop μ-loop
 part-line-end c = search needs
 
 line-requires : tie.Need-line-requires Inv-loop μ-loop
-line-requires c κs = (search needs, (search gathered-lent, search needs))
+line-requires c κs = (search needs, (search lines-gathered-lent, search needs))
 
 add-put : tie.Need-add-put Inv-loop μ-loop
 add-put c =
     let k = c .before .before .before .before .before .before .before .before in
     let l = k .before .before .before .before .before .before in
-    let h : l .loop .put + k .line .result .wrote ≤ length (l .loop .out) = search gathered-fits in
+    let h : l .loop .put + k .line .result .wrote ≤ length (l .loop .out) = search lines-gathered-fits in
     omega (arith, l .loop .inv .laid .long, l .before .before .before .before .before .good)
 
 loop-less : tie.Need-loop-less Inv-loop μ-loop
 loop-less c = search line-less
 
 loop-again : tie.Need-loop-again Inv-loop μ-loop
-loop-again c = search gathered-more
+loop-again c = search lines-gathered-more
 
 same-length-4 : tie.Need-same-length-4 Inv-loop μ-loop
 same-length-4 c = search needs
@@ -69,7 +69,7 @@ same-length-6 : tie.Need-same-length-6 Inv-loop μ-loop
 same-length-6 c = search needs
 
 returns-2 : tie.Need-returns-2 Inv-loop μ-loop
-returns-2 c = search gathered-over
+returns-2 c = search lines-gathered-over
 
 pub gather-spec : {M : Type 1} → statement M
 gather-spec =

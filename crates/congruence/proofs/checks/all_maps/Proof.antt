@@ -14,7 +14,7 @@ abbrev μ-loop : tie.MeasureT-loop
 μ-loop n count maps i₀ at₀ i at = count - i
 
 loop-holds : tie.Need-loop-holds Inv-loop μ-loop
-loop-holds c = tested-none _ _ _ _ (c .before .pre)
+loop-holds c = search tested-none
 
 add-next : tie.Need-add-next Inv-loop μ-loop
 add-next c = omega (arith, tested-fits (c .before .loop .inv) (c .loop-test .taken))
@@ -32,7 +32,7 @@ is-map-requires : tie.Need-is-map-requires Inv-loop μ-loop
 is-map-requires c κs = search needs
 
 returns : tie.Need-returns Inv-loop μ-loop
-returns c = tested-fails (c .before .before .before .before .loop .inv) (c .before .before .before .loop-test .taken) (c .before .is-map .ensures) (c .if1 .taken)
+returns c = search tested-fails
 
 add-i : tie.Need-add-i Inv-loop μ-loop
 add-i c = search needs
@@ -41,10 +41,10 @@ loop-less : tie.Need-loop-less Inv-loop μ-loop
 loop-less c = search needs
 
 loop-again : tie.Need-loop-again Inv-loop μ-loop
-loop-again c = tested-more (c .before .before .before .before .loop .inv) (c .before .before .before .loop-test .taken) (c .before .is-map .ensures) (c .if1 .left)
+loop-again c = search tested-more
 
 returns-2 : tie.Need-returns-2 Inv-loop μ-loop
-returns-2 c = tested-all (c .before .loop .inv) (c .loop-test .left)
+returns-2 c = search tested-all
 
 pub all-maps-spec : {M : Type 1} → statement M
 all-maps-spec =

@@ -1,3 +1,4 @@
+-- `quotient_cells`: the cells over the map's names are those over its blocks.
 use Prim.Native.Nat.{ℕ}
 use mathlib.Core.Path.{ap, _∙_}
 use native.Mathlib.Omega.{arith}

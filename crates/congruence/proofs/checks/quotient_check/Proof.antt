@@ -1,12 +1,5 @@
-use mathlib.Core.Path.{sym, _∙_}
-use native.Mathlib.Omega.{arith}
-use borrow.Author.Tests.{not-false}
-use Rattle.equivalence.proofs.Maps.{of-isMap}
-use Rattle.equivalence.proofs.Refusals.{lowest-none, map-refused, map-passed}
-use Rattle.equivalence.proofs.Tests.{T-of}
-use Rattle.algebra.specs.Algebra.{algebraOf}
-use Rattle.algebra.proofs.Accepted.{accepted-wellFormed}
-use Rattle.congruence.proofs.Serving.{algebra-failed, algebra-passed, passed-accepted, measured-refused, measured-passed, congruence-refused, congruence-passed}
+-- `quotient_check`: the tests in turn, by the laws of Serving.
+use Rattle.congruence.proofs.Serving.{tests-in-turn, passed-accepted, passed-most, passed-operations, passed-arity, flag-map, flag-long}
 use borrow.Author.Needs.{needs}
 use Rattle.congruence.proofs.checks.quotient_check.Statement.{statement}
 use Rattle.congruence.proofs.checks.quotient_check.Tie as tie
@@ -18,7 +11,7 @@ enum-known-check : tie.Need-enum-known-check
 enum-known-check c = search needs
 
 returns : tie.Need-returns
-returns c = algebra-failed _ _ _ (sym (c .before .check2 .given .1) ∙ c .before .before .before .check .ensures)
+returns c = search tests-in-turn
 
 enum-told : tie.Need-enum-told
 enum-told c = search needs
@@ -27,34 +20,22 @@ is-map-requires : tie.Need-is-map-requires
 is-map-requires c κs = search needs
 
 returns-2 : tie.Need-returns-2
-returns-2 c = sym (algebra-passed _ _ (sym (c .before .before .enum-told .given .1) ∙ c .before .before .before .before .check .ensures) ∙ map-refused _ _ _ (c .before .is-map .ensures) (c .if1 .taken))
+returns-2 c = search tests-in-turn
 
 quotient-cells-requires : tie.Need-quotient-cells-requires
-quotient-cells-requires c κs =
-    let s = c .before .before .before .before .before .before .before .before in
-    let w = accepted-wellFormed _ (passed-accepted (algebraOf (s .args .n) (s .args .arities .now) (s .args .cells .now)) (c .before .before .enum-told .given .1) (c .before .before .before .before .check .ensures)) in
-    let p = of-isMap (s .args .n) (s .args .map .now) (T-of (sym (c .before .is-map .ensures) ∙ not-false _ (c .if1 .left))) in
-    (w .most, (w .operations, (w .arity, omega (arith, p .long))))
+quotient-cells-requires c κs = search (passed-most, passed-operations, passed-arity, flag-long)
 
 returns-3 : tie.Need-returns-3
-returns-3 c = sym (algebra-passed _ _ (sym (c .before .before .before .before .enum-told .given .1) ∙ c .before .before .before .before .before .before .check .ensures) ∙ map-passed _ _ _ (c .before .before .before .is-map .ensures) (c .before .before .if1 .left) ∙ measured-refused _ _ _ (c .before .quotient-cells .ensures) (c .if2 .taken))
+returns-3 c = search tests-in-turn
 
 is-congruence-requires : tie.Need-is-congruence-requires
-is-congruence-requires c κs =
-    let s = c .before .before .before .before .before .before .before .before .before .before in
-    (passed-accepted (algebraOf (s .args .n) (s .args .arities .now) (s .args .cells .now)) (c .before .before .before .before .enum-told .given .1) (c .before .before .before .before .before .before .check .ensures), T-of (sym (c .before .before .before .is-map .ensures) ∙ not-false _ (c .before .before .if1 .left)))
+is-congruence-requires c κs = search (passed-accepted, flag-map)
 
 returns-4 : tie.Need-returns-4
-returns-4 c =
-    sym
-    (algebra-passed _ _ (sym (c .before .before .before .before .before .before .enum-told .given .1) ∙ c .before .before .before .before .before .before .before .before .check .ensures) ∙ map-passed _ _ _ (c .before .before .before .before .before .is-map .ensures) (c .before .before .before .before .if1 .left)
-    ∙ measured-passed _ _ _ (c .before .before .before .quotient-cells .ensures) (c .before .before .if2 .left) ∙ congruence-refused _ _ _ (c .before .is-congruence .ensures) (c .if3 .taken))
+returns-4 c = search tests-in-turn
 
 returns-5 : tie.Need-returns-5
-returns-5 c =
-    sym
-    (algebra-passed _ _ (sym (c .before .before .before .before .before .before .enum-told .given .1) ∙ c .before .before .before .before .before .before .before .before .check .ensures) ∙ map-passed _ _ _ (c .before .before .before .before .before .is-map .ensures) (c .before .before .before .before .if1 .left)
-    ∙ measured-passed _ _ _ (c .before .before .before .quotient-cells .ensures) (c .before .before .if2 .left) ∙ congruence-passed _ _ _ (c .before .is-congruence .ensures) (c .if3 .left) ∙ lowest-none)
+returns-5 c = search tests-in-turn
 
 pub quotient-check-spec : {M : Type 1} → statement M
 quotient-check-spec =

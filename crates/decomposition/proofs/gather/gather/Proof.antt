@@ -9,13 +9,13 @@ use lib.ListN.{length, length-drop}
 use borrow.Author.Needs.{needs}
 use borrow.Author.Tests.{not-true, not-false}
 use borrow.Rule.Slice.PartMut.{same-len-mid}
+use Rattle.equivalence.proofs.Laying.{rest-whole}
 use Rattle.equivalence.proofs.Tests.{not-T-of, T-of}
 use Rattle.equivalence.specs.Equivalence.{byte, isIdentity}
 use Rattle.kernel.specs.InnerKernel.{Canonical}
 use Rattle.algebra.proofs.Accepted.{accepted-wellFormed}
 use Rattle.algebra.specs.Algebra.{algebraOf}
 use Rattle.decomposition.proofs.Gathering.{Collecting, collecting-start, collecting-canonical, collecting-few, collecting-long, collecting-fits, collecting-more, collecting-all, collecting-stop}
-use Rattle.maplist.proofs.MapLists.{part-rest}
 use Rattle.decomposition.proofs.gather.gather.Statement.{statement}
 use Rattle.decomposition.proofs.gather.gather.Tie as tie
 
@@ -52,7 +52,7 @@ add-requires c κs =
     let l = c .before .before .before .before .before .loop in
     let w = accepted-wellFormed _ (k .pre .0) in
     let fits = collecting-fits w (k .pre .1 .1 .1) (l .inv .1) (going (c .before .before .before .is-identity .ensures) (c .before .before .if1 .taken)) in
-    (k .pre .0, (omega (arith, l .inv .0), (collecting-canonical w (k .pre .1 .1 .1) (l .inv .1), (sym (c .before .before .before .is-identity .ensures) ∙ not-true (c .before .before .before .is-identity .result) (c .before .before .if1 .taken), rw (part-rest (l .at) (l .maps), length-drop (l .at) (l .maps)) (omega arith)))))
+    (k .pre .0, (omega (arith, l .inv .0), (collecting-canonical w (k .pre .1 .1 .1) (l .inv .1), (sym (c .before .before .before .is-identity .ensures) ∙ not-true (c .before .before .before .is-identity .result) (c .before .before .if1 .taken), rw (rest-whole (l .at) (l .maps), length-drop (l .at) (l .maps)) (omega arith)))))
 
 common-requires : tie.Need-common-requires Inv-loop μ-loop
 common-requires c κs =

@@ -1,13 +1,13 @@
--- `write_needed`: the laws of `Writing` start, keep and end the loop.
+-- `write_needed`: the laws of `NeededWritten` start, keep and end the loop.
 use Prim.Native.Nat.{_-_}
 use native.Mathlib.Omega.{arith}
 use borrow.Author.Needs.{needs}
-use Rattle.decomposition.proofs.Writing.{Writing, writing-none, writing-part, writing-fit, writing-more, writing-long, writing-all}
+use Rattle.decomposition.proofs.Writing.{NeededWritten, writing-none, writing-part, writing-fit, writing-more, writing-long, writing-all}
 use Rattle.decomposition.proofs.write.write_needed.Statement.{statement}
 use Rattle.decomposition.proofs.write.write_needed.Tie as tie
 
 abbrev Inv-loop : tie.InvT-loop
-Inv-loop n maps kept needed out₀ i₀ at₀ out i at = Writing n maps kept needed out₀ i at out
+Inv-loop n maps kept needed out₀ i₀ at₀ out i at = NeededWritten n maps kept needed out₀ i at out
 
 abbrev μ-loop : tie.MeasureT-loop
 μ-loop n maps kept needed out₀ i₀ at₀ out i at = kept - i

@@ -8,10 +8,10 @@ use Rattle.equivalence.proofs.checks.all_below.Statement.{statement}
 use Rattle.equivalence.proofs.checks.all_below.Tie as tie
 
 abbrev Inv-loop : tie.InvT-loop
-Inv-loop bytes n i₀ i = StartBelow bytes n i
+Inv-loop n bytes i₀ i = StartBelow bytes n i
 
 abbrev μ-loop : tie.MeasureT-loop
-μ-loop bytes n i₀ i = length bytes - i
+μ-loop n bytes i₀ i = length bytes - i
 
 loop-holds : tie.Need-loop-holds Inv-loop μ-loop
 loop-holds c = search start-below-none

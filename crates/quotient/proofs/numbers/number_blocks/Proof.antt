@@ -42,15 +42,12 @@ cast-names-2 c = search needs
 slice-write-names : tie.Need-slice-write-names Inv-loop μ-loop
 slice-write-names c = search needs
 
-cast-opened : tie.Need-cast-opened Inv-loop μ-loop
-cast-opened c = search needs
-
-opened-requires : tie.Need-opened-requires Inv-loop μ-loop
-opened-requires c κs = search needs
+self-named-requires : tie.Need-self-named-requires Inv-loop μ-loop
+self-named-requires c κs = search needs
 
 add-count : tie.Need-add-count Inv-loop μ-loop
 add-count c =
-    let s = c .before .before .before .before .before .before in
+    let s = c .before .before .before .before .before in
     omega (arith, bit-le (eqb (byte (s .before .before .before .before .args .map .now) (s .loop .x)) (s .loop .x)))
 
 add-x : tie.Need-add-x Inv-loop μ-loop
@@ -61,9 +58,10 @@ loop-less c = search needs
 
 loop-again : tie.Need-loop-again Inv-loop μ-loop
 loop-again c =
-    let s = c .before .before .before .before .before .before in
+    let test = c .before .before .before .before in
+    let s = test .before in
     let a = s .before .before .before .before in
-    numbering-more (s .loop .inv) (c .before .before .before .before .before .loop-test .taken) (a .pre .1 .0) (a .pre .1 .1 .0) (c .before .before .block-of .ensures) (c .opened .ensures)
+    numbering-more (s .loop .inv) (test .loop-test .taken) (a .pre .1 .0) (a .pre .1 .1 .0) (c .before .block-of .ensures) (c .self-named .ensures)
 
 same-length : tie.Need-same-length Inv-loop μ-loop
 same-length c = search needs
@@ -90,8 +88,7 @@ number-blocks-spec =
     slice-write-numbers-2
     cast-names-2
     slice-write-names
-    cast-opened
-    opened-requires
+    self-named-requires
     add-count
     add-x
     loop-less

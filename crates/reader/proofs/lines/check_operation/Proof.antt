@@ -1,6 +1,7 @@
 -- `lines::check_operation` meets its contract, by the laws of Judging.
 use native.Mathlib.Omega.{arith}
-use Rattle.reader.proofs.Judging.{power-small, above-operations, above-arity, above-cells, passed}
+use Rattle.reader.proofs.Judging.{above-operations, above-arity, above-cells, passed}
+use Rattle.algebra.proofs.Powers.{power-small}
 use borrow.Author.Needs.{needs}
 use Rattle.reader.proofs.lines.check_operation.Statement.{statement}
 use Rattle.reader.proofs.lines.check_operation.Tie as tie

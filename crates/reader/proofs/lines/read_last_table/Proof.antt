@@ -54,8 +54,8 @@ returns-3 c =
     (t .read-table .result) (t .read-table .ensures) (k .before .before .before .if1 .left) (k .before .begins-with .result) (k .before .begins-with .ensures) (k .if2 .left)
     (c .before .all-below .result) (c .before .all-below .ensures) (c .if3 .taken)
 
-add-t22 : tie.Need-add-t22
-add-t22 c = search needs
+add-t21 : tie.Need-add-t21
+add-t21 c = search needs
 
 same-length-4 : tie.Need-same-length-4
 same-length-4 c = search needs
@@ -87,6 +87,6 @@ read-last-table-spec =
     all-below-requires
     same-length-3
     returns-3
-    add-t22
+    add-t21
     same-length-4
     returns-4)

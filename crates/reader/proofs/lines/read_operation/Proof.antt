@@ -2,6 +2,7 @@
 use native.Mathlib.Omega.{arith}
 use Rattle.reader.proofs.Judging.{few-still}
 use Rattle.reader.proofs.Defining.{arity-faulty, operation-refused, operation-read}
+use Rattle.reader.proofs.RoomLeft.{room-for-table}
 use borrow.Author.Needs.{needs}
 use Rattle.reader.proofs.lines.read_operation.Statement.{statement}
 use Rattle.reader.proofs.lines.read_operation.Tie as tie
@@ -25,7 +26,7 @@ enum-told : tie.Need-enum-told
 enum-told c = search needs
 
 read-last-table-requires : tie.Need-read-last-table-requires
-read-last-table-requires c κs = search needs
+read-last-table-requires c κs = (search room-for-table, search needs)
 
 same-length : tie.Need-same-length
 same-length c = search needs

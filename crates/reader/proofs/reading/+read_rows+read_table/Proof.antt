@@ -5,7 +5,8 @@ use borrow.Author.Needs.{needs}
 use borrow.Author.Tests.{not-true, not-false}
 use native.Mathlib.Omega.{arith}
 use lib.ListN.{length}
-use Rattle.reader.proofs.Storing.{part-less, rows-fault, rows-last, rows-unparted, rows-more, table-cell, table-unopened, table-fault, table-unclosed, table-closed}
+use Rattle.reader.proofs.Storing.{rows-fault, rows-last, rows-unparted, rows-more, table-cell, table-unopened, table-fault, table-unclosed, table-closed}
+use Rattle.reader.proofs.RoomLeft.{part-less, room-cell, room-rows, room-row, room-rest}
 use Prim.Native.Nat.{ℕ, _+_, _-_, _*_, _<_}
 use borrow.Fn.Kinds.{In}
 use borrow.Fn.PlainCycle.{Measures, is, falls, and}
@@ -62,7 +63,7 @@ read-rows-read-table-requires : (t : ℕ) → read-rows-lts.Need-read-table-requ
 ) (read-rows-at t) read-rows.Post
 read-rows-read-table-requires t c κs =
     let a = c .before .before .before .args in
-    (omega (arith, part-less (a .arity) (length (now (a .text)) + 1) (omega arith)), search needs)
+    (omega (arith, part-less (a .arity) (length (now (a .text)) + 1) (omega arith)), (search room-row, omega arith))
 
 read-rows-same-length : (t : ℕ) → read-rows-lts.Need-same-length (
   read-table-below t,
@@ -152,7 +153,7 @@ read-rows-read-rows-requires : (t : ℕ) → read-rows-lts.Need-read-rows-requir
   read-rows-below t,
   read-rows.Post,
 ) (read-rows-at t) read-rows.Post
-read-rows-read-rows-requires t c κs = omega arith
+read-rows-read-rows-requires t c κs = (omega arith, (search (room-rest, not-false), omega arith))
 
 read-rows-same-length-4 : (t : ℕ) → read-rows-lts.Need-same-length-4 (
   read-table-below t,
@@ -182,7 +183,7 @@ read-table-read-cell-requires : (t : ℕ) → read-table-lts.Need-read-cell-requ
   read-rows-below t,
   read-rows.Post,
 ) (read-table-at t) read-table.Post
-read-table-read-cell-requires t c κs = search needs
+read-table-read-cell-requires t c κs = search room-cell
 
 read-table-same-length : (t : ℕ) → read-table-lts.Need-same-length (
   read-cell-reads.Asked,
@@ -245,7 +246,7 @@ read-table-read-rows-requires : (t : ℕ) → read-table-lts.Need-read-rows-requ
 read-table-read-rows-requires t c κs =
     let a = c .before .before .before .before .before .before .args in
     let l = within-text (now (a .text)) (a .at) (omega arith) in
-    omega arith
+    (omega arith, (search room-rows, omega arith))
 
 read-table-same-length-2 : (t : ℕ) → read-table-lts.Need-same-length-2 (
   read-cell-reads.Asked,

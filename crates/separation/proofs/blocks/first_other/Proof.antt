@@ -1,3 +1,4 @@
+-- `first_other`: the elements before q have the byte r.
 use Prim.Native.Nat.{ℕ, _≤_, _<_, _-_}
 use mathlib.Core.Path.{_≡_}
 use native.Mathlib.Omega.{arith}

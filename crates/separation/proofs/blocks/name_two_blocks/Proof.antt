@@ -1,3 +1,4 @@
+-- `name_two_blocks`: byte by byte, by the laws of what is filled.
 use Prim.Native.Nat.{_≤_, _-_}
 use mathlib.Core.Path.{_≡_, refl}
 use native.Mathlib.Omega.{arith}

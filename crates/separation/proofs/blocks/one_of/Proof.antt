@@ -1,3 +1,4 @@
+-- `one_of`: the test that is made.
 use mathlib.Core.Path.{sym}
 use Rattle.separation.proofs.TwoBlocks.{oneOf-same, oneOf-other}
 use Rattle.separation.proofs.blocks.one_of.Statement.{statement}

@@ -1,3 +1,4 @@
+-- `two_blocks`: the block of v keeps its name, and the rest is named by its smallest member.
 use native.Mathlib.Omega.{arith}
 use Rattle.separation.proofs.TwoBlocks.{painted-two, painted-canonical}
 use borrow.Author.Needs.{needs}

@@ -1,0 +1,97 @@
+-- Room in storage: for a part of what may come, further on in the text, and behind what was stored; for the cells, rows and tables of an operation.
+use Prim.Native.Nat.{ℕ, zero, suc, _+_, _-_, _*_, _^_, _≤_, _<_}
+use mathlib.Core.Bool.{Bool, true}
+use mathlib.Core.List.{List}
+use mathlib.Core.Path.{_≡_, refl, ap, sym, _∙_, subst}
+use native.Mathlib.Nat.{suc-mul, pow-zero, pow-succ'}
+use native.Mathlib.Numerals.{sub-one}
+use native.Mathlib.Omega.{arith}
+use lib.Dec.{T, ltb}
+use lib.ListN.{length}
+use Rattle.equivalence.specs.Lists.{every}
+use Rattle.equivalence.specs.Refusal.{lowest}
+use Rattle.equivalence.specs.declared.Check.{Check}
+use Rattle.equivalence.specs.declared.Check.the-variants.{Passed}
+use Rattle.reader.specs.Reading.{begins}
+use Rattle.reader.specs.Tables.{table}
+use Rattle.reader.specs.Lines.{arity, operationTests}
+use Rattle.reader.specs.Laying.{Laid}
+use Rattle.reader.specs.InnerPromises.{readOf, GapRead, NumberRead, RoomFor, RoomForCells, RoomForText, Stored}
+use Rattle.reader.specs.declared.reading.Number.{Number}
+use Rattle.reader.specs.declared.reading.Spot.{Spot}
+use Rattle.reader.proofs.Judging.{fitting}
+use Rattle.reader.proofs.Lengths.{IfFound, Long, table-long}
+use Rattle.reader.proofs.Words.{begins-within}
+
+-- a part less
+pub part-less : (k w : ℕ) → 0 < k → (k - 1) * w + w ≡ k * w
+part-less zero w h = absurd (omega arith)
+part-less (suc k) w h = rw (sub-one (suc k), suc-mul k w)
+
+module _ {need : ℕ} {text : List ℕ} {at : ℕ} {lent : List ℕ} {put : ℕ} (w : RoomFor need text at lent put) where
+  -- further on in the text, for no more cells
+  pub room-less : (next less : ℕ) → at ≤ next → next ≤ length text → less ≤ need → RoomFor less text next lent put
+  room-less next less l e h = record { within = e; start = w .start; fits = λ k a b. w .fits k (omega arith) (omega arith) }
+
+  -- behind what was stored, if that and what may come are no more than what might come before
+  pub room-on : (new after : List ℕ) (so-far next end less : ℕ) → Laid lent put new after so-far → so-far + at ≤ put + next → next ≤ end → end ≤ length text
+      → ((k : ℕ) → k ≤ less → k + end ≤ length text → length new + k ≤ need) → RoomFor less text end after so-far
+  room-on new after so-far next end less l p h e f =
+      record {
+        within = e;
+        start = omega (arith, l .within, l .long);
+        fits =
+            λ k a b.
+            omega (arith, w .fits (length new + k) (f k a b) (omega (arith, l .place)), l .place, l .long);
+      }
+
+-- behind a word that stands in the text
+pub room-behind : (word : List ℕ) → T (every (ltb 0) word) → {need : ℕ} {text : List ℕ} {at : ℕ} {lent : List ℕ} {put : ℕ} (b : Bool) → b ≡ begins text at word → b ≡ true
+    → RoomFor need text at lent put → RoomFor need text (at + length word) lent put
+room-behind word t {need} {text} {at} b e h w =
+    room-less w (at + length word) need (omega arith) (begins-within text word at t (w .within) (sym e ∙ h)) (omega arith)
+
+-- a table that was found has n^s cells
+table-count : (n s : ℕ) (text : List ℕ) (at : ℕ) (new : List ℕ) (next : ℕ) (ok : Bool) → table n s text at ≡ readOf ok new next → ok ≡ true → length new ≡ n ^ s
+table-count n s text at new next ok e h =
+    subst (λ r. IfFound (Long (n ^ s)) r) (e ∙ ap (λ (b : Bool). readOf b new next) h) (table-long n s text at)
+
+module _ (n s : ℕ) (text : List ℕ) (at : ℕ) (lent : List ℕ) (put : ℕ) where
+  -- a table of s 0 is one cell
+  pub room-cell : s ≡ 0 → RoomFor (n ^ s) text at lent put → RoomFor 1 text at lent put
+  room-cell e w = rw (e, pow-zero n) at w
+
+  -- a table of another s is n rows
+  pub room-rows : (s ≡ 0 → ⊥) → at < length text → RoomFor (n ^ s) text at lent put → RoomFor (n * n ^ (s - 1)) text (at + 1) lent put
+  room-rows h l w = room-less w (at + 1) (n * n ^ (s - 1)) (omega arith) (omega arith) (omega (arith, rows s h))
+    where
+      rows : (k : ℕ) → (k ≡ 0 → ⊥) → n ^ k ≡ n * n ^ (k - 1)
+      rows zero h = absurd (h refl)
+      rows (suc k) h = rw (sub-one (suc k)) (pow-succ' n k)
+
+  module _ (left : ℕ) (p : 0 < left) (w : RoomFor (left * n ^ (s - 1)) text at lent put) where
+    pub room-row : RoomFor (n ^ (s - 1)) text at lent put
+    room-row = room-less w at (n ^ (s - 1)) (omega arith) (w .within) (omega (arith, part-less left (n ^ (s - 1)) p))
+
+    -- behind one row there is room for the others
+    pub room-rest : (after : List ℕ) (r : Spot) → Stored text at lent put (table n (s - 1) text at) after r → r .ok ≡ true → (end : ℕ) → GapRead text (r .at) end
+        → RoomFor ((left - 1) * n ^ (s - 1)) text end after (r .put)
+    room-rest after r q e end g =
+        room-on w (q .new) after (r .put) (r .at) end ((left - 1) * n ^ (s - 1)) (q .laid) (q .paced) (g .reached .past) (g .reached .within)
+        (λ k a b. omega (arith, table-count n (s - 1) text at (q .new) (r .at) (r .ok) (q .value) e, part-less left (n ^ (s - 1)) p))
+
+-- where the tests of an operation line pass, there is room for its table
+pub room-for-table : (n operations : ℕ) (text : List ℕ) (at : ℕ) (lent : List ℕ) (put : ℕ) → RoomForCells text at lent put → (s : Number) → NumberRead text at (arity text at) s
+    → (c : Check) → c ≡ lowest (operationTests n operations put (s .value)) → c ≡ Passed → RoomFor (n ^ s .value) text (s .next) lent put
+room-for-table n operations text at lent put w s r c ec e =
+    room-less w (s .next) (n ^ s .value) (omega (arith, r .past)) (r .within) (omega (arith, fitting n operations put (s .value) (sym ec ∙ e) .room))
+
+-- behind some items of a list there is room for whatever comes
+pub room-for-item : (text : List ℕ) (at : ℕ) (lent : List ℕ) (put : ℕ) → RoomForText text at lent put → (new after : List ℕ) (so-far next end need : ℕ) → Laid lent put new after so-far
+    → so-far + at ≤ put + next → GapRead text next end → RoomFor need text end after so-far
+room-for-item text at lent put w new after so-far next end need l p g =
+    room-on w new after so-far next end need l p (g .reached .past) (g .reached .within) (λ k a b. omega (arith, l .place, g .reached))
+
+-- storage that is as long as the text has room for whatever comes, if no more is stored than is read
+pub room-of-text : (need : ℕ) (text : List ℕ) (at : ℕ) (lent : List ℕ) (put : ℕ) → at ≤ length text → put ≤ at → length text ≤ length lent → RoomFor need text at lent put
+room-of-text need text at lent put w p l = record { within = w; start = omega arith; fits = λ k a b. omega arith }
