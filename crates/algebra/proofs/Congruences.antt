@@ -72,8 +72,8 @@ congruence-of a m c =
 
 -- What goes by one argument at a time cites these two, and not the definition: every congruence does so, and in a well-formed algebra what does so is
 -- a congruence.
-pub respects-one : (a : Algebra) (m : Map) → IsCongruence a m → (f : Operation) → Member f (operations a) → OneByOne (a .size) m f
-respects-one a m c f i = c .respects f i
+pub respects-one : (a : Algebra) → WellFormed a → (m : Map) → IsCongruence a m → (f : Operation) → Member f (operations a) → OneByOne (a .size) m f
+respects-one a w m c f i = c .respects f i
 
 pub congruence-by-one : (a : Algebra) → WellFormed a → (m : Map) → IsMap (a .size) m → ((f : Operation) → Member f (operations a) → OneByOne (a .size) m f) → IsCongruence a m
 congruence-by-one a w m p h = record { map = p; respects = h }
@@ -180,7 +180,7 @@ module _ (a : Algebra) (c : WellFormed a) (d e : Map) (p : IsCongruence a d) (q 
           (from x y
           (s (value (a .size) f (set xs i x)) (value (a .size) f (set xs i y)) (value-below a c f m (set xs i x)) (value-below a c f m (set xs i y))
           (subst (λ (z : List ℕ). Holds g (value (a .size) f (set xs i x)) (value (a .size) f z)) (set-set xs i x y)
-          (respects-one a g r f m (set xs i x) (args-set (a .size) (f .arity) xs h i x j) i y l o
+          (respects-one a c g r f m (set xs i x) (args-set (a .size) (f .arity) xs h i x j) i y l o
           (rw (getD-set-same xs i x 0 (omega (arith, h .long))) t)))))
 
   pub join-congruence : IsCongruence a (join (a .size) d e)
@@ -190,7 +190,7 @@ module _ (a : Algebra) (c : WellFormed a) (d e : Map) (p : IsCongruence a d) (q 
       subst (λ (z : List ℕ). Holds (join (a .size) d e) (value (a .size) f z) (value (a .size) f (set xs i y))) (set-getD xs i 0)
       (along f m xs h i l (getD xs i 0) y (h .below i l) k g))
 
-module _ (a : Algebra) (m : Map) (c : IsCongruence a m) (f : Operation) (i : Member f (operations a)) where
+module _ (a : Algebra) (w : WellFormed a) (m : Map) (c : IsCongruence a m) (f : Operation) (i : Member f (operations a)) where
   many : (pre xs ys : List ℕ) → Args (a .size) (f .arity) (pre ++ xs) → length xs ≡ length ys → ((j : ℕ) → j < length ys → getD ys j 0 < a .size)
       → ((j : ℕ) → j < length xs → Holds m (getD xs j 0) (getD ys j 0)) → Holds m (value (a .size) f (pre ++ xs)) (value (a .size) f (pre ++ ys))
   many pre [] [] h e l g = refl
@@ -200,7 +200,7 @@ module _ (a : Algebra) (m : Map) (c : IsCongruence a m) (f : Operation) (i : Mem
       let k : length pre < f .arity = omega (arith, h .long, length-append pre (x ∷ xs)) in
       let b : y < a .size = l 0 (omega arith) in
       let one : Holds m (value (a .size) f (pre ++ (x ∷ xs))) (value (a .size) f (set (pre ++ (x ∷ xs)) (length pre) y)) =
-      respects-one a m c f i (pre ++ (x ∷ xs)) h (length pre) y k b (rw (getD-append-seam pre x xs 0) (g 0 (omega arith))) in
+      respects-one a w m c f i (pre ++ (x ∷ xs)) h (length pre) y k b (rw (getD-append-seam pre x xs 0) (g 0 (omega arith))) in
       let s : set (pre ++ (x ∷ xs)) (length pre) y ≡ (pre ++ (y ∷ [])) ++ xs = set-append-seam pre x xs y ∙ sym (append-snoc pre y xs) in
       let rest : Holds m (value (a .size) f ((pre ++ (y ∷ [])) ++ xs)) (value (a .size) f ((pre ++ (y ∷ [])) ++ ys)) =
       many (pre ++ (y ∷ [])) xs ys (subst (λ (z : List ℕ). Args (a .size) (f .arity) z) s (args-set (a .size) (f .arity) (pre ++ (x ∷ xs)) h (length pre) y b))

@@ -1,4 +1,5 @@
 pub mod Examples
+pub mod Testing
 pub mod Serving
 pub mod Decomposing
 pub mod Reasons

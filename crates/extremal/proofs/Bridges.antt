@@ -109,13 +109,13 @@ before-done n done rest p q e m b =
 pub earliest-separated : (a : Algebra) → WellFormed a → (v w : ℕ) (m : Map) → IsMap (a .size) m → Earliest a v w (byte m) → separated a v w ≡ m
 earliest-separated a c v w m p e =
     separated-is a v w m (record {
-      cong = compatible-congruence a m p (e .compatible);
+      cong = compatible-congruence a c m p (e .compatible);
       apart = e .apart;
       earliest = λ d q n. notLater-by m d (a .size) (λ done r rest s agree h.
           let i = of-pairs (a .size) r (subst (λ (l : List Pair). Member r l) (sym s) (append-right done (here refl))) in
           let among : (x y : ℕ) → x < y → y < a .size → Before x y (r .0) (r .1) → Member (x, y) done =
           λ x y l k b. before-done (a .size) done rest r (x, y) s (member-pairs (a .size) x y l k) b in
-          e .first (byte d) (congruence-compatible a d q) n (r .0) (r .1) (i .0) (i .1)
+          e .first (byte d) (congruence-compatible a c d q) n (r .0) (r .1) (i .0) (i .1)
           (λ x y l k b z. agree (x, y) (among x y l k b) .0 z)
           (λ x y l k b z. agree (x, y) (among x y l k b) .1 z)
           h);
@@ -129,7 +129,7 @@ module _ (a : Algebra) (c : WellFormed a) (l : List ℕ) (fits : a .size ≤ len
 
   front-congruence : Canonical (a .size) (byte l) → Compatible a (byte l) → IsCongruence a (take (a .size) l)
   front-congruence k h =
-      compatible-congruence a (take (a .size) l) (front-map (a .size) l fits k) (compatible-same a c (byte l) (byte (take (a .size) l)) (front-byte (a .size) l) h)
+      compatible-congruence a c (take (a .size) l) (front-map (a .size) l fits k) (compatible-same a c (byte l) (byte (take (a .size) l)) (front-byte (a .size) l) h)
 
   front-within : (k : ℕ → ℕ) → Within (a .size) (byte l) k → Within (a .size) (byte (take (a .size) l)) k
   front-within k h x y lx ly e = h x y lx ly (front-same x lx ∙ e ∙ sym (front-same y ly))
@@ -142,7 +142,7 @@ module _ (a : Algebra) (c : WellFormed a) (l : List ℕ) (fits : a .size ≤ len
         cong = front-congruence (h .canonical) (h .compatible);
         all = joins-holdsAll ps (take (a .size) l) (λ j k.
             sym (front-same (byte ps (2 * j)) (b (2 * j) (omega arith))) ∙ h .good j k ∙ front-same (byte ps (2 * j + 1)) (b (2 * j + 1) k));
-        least = λ d p t. front-within (byte d) (h .least (byte d) (congruence-compatible a d p) (holdsAll-joins ps d t));
+        least = λ d p t. front-within (byte d) (h .least (byte d) (congruence-compatible a c d p) (holdsAll-joins ps d t));
       })
 
   -- the least congruence above the first n bytes of a slice that holds one more pair
@@ -154,7 +154,7 @@ module _ (a : Algebra) (c : WellFormed a) (l : List ℕ) (fits : a .size ≤ len
         larger = λ p q lp lq e.
             sym (front-same p lp) ∙ h .good .0 p q lp lq (sym (front-byte (a .size) m p lp) ∙ e ∙ front-byte (a .size) m q lq) ∙ front-same q lq;
         new = sym (front-same x lx) ∙ h .good .1 ∙ front-same y ly;
-        least = λ d p i e. front-within (byte d) (h .least (byte d) (congruence-compatible a d p)
+        least = λ d p i e. front-within (byte d) (h .least (byte d) (congruence-compatible a c d p)
             (λ q r lq lr z. i q r lq lr (front-byte (a .size) m q lq ∙ z ∙ sym (front-byte (a .size) m r lr)), e));
       })
 
@@ -167,7 +167,7 @@ module _ (a : Algebra) (c : WellFormed a) (l : List ℕ) (fits : a .size ≤ len
         inside = front-within (byte e) (λ x y lx ly t. sym (copied x lx) ∙ h .within x y lx ly t ∙ copied y ly);
         greatest = λ d q i x y lx ly t.
             sym (front-same x lx)
-            ∙ h .greatest (byte d) (congruence-compatible a d q) (λ x y lx ly t. copied x lx ∙ i x y lx ly t ∙ sym (copied y ly)) x y lx ly t
+            ∙ h .greatest (byte d) (congruence-compatible a c d q) (λ x y lx ly t. copied x lx ∙ i x y lx ly t ∙ sym (copied y ly)) x y lx ly t
             ∙ front-same y ly;
       })
 

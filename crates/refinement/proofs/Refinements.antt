@@ -94,11 +94,11 @@ inside-congruence a w m k f t e r =
     let p = of-isMap (a .size) m t in
     same-tests (inside (a .size) m k) (isCongruence a m)
     (λ q. congruence-of a m
-    (compatible-congruence a m p
+    (compatible-congruence a w m p
     (compatible-same a w f (byte m) (λ x l. sym (e x l))
     (inside-compatible a w f (byte k) r (λ x y lx ly i. of-inside (a .size) m k q x y lx ly (sym (e x lx) ∙ i ∙ e y ly)))))
     .respects)
     (λ q. inside-of (a .size) m k
     (λ x y lx ly i.
-    r .greatest f (compatible-same a w (byte m) f e (congruence-compatible a m (congruence-is a m (record { map = t; respects = q }))))
+    r .greatest f (compatible-same a w (byte m) f e (congruence-compatible a w m (congruence-is a m (record { map = t; respects = q }))))
     (λ u v lu lv o. o) x y lx ly (e x lx ∙ i ∙ sym (e y ly))))

@@ -13,7 +13,7 @@ use Rattle.algebra.specs.Algebra.{Algebra, Operation, operations, value}
 use Rattle.algebra.specs.Congruence.{respects}
 use Rattle.algebra.proofs.Accepted.{WellFormed}
 use Rattle.algebra.proofs.Arguments.{Args, args-set, args-map}
-use Rattle.algebra.proofs.Congruences.{Respects, IsCongruence, value-below}
+use Rattle.algebra.proofs.Congruences.{Respects, IsCongruence, value-below, respects-one}
 use Rattle.theory.proofs.Quotients.{onBlocks, operations-quotient, block-value, pulled, pulled-holds, of-pulled, pulled-inside, pulled-congruence}
 use Rattle.quotient.specs.Quotient.{quotientCells, quotient}
 
@@ -73,7 +73,7 @@ module _ (a : Algebra) (c : WellFormed a) (m : Map) (p : IsCongruence a m) where
         let t : Holds d (getD xs j 0) (smallest (a .size) m y) =
         ap (byte d) (map-at (smallest (a .size) m) bs j 0 0 (omega (arith, h .long))) ∙ of-pushed (getD bs j 0) y (h .below j l) k e in
         let w : Holds d (value (a .size) f xs) (value (a .size) f (set xs j (smallest (a .size) m y))) =
-        q .respects f i xs o j (smallest (a .size) m y) l (smallest-below (a .size) m (p .map) y k .0) t in
+        respects-one a c d q f i xs o j (smallest (a .size) m y) l (smallest-below (a .size) m (p .map) y k .0) t in
         pushed-holds _ _ (u .0) (v .0) (u .1 ∙ w ∙ ap (λ (z : List ℕ). byte d (value (a .size) f z)) (sym (map-set (smallest (a .size) m) bs j y)) ∙ sym (v .1))
 
     pub pushed-congruence : IsCongruence (quotient a m) (pushed d)

@@ -16,7 +16,7 @@ use Rattle.algebra.specs.Algebra.{Algebra, Operation, cellCount, operationsOf, 
 use Rattle.algebra.specs.Congruence.{respects}
 use Rattle.algebra.proofs.Accepted.{WellFormed}
 use Rattle.algebra.proofs.Arguments.{Args, args-set, arguments-long, place-law, args-map}
-use Rattle.algebra.proofs.Congruences.{IsCongruence, congruence-is, value-below, respects-all}
+use Rattle.algebra.proofs.Congruences.{IsCongruence, congruence-is, value-below, respects-one, respects-all}
 use Rattle.theory.specs.Splitting.{Splitting}
 use Rattle.theory.proofs.Separation.{MaximalFor}
 use Rattle.quotient.specs.Quotient.{quotientTable, quotientCells, quotient}
@@ -99,7 +99,7 @@ module _ (a : Algebra) (c : WellFormed a) (m : Map) (p : IsCongruence a m) where
       (omega (arith, q .0, arguments-long (blocks (a .size) m) (f .arity)))
       ∙ ap (λ (t : List ℕ). blockOf m (value (a .size) f (map (smallest (a .size) m) t))) (q .1)
       ∙ block-holds (a .size) m (p .map) (value (a .size) f (map (smallest (a .size) m) bs)) (value (a .size) f xs)
-      (respects-all a m p f i (map (smallest (a .size) m) bs) xs reps h
+      (respects-all a c m p f i (map (smallest (a .size) m) bs) xs reps h
       (λ j l. let x : ℕ = getD xs j 0 in
       let b : x < a .size = h .below j l in
       let e : getD bs j 0 ≡ blockOf m x = map-at (blockOf m) xs j 0 0 (omega (arith, h .long)) in
@@ -140,7 +140,7 @@ module _ (a : Algebra) (c : WellFormed a) (m : Map) (p : IsCongruence a m) where
         let n : Member g (operations (quotient a m)) = rw (operations-quotient a m) (member-map (onBlocks (a .size) m) i) in
         let at-j : getD bs j 0 ≡ blockOf m (getD xs j 0) = map-at (blockOf m) xs j 0 0 (omega (arith, h .long)) in
         let r : Holds d (value (blocks (a .size) m) g bs) (value (blocks (a .size) m) g (set bs j (blockOf m y))) =
-        q .respects g n bs (args-map (a .size) (blocks (a .size) m) (f .arity) (blockOf m) (block-below (a .size) m (p .map)) xs h) j (blockOf m y) l (block-below (a .size) m (p .map) y k)
+        respects-one (quotient a m) quotient-wellFormed d q g n bs (args-map (a .size) (blocks (a .size) m) (f .arity) (blockOf m) (block-below (a .size) m (p .map)) xs h) j (blockOf m y) l (block-below (a .size) m (p .map) y k)
         (ap (byte d) at-j ∙ of-pulled (getD xs j 0) y (h .below j l) k e) in
         let to : (zs : List ℕ) → Args (a .size) (f .arity) zs → byte d (value (blocks (a .size) m) g (map (blockOf m) zs)) ≡ byte d (blockOf m (value (a .size) f zs)) =
         λ zs z. ap (byte d) (block-value f i zs z) in

@@ -10,8 +10,9 @@ use Rattle.equivalence.specs.Equivalence.{Map, byte}
 use Rattle.equivalence.proofs.Maps.{Holds, IsMap}
 use Rattle.algebra.specs.Algebra.{Algebra, value}
 use Rattle.translation.specs.InnerTranslations.{AllBelow, result, Compatible}
+use Rattle.algebra.proofs.Accepted.{WellFormed}
 use Rattle.algebra.proofs.Arguments.{Args}
-use Rattle.algebra.proofs.Congruences.{Respects, IsCongruence, respects-one}
+use Rattle.algebra.proofs.Congruences.{OneByOne, IsCongruence, respects-one, congruence-by-one}
 use Rattle.algebra.proofs.Tables.{operationAt, operationAt-member, every-operation, value-at}
 
 -- a list whose members are below n, as an argument list, and back
@@ -56,8 +57,8 @@ arity-at : (a : Algebra) (j : ℕ) → operationAt a j .arity ≡ getD (a .ariti
 unfolding operationAt
 arity-at a j = refl
 
-pub congruence-compatible : (a : Algebra) (m : Map) → IsCongruence a m → Compatible a (byte m)
-congruence-compatible a m c x y lx ly e j l pre post s h k =
+pub congruence-compatible : (a : Algebra) → WellFormed a → (m : Map) → IsCongruence a m → Compatible a (byte m)
+congruence-compatible a w m c x y lx ly e j l pre post s h k =
     let n = a .size in
     let f = operationAt a j in
     let xs = pre ++ (x ∷ post) in
@@ -65,29 +66,27 @@ congruence-compatible a m c x y lx ly e j l pre post s h k =
     let ax : Args n (getD (a .arities) j 0) xs = args-around n (getD (a .arities) j 0) x pre post s lx h k in
     let ay : Args n (getD (a .arities) j 0) (pre ++ (y ∷ post)) = args-around n (getD (a .arities) j 0) y pre post s ly h k in
     let r : Holds m (value n f xs) (value n f (set xs (length pre) y)) =
-    respects-one a m c f (operationAt-member a j l) xs (rw (arity-at a j) ax) (length pre) y (rw (arity-at a j) (omega arith)) ly (rw (getD-append-seam pre x post 0) e) in
+    respects-one a w m c f (operationAt-member a j l) xs (rw (arity-at a j) ax) (length pre) y (rw (arity-at a j) (omega arith)) ly (rw (getD-append-seam pre x post 0) e) in
     ap (byte m) (sym (value-result a j xs ax)) ∙ r ∙ ap (λ (z : List ℕ). byte m (value n f z)) t ∙ ap (byte m) (value-result a j (pre ++ (y ∷ post)) ay)
 
 around : (xs : List ℕ) (i : ℕ) → i < length xs → xs ≡ take i xs ++ (getD xs i 0 ∷ drop (suc i) xs)
 around xs i l = sym (take-append-drop i xs) ∙ ap (λ (z : List ℕ). take i xs ++ z) (drop-cons xs i 0 l)
 
-pub compatible-congruence : (a : Algebra) (m : Map) → IsMap (a .size) m → Compatible a (byte m) → IsCongruence a m
-compatible-congruence a m p c = record {
-  map = p;
-  respects = every-operation a (Respects (a .size) m) (λ j l xs h i y li ly e.
-      let n = a .size in
-      let g : Args n (getD (a .arities) j 0) xs = rw (arity-at a j) at h in
-      let k : i < length xs = omega (arith, h .long) in
-      let pre = take i xs in
-      let post = drop (suc i) xs in
-      let b = below-append n pre (getD xs i 0 ∷ post) (subst (λ (z : List ℕ). AllBelow n z) (around xs i k) (args-below n (getD (a .arities) j 0) xs g)) in
-      let s : length pre + 1 + length post ≡ getD (a .arities) j 0 = rw (length-take i xs, length-drop (suc i) xs) (omega (arith, g .long)) in
-      let ay : Args n (getD (a .arities) j 0) (pre ++ (y ∷ post)) = args-around n (getD (a .arities) j 0) y pre post s ly (b .0) (b .1 .1) in
-      let t : set xs i y ≡ pre ++ (y ∷ post) = set-split xs i y k in
-      ap (byte m) (value-result a j xs g) ∙ ap (λ (z : List ℕ). byte m (result a j z)) (around xs i k)
-      ∙ c (getD xs i 0) y (h .below i li) ly e j l pre post s (b .0) (b .1 .1)
-      ∙ ap (byte m) (sym (value-result a j (pre ++ (y ∷ post)) ay)) ∙ ap (λ (z : List ℕ). byte m (value n (operationAt a j) z)) (sym t));
-}
+pub compatible-congruence : (a : Algebra) → WellFormed a → (m : Map) → IsMap (a .size) m → Compatible a (byte m) → IsCongruence a m
+compatible-congruence a w m p c =
+    congruence-by-one a w m p (every-operation a (OneByOne (a .size) m) (λ j l xs h i y li ly e.
+    let n = a .size in
+    let g : Args n (getD (a .arities) j 0) xs = rw (arity-at a j) at h in
+    let k : i < length xs = omega (arith, h .long) in
+    let pre = take i xs in
+    let post = drop (suc i) xs in
+    let b = below-append n pre (getD xs i 0 ∷ post) (subst (λ (z : List ℕ). AllBelow n z) (around xs i k) (args-below n (getD (a .arities) j 0) xs g)) in
+    let s : length pre + 1 + length post ≡ getD (a .arities) j 0 = rw (length-take i xs, length-drop (suc i) xs) (omega (arith, g .long)) in
+    let ay : Args n (getD (a .arities) j 0) (pre ++ (y ∷ post)) = args-around n (getD (a .arities) j 0) y pre post s ly (b .0) (b .1 .1) in
+    let t : set xs i y ≡ pre ++ (y ∷ post) = set-split xs i y k in
+    ap (byte m) (value-result a j xs g) ∙ ap (λ (z : List ℕ). byte m (result a j z)) (around xs i k)
+    ∙ c (getD xs i 0) y (h .below i li) ly e j l pre post s (b .0) (b .1 .1)
+    ∙ ap (byte m) (sym (value-result a j (pre ++ (y ∷ post)) ay)) ∙ ap (λ (z : List ℕ). byte m (value n (operationAt a j) z)) (sym t)))
 
 -- the identity holds no pair, and so is compatible with every operation
 pub identity-compatible : (a : Algebra) (f : ℕ → ℕ) → ((x : ℕ) → x < a .size → f x ≡ x) → Compatible a f

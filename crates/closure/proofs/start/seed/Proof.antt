@@ -6,7 +6,7 @@ use lib.ListN.{length}
 use Rattle.sweep.proofs.Queues.{Since, since-none, since-ready, since-more}
 use Rattle.closure.proofs.Starting.{pairs-more}
 use Rattle.closure.specs.InnerStarts.{JoinsPairs}
-use Rattle.equivalence.specs.Equivalence.{byte, join}
+use Rattle.equivalence.specs.Equivalence.{byte}
 use Rattle.equivalence.specs.Order.{pairs}
 use Rattle.closure.proofs.start.seed.Statement.{statement}
 use Rattle.closure.proofs.start.seed.Tie as tie

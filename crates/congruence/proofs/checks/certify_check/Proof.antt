@@ -1,7 +1,7 @@
 -- `certify_check`: the tests in turn, by the laws of Serving.
 use native.Mathlib.Nat.{div-mul-le-self}
 use borrow.Author.Needs.{needs}
-use Rattle.congruence.proofs.Serving.{tests-in-turn, passed-some}
+use Rattle.congruence.proofs.Testing.{tests-in-turn, passed-some}
 use Rattle.congruence.proofs.checks.certify_check.Statement.{statement}
 use Rattle.congruence.proofs.checks.certify_check.Tie as tie
 

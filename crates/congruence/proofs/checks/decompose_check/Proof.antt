@@ -1,5 +1,5 @@
 -- `decompose_check`: the tests in turn, by the laws of Serving.
-use Rattle.congruence.proofs.Serving.{tests-in-turn, passed-some, passed-counted}
+use Rattle.congruence.proofs.Testing.{tests-in-turn, passed-some, passed-counted}
 use borrow.Author.Needs.{needs}
 use Rattle.congruence.proofs.checks.decompose_check.Statement.{statement}
 use Rattle.congruence.proofs.checks.decompose_check.Tie as tie

@@ -1,5 +1,5 @@
 -- `quotient_check`: the tests in turn, by the laws of Serving.
-use Rattle.congruence.proofs.Serving.{tests-in-turn, passed-accepted, passed-most, passed-operations, passed-arity, flag-map, flag-long}
+use Rattle.congruence.proofs.Testing.{tests-in-turn, passed-accepted, passed-most, passed-operations, passed-arity, flag-map, flag-long}
 use borrow.Author.Needs.{needs}
 use Rattle.congruence.proofs.checks.quotient_check.Statement.{statement}
 use Rattle.congruence.proofs.checks.quotient_check.Tie as tie
