@@ -35,7 +35,7 @@ has-map-requires c κs = search needs
 returns : tie.Need-returns Inv-loop μ-loop
 unfolding mapOn
 returns c =
-    let l = c .before .before .before .before .before .before .before .args .t1 in
+    let l = c .before .before .before .before .before .before .before .args .t2 in
     let e : length l ≡ 8 = search needs in
     false-is _ (λ t. not-T-of (sym (c .before .has-map .ensures) ∙ not-true _ (c .if1 .taken)) (of-every-sheet _ l t _ (omega (arith, c .before .before .before .before .before .loop-test .taken))))
 
@@ -51,7 +51,7 @@ loop-again c = (search needs, below-more _ _ (c .before .before .before .before 
 
 returns-2 : tie.Need-returns-2 Inv-loop μ-loop
 returns-2 c =
-    let l = c .before .before .args .t1 in
+    let l = c .before .before .args .t2 in
     let e : length l ≡ 8 = search needs in
     true-is _ (every-sheet _ l (λ j h. c .before .loop .inv .1 j (omega arith)))
 
