@@ -139,8 +139,9 @@ module _ (a : Algebra) (c : WellFormed a) (m : Map) (p : IsCongruence a m) where
         let bs : List ℕ = map (blockOf m) xs in
         let n : Member g (operations (quotient a m)) = rw (operations-quotient a m) (member-map (onBlocks (a .size) m) i) in
         let at-j : getD bs j 0 ≡ blockOf m (getD xs j 0) = map-at (blockOf m) xs j 0 0 (omega (arith, h .long)) in
+        let small : Args (blocks (a .size) m) (f .arity) bs = args-map (a .size) (blocks (a .size) m) (f .arity) (blockOf m) (block-below (a .size) m (p .map)) xs h in
         let r : Holds d (value (blocks (a .size) m) g bs) (value (blocks (a .size) m) g (set bs j (blockOf m y))) =
-        respects-one (quotient a m) quotient-wellFormed d q g n bs (args-map (a .size) (blocks (a .size) m) (f .arity) (blockOf m) (block-below (a .size) m (p .map)) xs h) j (blockOf m y) l (block-below (a .size) m (p .map) y k)
+        respects-one (quotient a m) quotient-wellFormed d q g n bs small j (blockOf m y) l (block-below (a .size) m (p .map) y k)
         (ap (byte d) at-j ∙ of-pulled (getD xs j 0) y (h .below j l) k e) in
         let to : (zs : List ℕ) → Args (a .size) (f .arity) zs → byte d (value (blocks (a .size) m) g (map (blockOf m) zs)) ≡ byte d (blockOf m (value (a .size) f zs)) =
         λ zs z. ap (byte d) (block-value f i zs z) in
