@@ -1,4 +1,4 @@
--- `certify_check`: the tests in turn, by the laws of Serving.
+-- `certify_check`: the tests in turn, by the laws of Testing.
 use native.Mathlib.Nat.{div-mul-le-self}
 use borrow.Author.Needs.{needs}
 use Rattle.congruence.proofs.Testing.{tests-in-turn, passed-some}

@@ -1,4 +1,4 @@
--- `decompose_check`: the tests in turn, by the laws of Serving.
+-- `decompose_check`: the tests in turn, by the laws of Testing.
 use Rattle.congruence.proofs.Testing.{tests-in-turn, passed-some, passed-counted}
 use borrow.Author.Needs.{needs}
 use Rattle.congruence.proofs.checks.decompose_check.Statement.{statement}

@@ -1,4 +1,4 @@
--- `quotient_check`: the tests in turn, by the laws of Serving.
+-- `quotient_check`: the tests in turn, by the laws of Testing.
 use Rattle.congruence.proofs.Testing.{tests-in-turn, passed-accepted, passed-most, passed-operations, passed-arity, flag-map, flag-long}
 use borrow.Author.Needs.{needs}
 use Rattle.congruence.proofs.checks.quotient_check.Statement.{statement}
