@@ -1,5 +1,6 @@
 -- The calls of Decompose and Quotient on an accepted algebra with room enough: what they answer and write, and demand 3 over them together.
 -- first, so that a wrong definition is refused by an example that it makes false
+use Rattle.congruence.proofs.Examples.{examples}
 use Prim.Native.Nat.{ℕ, _≤_, _<_}
 use mathlib.Core.List.{List, []}
 use mathlib.Core.Path.{_≡_, sym, ap, subst, _∙_}

@@ -8,8 +8,6 @@ use native.Mathlib.Omega.{arith}
 use lib.Dec.{T}
 use lib.ListN.{length, take}
 use lib.Seq.{getD-take, length-take-le}
-use mir.Syntax.{w8}
-use mir.Val.{Fits}
 use Rattle.equivalence.specs.Equivalence.{Map, byte, isMap, holds, blocks}
 use Rattle.kernel.specs.InnerKernel.{Canonical, Within, Filled, names}
 use Rattle.equivalence.specs.Order.{Pair, pairs}
@@ -200,9 +198,6 @@ module _ (n : ℕ) (arities cells : List ℕ) (accepted : Accepted (algebraOf n 
 
   well : WellFormed a
   well = accepted-wellFormed a accepted
-
-  pub merges-few : {merges : ℕ} (after : List ℕ) → merges + names n (byte after) ≡ n → Fits w8 merges
-  merges-few after e = omega (arith, well .most)
 
   module _ (lent after : List ℕ) (fits : n ≤ length lent) (long : length after ≡ length lent) where
     -- a map that the first n bytes are

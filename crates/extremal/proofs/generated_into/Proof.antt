@@ -1,5 +1,7 @@
 -- `generated_into`: the closed map is the least congruence, by the laws of Bridges.
-use Rattle.extremal.proofs.Bridges.{merges-few, generated-written, generated-merges}
+use Rattle.extremal.proofs.Bridges.{generated-written, generated-merges}
+use Rattle.algebra.proofs.Accepted.{accepted-wellFormed}
+use native.Mathlib.Omega.{arith}
 use borrow.Author.Needs.{needs}
 use Rattle.extremal.proofs.generated_into.Statement.{statement}
 use Rattle.extremal.proofs.generated_into.Tie as tie
@@ -8,7 +10,9 @@ generate-requires : tie.Need-generate-requires
 generate-requires c κs = search needs
 
 cast-result : tie.Need-cast-result
-cast-result c = search merges-few
+cast-result c =
+    let s = c .before .before .before .before .before .before .before .before in
+    omega (arith, c .before .before .generate .ensures .1 .0, accepted-wellFormed _ (s .pre .0) .most)
 
 same-length : tie.Need-same-length
 same-length c = search needs
