@@ -79,11 +79,12 @@ pub record Lined (text : List ℕ) (s : Standing) (arities room lent arities′ 
   pub sound : Sound text (r .standing)
   pub kept : Kept s arities room (r .standing) arities′ room′
 
--- a line, and a fill, over lent slices: the text, the arities, the room and the output before, and the last three after
+-- a line over lent slices: the text, the arities, the room and the output before, and the last three after
 abbrev pub LinedIn : RefT (List ℕ) → Standing → RefT (List ℕ) → RefT (List ℕ) → RefT (List ℕ) → RefT (List ℕ) → RefT (List ℕ) → RefT (List ℕ) → Stepped → Type 0
 LinedIn text s arities room lent arities′ room′ out r =
     Lined (now text) s (now arities) (now room) (now lent) (now arities′) (now room′) (now out) r
 
+-- the same of a fill
 abbrev pub FillingIn : RefT (List ℕ) → Standing → RefT (List ℕ) → RefT (List ℕ) → RefT (List ℕ) → RefT (List ℕ) → RefT (List ℕ) → RefT (List ℕ) → Stepped → Type 0
 FillingIn text s arities room lent arities′ room′ out r =
     Filling (now text) s (now arities) (now room) (now lent) (now arities′) (now room′) (now out) r
