@@ -190,8 +190,8 @@ module _ (n : ℕ) (arities cells : List ℕ) {flag : Bool} (s : flag ≡ not (s
             pub tests-cell : n ≤ top → Failed Cell ≡ lowest tests
             tests-cell g = sym (filled-next ∙ cell-failed (algebraOf n arities cells) (λ u. absurd (omega (arith, t .least n (sized-bounds n s f .0) u))))
 
-            pub tests-passed : top < n → Passed ≡ lowest tests
-            tests-passed g = sym (filled-next ∙ cell-passed (algebraOf n arities cells) (λ i j. omega (arith, t .above i j)))
+            pub tests-none : top < n → Passed ≡ lowest tests
+            tests-none g = sym (filled-next ∙ cell-passed (algebraOf n arities cells) (λ i j. omega (arith, t .above i j)))
 
 pub wellFormed-accepted : (a : Algebra) → WellFormed a → Accepted a
 unfolding Accepted algebraTests

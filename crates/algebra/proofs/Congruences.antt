@@ -1,6 +1,6 @@
 -- Congruences: what the tests say (`Respects`, `IsCongruence`); the identity, `whole`, meets and joins of congruences are congruences.
 -- first, so that a wrong definition is refused by an example that it makes false
-use Rattle.algebra.proofs.Examples.{Examples}
+use Rattle.algebra.proofs.Examples.{AlgebraExamples}
 use Prim.Native.Nat.{ℕ, suc, _+_, _^_, _≤_, _<_}
 use mathlib.Core.Bool.{Bool}
 use mathlib.Core.List.{List, [], _∷_, _++_, map, List·Memᴰ as Member, List·Memᴰ·head as here, List·Memᴰ·tail as there, List·Memᴰ·not-nil as not-nil, List·Memᴰ·cases-cons as cases-cons}

@@ -7,7 +7,7 @@ use Rattle.equivalence.specs.Lists.{upTo, every, concat}
 use Rattle.algebra.specs.Algebra.{algebraOf, operationsOf, operations, arguments, place, value}
 use Rattle.algebra.specs.Congruence.{respects, isCongruence}
 
-pub record Examples : Type 0 where
+pub record AlgebraExamples : Type 0 where
   -- x, y to 0 for y = 0, else to 2: 0 and 1 are not equivalent, 1 and 2 are
   pub second : (isCongruence (algebraOf 3 (2 ∷ []) (0 ∷ 2 ∷ 2 ∷ 0 ∷ 2 ∷ 2 ∷ 0 ∷ 2 ∷ 2 ∷ [])) (0 ∷ 0 ∷ 2 ∷ []) ≡ false)
       × (isCongruence (algebraOf 3 (2 ∷ []) (0 ∷ 2 ∷ 2 ∷ 0 ∷ 2 ∷ 2 ∷ 0 ∷ 2 ∷ 2 ∷ [])) (0 ∷ 1 ∷ 1 ∷ []) ≡ true)
@@ -15,6 +15,6 @@ pub record Examples : Type 0 where
   pub first : (isCongruence (algebraOf 3 (2 ∷ []) (0 ∷ 0 ∷ 0 ∷ 2 ∷ 2 ∷ 2 ∷ 2 ∷ 2 ∷ 2 ∷ [])) (0 ∷ 0 ∷ 2 ∷ []) ≡ false)
       × (isCongruence (algebraOf 3 (2 ∷ []) (0 ∷ 0 ∷ 0 ∷ 2 ∷ 2 ∷ 2 ∷ 2 ∷ 2 ∷ 2 ∷ [])) (0 ∷ 1 ∷ 1 ∷ []) ≡ true)
 
-pub examples : Examples
+pub algebra-examples : AlgebraExamples
 unfolding upTo every concat holds operations operationsOf arguments place value respects isCongruence
-examples = record { second = (refl, refl); first = (refl, refl) }
+algebra-examples = record { second = (refl, refl); first = (refl, refl) }

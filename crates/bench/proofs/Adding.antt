@@ -7,10 +7,9 @@ use mathlib.Core.Path.{_≡_, ap, sym, _∙_}
 use native.Mathlib.Omega.{arith}
 use lib.Dec.{T}
 use lib.ListN.{length, take}
-use Rattle.equivalence.specs.Equivalence.{Map, byte, isMap, identity, blocks}
+use Rattle.equivalence.specs.Equivalence.{Map, byte, isMap, identity}
 use Rattle.kernel.specs.InnerKernel.{Canonical}
 use Rattle.equivalence.specs.Refusal.{lowest}
-use Rattle.equivalence.specs.Lent.{written}
 use Rattle.equivalence.proofs.BlockNumbers.{blocks-le}
 use Rattle.equivalence.proofs.Maps.{identity-map, of-isMap, holds-of, of-holds, inside-of, of-inside}
 use Rattle.equivalence.proofs.Refusals.{passed-append}
@@ -20,7 +19,7 @@ use Rattle.algebra.specs.Accepted.{Accepted}
 use Rattle.algebra.specs.Algebra.{Algebra}
 use Rattle.algebra.proofs.Accepted.{accepted-wellFormed}
 use Rattle.algebra.proofs.Congruences.{congruence-is, congruence-of}
-use Rattle.theory.specs.Extremal.{extended}
+use Rattle.extremal.specs.InnerExtension.{MapExtended}
 use Rattle.extremal.proofs.Bridges.{front-byte}
 use Rattle.theory.proofs.Above.{LeastJoining, extended-law}
 use Rattle.bench.specs.Calls.{tallyTest, benched, handedTests, addTests, clearTests, mapByAdd, lostByAdd, addCall, clearCall}
@@ -86,11 +85,14 @@ front-canonical n l t =
     }
 
 -- a map extended in its bytes: the blocks that it cost are those lost, and they are few
-pub map-grown : (a : Algebra) → Accepted a → (x y : ℕ) (old new : List ℕ) (lost : ℕ) → new ≡ written (extended a (take (a .size) old) x y) old
-    → lost + blocks (a .size) (extended a (take (a .size) old) x y) ≡ blocks (a .size) (take (a .size) old) → MapGrown a x y old new lost
+pub map-grown : (a : Algebra) → Accepted a → (x y : ℕ) (old new : List ℕ) (lost : ℕ) → MapExtended a x y old new lost → MapGrown a x y old new lost
 unfolding blocksLost
-map-grown a ok x y old new lost e c =
-    record { bytes = e; blocks = omega arith; few = omega (arith, blocks-le (a .size) (take (a .size) old), accepted-wellFormed a ok .most) }
+map-grown a ok x y old new lost e =
+    record {
+      bytes = e .bytes;
+      blocks = omega (arith, e .cost);
+      few = omega (arith, e .cost, blocks-le (a .size) (take (a .size) old), accepted-wellFormed a ok .most);
+    }
 
 pub grown-call : (b : Bench) (a : Algebra) (k x y : ℕ) → lowest (handedTests b a k x y) ≡ Passed → (old new : Sheet) (lost : ℕ) → old ≡ sheetOf b k → SheetGrown a x y old new lost
     → benched (tallyTest (b .tally + lost) ∷ []) (raisedBy lost (withSheet b k new)) b ≡ addCall b a k x y

@@ -19,11 +19,11 @@ fn zero_sheet() -> Sheet
     Sheet { map: [0u8; 64] }
 }
 
-fn write_identity(map: &mut [u8; 64], n: usize)
+fn write_identity(n: usize, map: &mut [u8; 64])
     requires { ⌜ n ≤ 64 ⌝ }
     ensures { λ _. ⌜ now (map .exit) ≡ written (identity n) (now (map .entry)) ⌝ }
 {
-    equivalence::blocks::identity(map, n);
+    equivalence::blocks::identity(n, map);
 }
 
 // The sheet with the identity over n.
@@ -32,7 +32,7 @@ fn identity_sheet(sheet: Sheet, n: usize) -> Sheet
     ensures { λ r. ⌜ r ≡ sheetWith (identity n) sheet ⌝ }
 {
     let mut map = sheet.map;
-    write_identity(&mut map, n);
+    write_identity(n, &mut map);
     let mut next = sheet;
     next.map = map;
     next
@@ -130,12 +130,12 @@ pub struct Grown {
 
 // The first n bytes, a map, become the least congruence that holds the map and the pair. Gives how many blocks fewer that has.
 fn extend_map(
-    map: &mut [u8; 64],
     n: usize,
     arities: &[u8],
     cells: &[u8],
     x: usize,
     y: usize,
+    map: &mut [u8; 64],
 ) -> usize
     requires { ⌜ Accepted (algebraIn n arities cells) ⌝ }
     requires { ⌜ T (isMap n (take n (now map))) ⌝ }
@@ -143,7 +143,7 @@ fn extend_map(
     requires { ⌜ y < n ⌝ }
     ensures { λ r. ⌜ MapGrown (algebraIn n (arities .entry) (cells .entry)) x y (now (map .entry)) (now (map .exit)) r ⌝ }
 {
-    extremal::extended_into(map, n, arities, cells, x, y)
+    extremal::extended_into(n, arities, cells, x, y, map)
 }
 
 // The sheet with the least congruence of the algebra that holds its map and the pair.
@@ -155,7 +155,7 @@ pub fn extended(sheet: Sheet, n: usize, arities: &[u8], cells: &[u8], x: usize, 
     ensures { λ r. ⌜ SheetGrown (algebraIn n (arities .entry) (cells .entry)) x y sheet (r .sheet) (r .lost) ⌝ }
 {
     let mut map = sheet.map;
-    let lost = extend_map(&mut map, n, arities, cells, x, y);
+    let lost = extend_map(n, arities, cells, x, y, &mut map);
     let mut next = sheet;
     next.map = map;
     Grown { sheet: next, lost }

@@ -10,7 +10,7 @@ fn print_answer(answer: Answer) {
         io::write_all(1, b"refused");
         printing::print_bytes(&[equivalence::checks::number(reason)]);
     } else {
-        io::write_all(1, b"done");
+        io::write_all(1, b" done");
     }
 }
 
@@ -33,7 +33,7 @@ fn print_bench(made: Benched, sheet: usize) {
 fn start(n: usize) -> Bench {
     io::write_all(1, b"start ");
     io::print_decimal(1, n as u64);
-    io::write_all(1, b" -> ");
+    io::write_all(1, b" ->");
     let made = bench::start(n);
     print_bench(made, 0);
     made.bench
@@ -47,7 +47,7 @@ fn add_under(bench: Bench, n: usize, cells: &[u8], sheet: usize, x: usize, y: us
     io::print_decimal(1, x as u64);
     io::write_all(1, b" ");
     io::print_decimal(1, y as u64);
-    io::write_all(1, b" -> ");
+    io::write_all(1, b" ->");
     let made = bench::add(bench, n, b"\x01", cells, sheet, x, y);
     print_bench(made, sheet);
     made.bench
@@ -60,7 +60,7 @@ fn add(bench: Bench, sheet: usize, x: usize, y: usize) -> Bench {
 fn clear(bench: Bench, sheet: usize) -> Bench {
     io::write_all(1, b"clear ");
     io::print_decimal(1, sheet as u64);
-    io::write_all(1, b" -> ");
+    io::write_all(1, b" ->");
     let made = bench::clear(bench, sheet);
     print_bench(made, sheet);
     made.bench

@@ -28,15 +28,14 @@ use Rattle.congruence.specs.declared.Decomposed.the-variants.{Factors, Irreduci
 use Rattle.congruence.specs.declared.Generated.{Generated}
 use Rattle.congruence.specs.declared.Generated.the-variants.{Merges, Refused as GenerateRefused}
 use Rattle.reader.specs.Reading.{ascii}
-use Rattle.reader.specs.Lines.{generate, contained, separate, decompose}
 use Rattle.writer.specs.Lines.{spaced, spacedBrackets, line, refusedNumbers, outcomeLine, refusedLine}
 use Rattle.writer.specs.InnerRoom.{FactorsRoom}
 use Rattle.writer.proofs.Spacing.{outcome-refused}
 use Rattle.bracket.specs.Answers.{mapLine, generatedLine, factorsLine, answer}
 use Rattle.reader.specs.Laying.{Laid}
 use Rattle.bracket.specs.InnerPromises.{MapFits, FactorsFit, Zeros}
-use Rattle.reader.specs.InnerPromises.{requestOf}
 use Rattle.reader.specs.declared.requests.Asked.{Asked}
+use Rattle.reader.specs.declared.requests.Asked.the-variants.{Generate, Contained, Separate, Decompose}
 
 -- all factors together have 63 × 64 bytes at most
 pub factors-short : (n : ℕ) → n ≤ 64 → factorSpace n ≤ 4032
@@ -134,17 +133,17 @@ factors-few a lent map d e k g =
 -- the calls, lent zeros
 module _ (n : ℕ) (arities cells before map lent out : List ℕ) (end : ℕ) (z : Zeros n n before lent) where
   pub generate-answered : (ps : List ℕ) (g : Generated) → (g, map) ≡ generateCall (algebraOf n arities cells) ps before
-      → Laid lent 0 (generatedLine g map) out end → Laid lent 0 (answer (algebraOf n arities cells) (generate ps)) out end
+      → Laid lent 0 (generatedLine g map) out end → Laid lent 0 (answer (algebraOf n arities cells) Generate ps) out end
   unfolding answer
   generate-answered ps g e l = rw (← z .zeros, ← e) l
 
   pub contained-answered : (m : List ℕ) (g : Written) → (g, map) ≡ containedCall (algebraOf n arities cells) m before
-      → Laid lent 0 (mapLine g map) out end → Laid lent 0 (answer (algebraOf n arities cells) (contained m)) out end
+      → Laid lent 0 (mapLine g map) out end → Laid lent 0 (answer (algebraOf n arities cells) Contained m) out end
   unfolding answer
   contained-answered m g e l = rw (← z .zeros, ← e) l
 
   pub separate-answered : (v w : ℕ) (g : Written) → (g, map) ≡ separateCall (algebraOf n arities cells) v w before
-      → Laid lent 0 (mapLine g map) out end → Laid lent 0 (answer (algebraOf n arities cells) (separate v w)) out end
+      → Laid lent 0 (mapLine g map) out end → Laid lent 0 (answer (algebraOf n arities cells) (Separate v w) []) out end
   unfolding answer
   separate-answered v w g e l = rw (← z .zeros, ← e) l
 
@@ -160,11 +159,11 @@ factors-fit n arities cells before factors out d z e g =
 
 pub decompose-answered : (n : ℕ) (arities cells before factors lent out : List ℕ) (end : ℕ) (d : Decomposed) → Zeros (factorSpace n) n before lent
     → (d, factors) ≡ decomposeCall (algebraOf n arities cells) before → Laid lent 0 (factorsLine n d factors) out end
-    → Laid lent 0 (answer (algebraOf n arities cells) decompose) out end
+    → Laid lent 0 (answer (algebraOf n arities cells) Decompose []) out end
 unfolding answer
 decompose-answered n arities cells before factors lent out end d z e l = rw (← z .zeros, ← e) l
 
 -- what is asked, by its case
-pub answered-as : (a : Algebra) (xs lent out : List ℕ) (end : ℕ) (asked kind : Asked) → asked ≡ kind → Laid lent 0 (answer a (requestOf kind xs)) out end
-    → Laid lent 0 (answer a (requestOf asked xs)) out end
+pub answered-as : (a : Algebra) (xs lent out : List ℕ) (end : ℕ) (asked kind : Asked) → asked ≡ kind → Laid lent 0 (answer a kind xs) out end
+    → Laid lent 0 (answer a asked xs) out end
 answered-as a xs lent out end asked kind e l = rw e l

@@ -30,7 +30,7 @@ use Rattle.bracket.specs.Transcript.{afterLine, afterRequest, firstStep,
 abbrev Gives : String → String → Type 0
 Gives input written = transcript (ascii input) ≡ ascii written
 
-pub record Examples : Type 0 where
+pub record TextExamples : Type 0 where
   -- document 01's input and output, whole
   pub worked : Gives "[size 4]\n[op 1 [1 0 3 2]]\n[generate [0 2]]\n[contained 0 0 0 3]\n[separate 0 2]\n[decompose]\n"
       "[generated 2 [0 1 0 1]]\n[map 0 0 2 3]\n[map 0 0 2 2]\n[factors [0 1 0 1] [0 0 2 2]]\n"
@@ -77,7 +77,7 @@ pub record Examples : Type 0 where
       × Gives "[size 2]\n[decompose] \n" "[refused 14]\n"
       × Gives "[size 2]\r\n" "[refused 14]\n"
 
-pub examples : Examples
+pub text-examples : TextExamples
 unfolding ascii onward _>>=_ mark gap branch behind begins opened digitAt number digits decimal gapBytes cell parted bracket table pair itemsUpTo items close
     spacedNumber sizeLine tested afterSize sized arity lastTable operationTests cellTest withOperation afterTable afterArity operation itemsToEnd asksWith
     twoNumbers request spaced bracketed spacedBrackets line refusedNumbers outcomeLine success refusal writtenOutcome generatedOutcome decomposedOutcome
@@ -86,7 +86,7 @@ unfolding ascii onward _>>=_ mark gap branch behind begins opened digitAt number
     notLater firstHeld numberOf lowest sizeTest mapTest spaceTest answered written lentAfter serve algebraTests cellCount operationsOf operations arguments
     place value respects isCongruence congruences pairsTest elementsTest equalTest generateCall containedCall separateCall decomposed factorBytes decomposeCall
     added gathered pruned listed reducible commonPair holdsAll above generated contained separated
-examples =
+text-examples =
     record {
       worked = refl;
       bare = (refl, refl);

@@ -86,43 +86,43 @@ module _ (text : List ℕ) where
   fills-transcript parts f = fills-remaining f
 
   -- how far a position is from the end of the run
-  abbrev pub left : Position → ℕ
-  left fresh = length text + 2
-  left (midway s) = length text - s .at + 1
-  left over = 0
+  abbrev pub distance : Position → ℕ
+  distance fresh = length text + 2
+  distance (midway s) = length text - s .at + 1
+  distance over = 0
 
-  after-left : (k : ℕ) (d : Step) → 0 < k → ((piece : List ℕ) (s : State) → d ≡ goes piece s → s .at < length text → length text - s .at + 1 < k)
-      → left (positionAfter text d) < k
+  after-distance : (k : ℕ) (d : Step) → 0 < k → ((piece : List ℕ) (s : State) → d ≡ goes piece s → s .at < length text → length text - s .at + 1 < k)
+      → distance (positionAfter text d) < k
   unfolding positionAfter
-  after-left k (goes piece s) h near =
+  after-distance k (goes piece s) h near =
       elim (decLt (s .at) (length text)) [
         | yes l ↦ rw (after-midway piece s l) (near piece s refl l)
         | no l ↦ rw (after-over piece s (omega arith)) h
       ]
-  after-left k (ends piece) h near = h
+  after-distance k (ends piece) h near = h
 
   -- each step gets nearer
-  pub step-less : (p : Position) → 0 < left p → left (positionAfter text (due text p)) < left p
+  pub step-less : (p : Position) → 0 < distance p → distance (positionAfter text (due text p)) < distance p
   unfolding due
-  step-less fresh h = after-left (length text + 2) (firstStep text) h (λ piece s e l. omega arith)
+  step-less fresh h = after-distance (length text + 2) (firstStep text) h (λ piece s e l. omega arith)
   step-less (midway t) h =
-      after-left (length text - t .at + 1) (step text t) h
+      after-distance (length text - t .at + 1) (step text t) h
       (λ piece s e l. let a : t .at < s .at = rw e at (step-ahead text t) in omega arith)
   step-less over h = absurd (omega arith)
 
-  step-no-more : (p : Position) → left (positionAfter text (due text p)) ≤ left p
+  step-no-more : (p : Position) → distance (positionAfter text (due text p)) ≤ distance p
   unfolding due positionAfter
   step-no-more fresh = let h = step-less fresh (omega arith) in omega arith
   step-no-more (midway s) = let h = step-less (midway s) (omega arith) in omega arith
   step-no-more over = omega arith
 
-  fill-no-more : {room : ℕ} {p q : Position} {bytes : List ℕ} → Fill text room p bytes q → left q ≤ left p
+  fill-no-more : {room : ℕ} {p q : Position} {bytes : List ℕ} → Fill text room p bytes q → distance q ≤ distance p
   fill-no-more ended = omega arith
   fill-no-more (short h) = omega arith
   fill-no-more (takes {p = p} h f) = omega (arith, fill-no-more f, step-no-more p)
 
   -- and so does each fill
-  pub fill-less : {room : ℕ} {p q : Position} {bytes : List ℕ} → lineRoom ≤ room → 0 < left p → Fill text room p bytes q → left q < left p
+  pub fill-less : {room : ℕ} {p q : Position} {bytes : List ℕ} → lineRoom ≤ room → 0 < distance p → Fill text room p bytes q → distance q < distance p
   fill-less r h ended = absurd (omega arith)
   fill-less r h (short l) = absurd (omega arith)
   fill-less r h (takes {p = p} l f) = omega (arith, fill-no-more f, step-less p h)

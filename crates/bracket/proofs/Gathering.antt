@@ -20,7 +20,7 @@ use Rattle.bracket.specs.Standings.{stateOf, positionBy, positionOf, Sou
 use Rattle.bracket.specs.InnerSteps.{stepOf, Lent, Stepping, closedAt, Lined}
 use Rattle.bracket.specs.declared.run.Standing.{Standing}
 use Rattle.bracket.specs.declared.run.Stepped.{Stepped}
-use Rattle.bracket.proofs.Fills.{after-midway, after-over, left, step-less}
+use Rattle.bracket.proofs.Fills.{after-midway, after-over, distance, step-less}
 
 -- a standing whose run is over
 abbrev stopped : Standing → Standing
@@ -193,15 +193,15 @@ module _ (text : List ℕ) (s : Standing) (arities room lent : List ℕ) (s′ :
       }
 
 -- a run that goes on is not at its end
-going-left : (text : List ℕ) (b : Bool) (at : ℕ) (x : State) → b ≡ true → 0 < left text (positionBy b at x)
-going-left text true zero x e = omega arith
-going-left text true (suc at) x e = omega arith
-going-left text false at x e = let z : _≡_ {A = ℕ} 0 1 = cc in absurd (omega arith)
+going-far : (text : List ℕ) (b : Bool) (at : ℕ) (x : State) → b ≡ true → 0 < distance text (positionBy b at x)
+going-far text true zero x e = omega arith
+going-far text true (suc at) x e = omega arith
+going-far text false at x e = let z : _≡_ {A = ℕ} 0 1 = cc in absurd (omega arith)
 
-pub goes-left : (text : List ℕ) (s : Standing) (arities room : List ℕ) → s .goes ≡ true → 0 < left text (positionOf s arities room)
-goes-left text s arities room e = going-left text (s .goes) (s .at) (stateOf s arities room) e
+pub goes-far : (text : List ℕ) (s : Standing) (arities room : List ℕ) → s .goes ≡ true → 0 < distance text (positionOf s arities room)
+goes-far text s arities room e = going-far text (s .goes) (s .at) (stateOf s arities room) e
 
 -- each line gets nearer to the end
 pub line-less : (text : List ℕ) (s : Standing) (arities room lent arities′ room′ out : List ℕ) (r : Stepped) → s .goes ≡ true
-    → Lined text s arities room lent arities′ room′ out r → left text (positionOf (r .standing) arities′ room′) < left text (positionOf s arities room)
-line-less text s arities room lent arities′ room′ out r e l = rw (l .position) (step-less text (positionOf s arities room) (goes-left text s arities room e))
+    → Lined text s arities room lent arities′ room′ out r → distance text (positionOf (r .standing) arities′ room′) < distance text (positionOf s arities room)
+line-less text s arities room lent arities′ room′ out r e l = rw (l .position) (step-less text (positionOf s arities room) (goes-far text s arities room e))

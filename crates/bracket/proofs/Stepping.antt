@@ -16,7 +16,7 @@ use Rattle.equivalence.specs.declared.Check.the-variants.{Passed, Failed}
 use Rattle.algebra.specs.Algebra.{algebraOf}
 use Rattle.reader.specs.Reading.{ascii, begins}
 use Rattle.reader.specs.Lines.{Progress, sized, operation, request}
-use Rattle.reader.specs.InnerPromises.{RoomForCells, RoomForText, passes, requestOf, Requested}
+use Rattle.reader.specs.InnerPromises.{RoomForCells, RoomForText, passes, Requested}
 use Rattle.reader.specs.InnerTaking.{algebraSoFar, progressWith, SizeTaken, OperationTaken}
 use Rattle.reader.specs.Laying.{Laid}
 use Rattle.reader.specs.declared.requests.RequestLine.{RequestLine}
@@ -45,8 +45,8 @@ module _ (l : LineTaken) (lent : List ℕ) where
       → AfterLine l lent out (stepped s wrote)
   line-refused x e s es out wrote p = record { standing = es ∙ rw e; laid = rw e p }
 
-  pub line-passed : l .check ≡ Passed → (s : Standing) → s ≡ behindLines true (l .algebra) → AfterLine l lent lent (stepped s 0)
-  line-passed e s es = record { standing = es ∙ rw e; laid = rw e (laid-none lent 0 (omega arith)) }
+  pub line-accepted : l .check ≡ Passed → (s : Standing) → s ≡ behindLines true (l .algebra) → AfterLine l lent lent (stepped s 0)
+  line-accepted e s es = record { standing = es ∙ rw e; laid = rw e (laid-none lent 0 (omega arith)) }
 
 after-progress : (c : Check) (a : AlgebraSoFar) (arities room : List ℕ)
     → afterLine (progressWith c a arities room) ≡ stepOf (passes c) (pieceFor c) (stateOf (behindLines (passes c) a) arities room)
@@ -137,14 +137,14 @@ module _ (text : List ℕ) (s : Standing) (arities room lent : List ℕ) (sound 
 
   pub request-answered : not (l .ok) ≡ false
       → Laid lent 0
-      (answer (algebraOf (s .size) (take (s .operations - 0) arities) (take (s .cells - 0) after)) (requestOf (l .asked) (take (l .end - s .cells) (drop (s .cells) after)))) out wrote
+      (answer (algebraOf (s .size) (take (s .operations - 0) arities) (take (s .cells - 0) after)) (l .asked) (take (l .end - s .cells) (drop (s .cells) after))) out wrote
       → Stepping text (s .at) (requestStep text (stateOf s arities room)) lent arities after out (stepped (behindRequest s l) wrote)
   unfolding requestStep afterRequest
   request-answered h p =
       let a = algebraOf (s .size) (take (s .operations) arities) (take (s .cells) room) in
       let front = laid-front (r .laid) in
       record {
-        piece = answer a (requestOf (l .asked) (r .new));
+        piece = answer a (l .asked) (r .new);
         value = rw (r .value, not-false (l .ok) h, front);
         laid = rw (sub-zero (s .operations), sub-zero (s .cells), laid-part (r .laid), front) at p;
         sound = omega (arith, r .reached);

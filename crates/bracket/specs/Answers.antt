@@ -13,7 +13,8 @@ use Rattle.congruence.specs.Outcome.{generatedOutcome, decomposedOutcome}
 use Rattle.congruence.specs.declared.Generated.{Generated}
 use Rattle.congruence.specs.declared.Decomposed.{Decomposed}
 use Rattle.reader.specs.Reading.{ascii}
-use Rattle.reader.specs.Lines.{Request, generate, contained, separate, decompose}
+use Rattle.reader.specs.declared.requests.Asked.{Asked}
+use Rattle.reader.specs.declared.requests.Asked.the-variants.{Generate, Contained, Separate, Decompose}
 use Rattle.writer.specs.Lines.{spaced, spacedBrackets, line, outcomeLine}
 
 -- `[map 0 0 2 3]`
@@ -30,9 +31,9 @@ unfoldable pub factorsLine : ℕ → Decomposed → List ℕ → List ℕ
 factorsLine n a bytes =
     let o = decomposedOutcome a in outcomeLine o (line (ascii "[factors") (spacedBrackets (map (stretch n bytes) (upTo (o .count)))))
 
--- the answer to a request: what the service answers, lent just the bytes that it wants
-unfoldable pub answer : Algebra → Request → List ℕ
-answer a (generate ps) = let r = generateCall a ps (replicate (a .size) 0) in generatedLine (r .0) (r .1)
-answer a (contained m) = let r = containedCall a m (replicate (a .size) 0) in mapLine (r .0) (r .1)
-answer a (separate v w) = let r = separateCall a v w (replicate (a .size) 0) in mapLine (r .0) (r .1)
-answer a decompose = let r = decomposeCall a (replicate (factorSpace (a .size)) 0) in factorsLine (a .size) (r .0) (r .1)
+-- the answer to what a request asks, with the numbers that it lists: what the service answers, lent just the bytes that it wants
+unfoldable pub answer : Algebra → Asked → List ℕ → List ℕ
+answer a Generate ps = let r = generateCall a ps (replicate (a .size) 0) in generatedLine (r .0) (r .1)
+answer a Contained m = let r = containedCall a m (replicate (a .size) 0) in mapLine (r .0) (r .1)
+answer a (Separate v w) numbers = let r = separateCall a v w (replicate (a .size) 0) in mapLine (r .0) (r .1)
+answer a Decompose numbers = let r = decomposeCall a (replicate (factorSpace (a .size)) 0) in factorsLine (a .size) (r .0) (r .1)

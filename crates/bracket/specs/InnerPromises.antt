@@ -9,13 +9,13 @@ use Rattle.theory.specs.Decompose.{factorSpace}
 use Rattle.congruence.specs.declared.Decomposed.{Decomposed}
 use Rattle.congruence.specs.declared.Decomposed.the-variants.{Factors}
 use Rattle.reader.specs.Laying.{Laid}
-use Rattle.reader.specs.Lines.{Request}
+use Rattle.reader.specs.declared.requests.Asked.{Asked}
 use Rattle.bracket.specs.Answers.{answer}
 use Rattle.bracket.specs.Fills.{lineRoom}
 
--- the answer to a request was laid in a lent slice, from its start to this place
-abbrev pub Answered : Algebra → Request → RefT (List ℕ) → RefT (List ℕ) → ℕ → Type 0
-Answered a q lent out end = Laid (now lent) 0 (answer a q) (now out) end
+-- the answer to what is asked was laid in a lent slice, from its start to this place
+abbrev pub Answered : Algebra → Asked → List ℕ → RefT (List ℕ) → RefT (List ℕ) → ℕ → Type 0
+Answered a asked numbers lent out end = Laid (now lent) 0 (answer a asked numbers) (now out) end
 
 -- an algebra of n elements, and room for its longest line
 pub record LineFits (n : ℕ) (out : List ℕ) : Type 0 where

@@ -33,7 +33,7 @@ afterLine (refused r) = ends (refusedLine r)
 
 -- a request is answered, also by a refusal, and the run goes on; a faulty line ends it
 unfoldable pub afterRequest : Algebra → Read Request → Step
-afterRequest a (found q at) = goes (answer a q) (record { at = at; algebra = a; asked = true })
+afterRequest a (found q at) = goes (answer a (q .asked) (q .numbers)) (record { at = at; algebra = a; asked = true })
 afterRequest a fault = ends (refusedLine Text)
 
 -- the first line, which is the size line; a text of more than 65,536 bytes is refused before it is read

@@ -8,10 +8,10 @@ use writer::write_generated;
 use writer::write_irreducible;
 use writer::write_map;
 use writer::write_refused;
+ghost use mathlib.Core.List.{[]};
 ghost use Rattle.algebra.specs.Algebra.{algebraIn};
 ghost use Rattle.theory.specs.Decompose.{factorSpace};
-ghost use Rattle.reader.specs.Lines.{generate, contained, separate, decompose};
-ghost use Rattle.reader.specs.InnerPromises.{requestOf};
+ghost use Rattle.reader.specs.declared.requests.Asked.the-variants.{Generate, Contained, Separate, Decompose};
 ghost use Rattle.bracket.specs.Answers.{generatedLine, mapLine, factorsLine};
 ghost use Rattle.reader.specs.Laying.{Laid};
 ghost use Rattle.bracket.specs.InnerPromises.{Answered, LineFits, MapFits, FactorsFit, Zeros};
@@ -39,7 +39,7 @@ fn write_written(answer: Written, map: &[u8], out: &mut [u8]) -> usize
 }
 
 // The line for Decompose's answer, which wrote the factors one after another.
-fn write_decompose(answer: Decomposed, n: usize, factors: &[u8], out: &mut [u8]) -> usize
+fn write_decompose(n: usize, answer: Decomposed, factors: &[u8], out: &mut [u8]) -> usize
     requires { ⌜ FactorsFit answer n (now factors) (now out) ⌝ }
     ensures { λ r. ⌜ Laid (now (out .entry)) 0 (factorsLine n answer (now (factors .entry))) (now (out .exit)) r ⌝ }
 {
@@ -51,7 +51,7 @@ fn write_decompose(answer: Decomposed, n: usize, factors: &[u8], out: &mut [u8])
 }
 
 // Generate, lent n zero bytes for the map.
-fn generate_into(
+fn answer_generate(
     n: usize,
     arities: &[u8],
     cells: &[u8],
@@ -60,14 +60,14 @@ fn generate_into(
     out: &mut [u8],
 ) -> usize
     requires { ⌜ Zeros n n (now map) (now out) ⌝ }
-    ensures { λ r. ⌜ Answered (algebraIn n (arities .entry) (cells .entry)) (generate (now (pairs .entry))) (out .entry) (out .exit) r ⌝ }
+    ensures { λ r. ⌜ Answered (algebraIn n (arities .entry) (cells .entry)) Generate (now (pairs .entry)) (out .entry) (out .exit) r ⌝ }
 {
     let answer = congruence::generate(n, arities, cells, pairs, map);
     write_generate(answer, map, out)
 }
 
 // Contained, lent n zero bytes for the map.
-fn contained_into(
+fn answer_contained(
     n: usize,
     arities: &[u8],
     cells: &[u8],
@@ -76,14 +76,14 @@ fn contained_into(
     out: &mut [u8],
 ) -> usize
     requires { ⌜ Zeros n n (now map) (now out) ⌝ }
-    ensures { λ r. ⌜ Answered (algebraIn n (arities .entry) (cells .entry)) (contained (now (given .entry))) (out .entry) (out .exit) r ⌝ }
+    ensures { λ r. ⌜ Answered (algebraIn n (arities .entry) (cells .entry)) Contained (now (given .entry)) (out .entry) (out .exit) r ⌝ }
 {
     let answer = congruence::contained(n, arities, cells, given, map);
     write_written(answer, map, out)
 }
 
 // Separate, lent n zero bytes for the map.
-fn separate_into(
+fn answer_separate(
     n: usize,
     arities: &[u8],
     cells: &[u8],
@@ -93,14 +93,14 @@ fn separate_into(
     out: &mut [u8],
 ) -> usize
     requires { ⌜ Zeros n n (now map) (now out) ⌝ }
-    ensures { λ r. ⌜ Answered (algebraIn n (arities .entry) (cells .entry)) (separate v w) (out .entry) (out .exit) r ⌝ }
+    ensures { λ r. ⌜ Answered (algebraIn n (arities .entry) (cells .entry)) (Separate v w) [] (out .entry) (out .exit) r ⌝ }
 {
     let answer = congruence::separate(n, arities, cells, v as usize, w as usize, map);
     write_written(answer, map, out)
 }
 
 // Decompose, lent just the zero bytes that it wants.
-fn decompose_into(
+fn answer_decompose(
     n: usize,
     arities: &[u8],
     cells: &[u8],
@@ -108,10 +108,10 @@ fn decompose_into(
     out: &mut [u8],
 ) -> usize
     requires { ⌜ Zeros (factorSpace n) n (now factors) (now out) ⌝ }
-    ensures { λ r. ⌜ Answered (algebraIn n (arities .entry) (cells .entry)) decompose (out .entry) (out .exit) r ⌝ }
+    ensures { λ r. ⌜ Answered (algebraIn n (arities .entry) (cells .entry)) Decompose [] (out .entry) (out .exit) r ⌝ }
 {
     let answer = congruence::decompose(n, arities, cells, factors);
-    write_decompose(answer, n, factors, out)
+    write_decompose(n, answer, factors, out)
 }
 
 // The answer to what a request asks, with the numbers that were stored for it; each service is lent just the bytes that it wants.
@@ -125,13 +125,13 @@ fn answer_into(
     out: &mut [u8],
 ) -> usize
     requires { ⌜ Zeros 4032 n (now space) (now out) ⌝ }
-    ensures { λ r. ⌜ Answered (algebraIn n (arities .entry) (cells .entry)) (requestOf asked (now (numbers .entry))) (out .entry) (out .exit) r ⌝ }
+    ensures { λ r. ⌜ Answered (algebraIn n (arities .entry) (cells .entry)) asked (now (numbers .entry)) (out .entry) (out .exit) r ⌝ }
 {
     match asked {
-        Asked::Generate => generate_into(n, arities, cells, numbers, &mut space[0..n], out),
-        Asked::Contained => contained_into(n, arities, cells, numbers, &mut space[0..n], out),
-        Asked::Separate(v, w) => separate_into(n, arities, cells, v, w, &mut space[0..n], out),
-        Asked::Decompose => decompose_into(n, arities, cells, &mut space[0..(n - 1) * n], out),
+        Asked::Generate => answer_generate(n, arities, cells, numbers, &mut space[0..n], out),
+        Asked::Contained => answer_contained(n, arities, cells, numbers, &mut space[0..n], out),
+        Asked::Separate(v, w) => answer_separate(n, arities, cells, v, w, &mut space[0..n], out),
+        Asked::Decompose => answer_decompose(n, arities, cells, &mut space[0..(n - 1) * n], out),
     }
 }
 
@@ -145,7 +145,7 @@ pub fn answer(
     out: &mut [u8],
 ) -> usize
     requires { ⌜ LineFits n (now out) ⌝ }
-    ensures { λ r. ⌜ Answered (algebraIn n (arities .entry) (cells .entry)) (requestOf asked (now (numbers .entry))) (out .entry) (out .exit) r ⌝ }
+    ensures { λ r. ⌜ Answered (algebraIn n (arities .entry) (cells .entry)) asked (now (numbers .entry)) (out .entry) (out .exit) r ⌝ }
 {
     let mut space = [0u8; 4032];
     answer_into(n, arities, cells, asked, numbers, &mut space, out)

@@ -1,5 +1,7 @@
 // A run over a text, in fills: lines are taken, and what they write is laid in a lent slice, until the run is over or the slice gets short.
 use crate::steps::next_step;
+use algebra::MAX_OPERATIONS;
+use equivalence::checks::MAX_SIZE;
 ghost use mathlib.Core.Bool.{true};
 ghost use mathlib.Core.Path.{_≡_};
 ghost use Rattle.bracket.specs.Standings.{Sound, FillPromiseIn, unread as unreadAs, canFill};
@@ -57,7 +59,7 @@ fn closed(standing: Standing, end: usize) -> Standing
 }
 
 // Takes the line at which a run stands.
-fn line(
+fn take_line(
     text: &[u8],
     standing: Standing,
     arities: &mut [u8],
@@ -80,7 +82,7 @@ fn line(
 }
 
 // Takes lines, each behind the bytes that those before it laid.
-fn gather(
+fn take_lines(
     text: &[u8],
     start: Standing,
     arities: &mut [u8],
@@ -100,7 +102,7 @@ fn gather(
                 wrote: put,
             };
         }
-        let next = line(text, standing, arities, room, &mut out[put..]);
+        let next = take_line(text, standing, arities, room, &mut out[put..]);
         standing = next.standing;
         put = put + next.wrote;
     }
@@ -123,10 +125,10 @@ fn can_fill(text: usize, standing: Standing, arities: usize, room: usize, out: u
     if standing.size < 1 {
         return false;
     }
-    if 64 < standing.size {
+    if MAX_SIZE < standing.size as usize {
         return false;
     }
-    if 16 < standing.operations {
+    if MAX_OPERATIONS < standing.operations {
         return false;
     }
     if standing.at < standing.operations {
@@ -135,7 +137,7 @@ fn can_fill(text: usize, standing: Standing, arities: usize, room: usize, out: u
     if standing.at < standing.cells {
         return false;
     }
-    if arities < 16 {
+    if arities < MAX_OPERATIONS {
         return false;
     }
     if room < text {
@@ -163,5 +165,5 @@ pub fn fill(
             wrote: 0,
         };
     }
-    gather(text, standing, arities, room, out)
+    take_lines(text, standing, arities, room, out)
 }

@@ -67,8 +67,8 @@ module _ (n : ℕ) (ms : List Map) (bytes : List ℕ) (s : SuffixMeets n ms byte
       let none : 0 * n ≡ 0 = omega arith in
       begins-is (begins-sym (begins-take bytes)) (ap (λ (z : ℕ). take n (drop z bytes)) (sym none) ∙ s 0 (omega arith))
 
-  pub suffixes-canonical : Canonical n (byte bytes)
-  suffixes-canonical = begins-canonical whole-list (meetAll-map n ms)
+  pub all-suffixes-canonical : Canonical n (byte bytes)
+  all-suffixes-canonical = begins-canonical whole-list (meetAll-map n ms)
 
   pub suffixes-identity : isIdentity n bytes ≡ isIdentity n (meetAll n ms)
   suffixes-identity = begins-isIdentity whole-list

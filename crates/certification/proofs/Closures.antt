@@ -65,8 +65,8 @@ module _ {a : Algebra} (w : WellFormed a) {m : Map} (p : IsMap (a .size) m) (x y
   copied-begins : Begins (a .size) copied m
   copied-begins = record { same = fill .first }
 
-  pub copied-canonical : Canonical (a .size) (byte copied)
-  copied-canonical = begins-canonical copied-begins p
+  pub copied-map-canonical : Canonical (a .size) (byte copied)
+  copied-map-canonical = begins-canonical copied-begins p
 
   copied-front : take (a .size) copied ≡ m
   copied-front =

@@ -50,7 +50,7 @@ fn none_superfluous(n: usize, count: usize, maps: &[u8], suffixes: &[u8], met: &
     requires { ⌜ n ≤ length (now met) ⌝ }
     ensures { λ r. ⌜ r ≡ every (λ i. not (isIdentity n (meetAll n (without i (mapList n count (now (maps .entry))))))) (upTo (length (mapList n count (now (maps .entry))))) ⌝ }
 {
-    whole_into(met, n);
+    whole_into(n, met);
     let mut i = 0;
     let mut at = 0;
     while i < count {
@@ -90,8 +90,8 @@ fn meet_closure(
         return;
     }
     let mut larger = [0u8; 64];
-    copy(map, &mut larger, n);
-    extended_into(&mut larger, n, arities, cells, x, y);
+    copy(n, map, &mut larger);
+    extended_into(n, arities, cells, x, y, &mut larger);
     meet_with(n, &larger, met);
 }
 
@@ -119,7 +119,7 @@ fn is_maximal(n: usize, arities: &[u8], cells: &[u8], map: &[u8], met: &mut [u8]
     requires { ⌜ n ≤ length (now met) ⌝ }
     ensures { λ r. ⌜ r ≡ any (isMaximalFor (algebraIn n (arities .entry) (cells .entry)) (now (map .entry))) (pairs n) ⌝ }
 {
-    whole_into(met, n);
+    whole_into(n, met);
     let mut x = 0;
     while x < n {
         meet_closures(n, arities, cells, map, x, met);

@@ -23,7 +23,7 @@ use Rattle.algebra.specs.Algebra.{Algebra, algebraOf, cellCount}
 use Rattle.algebra.proofs.Accepted.{WellFormed, accepted-wellFormed}
 use Rattle.congruence.specs.Calls.{quotientSpace, quotientTests, quotientCall, algebraFrom, decomposed, factorBytes, decomposeTests, decomposeCall}
 use Rattle.theory.specs.Decompose.{listed, factorSpace, reducible}
-use Rattle.congruence.specs.Demands.{QuotientDraws11, FactorCalls}
+use Rattle.congruence.specs.Demands.{QuotientAnswers11, FactorCalls}
 use Rattle.congruence.proofs.Calls.{factor-calls}
 use Rattle.congruence.proofs.Demands.{listed-right}
 use Rattle.congruence.proofs.Decomposing.{decomposed-yes, decomposed-no}
@@ -186,18 +186,18 @@ module _ (a : Algebra) (m tables again : List ℕ) {d : Divided} {tables′ : Li
   calls-declined f = rw (← e, f)
 
 module _ (a : Algebra) (m : Map) (lent : List ℕ × List ℕ) where
-  -- Quotient is given and draws 11: the last answer is 11, the tables keep their length, and nothing else changes
-  factor-drawn : QuotientDraws11 a m → quotientSpace a m ≤ length (lent .0) → factorSpace (blocks (a .size) m) ≤ length (lent .1)
+  -- Quotient is given, and its quotient answers 11: the last answer is 11, the tables keep their length, and nothing else changes
+  factor-answers : QuotientAnswers11 a m → quotientSpace a m ≤ length (lent .0) → factorSpace (blocks (a .size) m) ≤ length (lent .1)
       → ((x : Element) × (y : Element) × (factorCalls a m lent .0 ≡ Irreducible x y))
       × (length (factorCalls a m lent .1 .0) ≡ length (lent .0)) × (factorCalls a m lent .1 .1 ≡ lent .1)
-  factor-drawn q room wide =
+  factor-answers q room wide =
       let b : ℕ = blocks (a .size) m in
       let tables : List ℕ = quotientCall a m (lent .0) .1 in
       let given : quotientCall a m (lent .0) .0 ≡ Blocks b = q .given (lent .0) room in
       let q′ : Algebra = algebraFrom b (a .arities) tables in
       let last : Decomposed × List ℕ = decomposeCall q′ (lent .1) in
       let calls : (last .0, (tables, last .1)) ≡ factorCalls a m lent = calls-given a m (lent .0) (lent .1) refl given refl in
-      let d = q .draws11 (lent .0) room b given (lent .1) wide in
+      let d = q .answers11 (lent .0) room b given (lent .1) wide in
       rw (← calls) ((d .0, d .1, d .2), quotient-length a m (lent .0), irreducible-keeps q′ (lent .1) (d .0) (d .1) (d .2))
 
 -- ---- the loop over the factors
@@ -286,29 +286,29 @@ module _ (a : Algebra) (list : List ℕ) (lent : List ℕ × List ℕ) (accepted
   calls : FactorCalls a list
   calls = factor-calls a accepted list (enough .list)
 
-  draws : (i : ℕ) → i < factorCount (decomposed a) → QuotientDraws11 a (stretch (a .size) after i)
-  draws i l = calls .quotients (factorCount (decomposed a)) i (calls .answer ∙ counts-factors (decomposed a) i l) l
+  factor-quotient : (i : ℕ) → i < factorCount (decomposed a) → QuotientAnswers11 a (stretch (a .size) after i)
+  factor-quotient i l = calls .quotients (factorCount (decomposed a)) i (calls .answer ∙ counts-factors (decomposed a) i l) l
 
   -- before the calls for factor i the tables have their length, and the bytes of the last call are as they were
   abbrev Kept : ℕ → Type 0
   Kept i = (length (lentAt a after lent i .0) ≡ length (lent .0)) × (lentAt a after lent i .1 ≡ lent .1)
 
-  drawn : (i : ℕ) → i < factorCount (decomposed a) → Kept i → ((x : Element) × (y : Element) × (lastAnswer a after lent i ≡ Irreducible x y)) × Kept (suc i)
+  last-answers : (i : ℕ) → i < factorCount (decomposed a) → Kept i → ((x : Element) × (y : Element) × (lastAnswer a after lent i ≡ Irreducible x y)) × Kept (suc i)
   unfolding lentAt lastAnswer
-  drawn i l k =
-      let d = factor-drawn a (stretch (a .size) after i) (lentAt a after lent i) (draws i l) (omega (arith, k .0, enough .tables i l)) (rw (k .1) (enough .again i l)) in
+  last-answers i l k =
+      let d = factor-answers a (stretch (a .size) after i) (lentAt a after lent i) (factor-quotient i l) (omega (arith, k .0, enough .tables i l)) (rw (k .1) (enough .again i l)) in
       (d .0, (d .1 ∙ k .0, d .2 ∙ k .1))
 
   kept : (i : ℕ) → i ≤ factorCount (decomposed a) → Kept i
   unfolding lentAt
   kept zero l = (refl, refl)
-  kept (suc i) l = drawn i (omega arith) (kept i (omega arith)) .1
+  kept (suc i) l = last-answers i (omega arith) (kept i (omega arith)) .1
 
   all-irreducible : (i : ℕ) → i ≤ factorCount (decomposed a) → irreducibleAmong a after lent i ≡ i
   unfolding irreducibleAmong
   all-irreducible zero l = refl
   all-irreducible (suc i) l =
-      let d = drawn i (omega arith) (kept i (omega arith)) .0 in
+      let d = last-answers i (omega arith) (kept i (omega arith)) .0 in
       omega (arith, all-irreducible i (omega arith), irreducible-counted (lastAnswer a after lent i) (d .0) (d .1) (d .2))
 
   -- demand 3: every last call answers 11
@@ -320,7 +320,7 @@ module _ (a : Algebra) (list : List ℕ) (lent : List ℕ × List ℕ) (accepted
       let few : factorCount (r .first) ≡ factorCount (decomposed a) = ap factorCount first in
       record {
         first = first;
-        each = λ i l. drawn i (omega (arith, few)) (kept i (omega (arith, few))) .0;
+        each = λ i l. last-answers i (omega (arith, few)) (kept i (omega (arith, few))) .0;
         all = counted ∙ ap (λ (l : List ℕ). irreducibleAmong a l lent (factorCount (r .first))) written
             ∙ all-irreducible (factorCount (r .first)) (omega (arith, few));
       }

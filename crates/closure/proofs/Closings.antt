@@ -137,7 +137,7 @@ module _ (a : Algebra) (ok : WellFormed a) {v w : ℕ} (lv : v < a .size) (lw : 
     same = d .within (e .to) (s .queue i) (e .alive .small) (q .small i (omega arith)) (e .same) ∙ ap (t .map) (sym (d .kept i (omega arith)));
     images = λ j lj. subst (λ (z : ℕ). ImagesIn a j (Alive (a .size) (r .base) (t .queue) i) (e .to) z (t .map)) (sym (d .kept i (omega arith)))
         (images-fewer a j (e .to) (s .queue i) (t .map) (Alive (a .size) (r .base) (s .queue) i) (Alive (a .size) (r .base) (t .queue) i) (alive-before i (omega arith))
-        (images-kept a ok j lj (λ c m. m .small) (e .alive .small) (q .small i (omega arith)) (d .within) (e .images j lj)));
+        (images-kept a ok j (Alive (a .size) (r .base) (s .queue) i) (e .to) (s .queue i) (d .within) (e .images j lj)));
   }
 
   pub running-more : Running a v w (k + 1) t live′ count′
@@ -219,7 +219,7 @@ module _ (a : Algebra) (ok : WellFormed a) {v w k : ℕ} {s : QueueState} {live 
 
   base-images : (x : ℕ) → Element x → ImagesIn a j Element x (r .base x) f
   base-images x l =
-      images-kept a ok j lj (λ c m. m) l (base-small x l) (r .within)
+      images-kept a ok j Element x (r .base x) (r .within)
       (λ pre post e p h. r .compatible x (r .base x) l (base-small x l) (sym (r .canonical .named x l)) j lj pre post e (all-below (a .size) pre p) (all-below (a .size) post h))
 
   -- the result at an argument list is joined with the result at the names

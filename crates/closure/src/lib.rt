@@ -15,8 +15,8 @@ ghost use Rattle.closure.specs.InnerStarts.{JoinsPairs, Extends, Refused
 pub mod rounds;
 pub mod start;
 
-// `generate` with room for the queue and for the list of elements in use.
-fn generate_in(
+// `close_pairs` with room for the queue and for the list of elements in use.
+fn close_pairs_in(
     m: &mut [u8],
     n: usize,
     arities: &[u8],
@@ -34,8 +34,8 @@ fn generate_in(
     ensures { λ r. ⌜ r + names n (byte (now (m .exit))) ≡ n ⌝ }
     ensures { λ _. ⌜ ((z : ℕ) → n ≤ z → byte (now (m .exit)) z ≡ byte (now (m .entry)) z) ⌝ }
 {
-    equivalence::blocks::identity(m, n);
-    equivalence::blocks::identity(live, n);
+    equivalence::blocks::identity(n, m);
+    equivalence::blocks::identity(n, live);
     let len = start::seed(m, n, queue, pairs);
     rounds::close(
         m,
@@ -54,7 +54,7 @@ fn generate_in(
 }
 
 // The first n bytes of m become the least congruence that joins the pairs of a flat list. How many merges made it.
-pub fn generate(m: &mut [u8], n: usize, arities: &[u8], cells: &[u8], pairs: &[u8]) -> usize
+pub fn close_pairs(m: &mut [u8], n: usize, arities: &[u8], cells: &[u8], pairs: &[u8]) -> usize
     requires { ⌜ Accepted (algebraIn n arities cells) ⌝ }
     requires { ⌜ n ≤ length (now m) ⌝ }
     requires { ⌜ ((i : ℕ) → i < length (now pairs) → byte (now pairs) i < n) ⌝ }
@@ -64,11 +64,11 @@ pub fn generate(m: &mut [u8], n: usize, arities: &[u8], cells: &[u8], pairs: &[u
 {
     let mut queue = [0u8; 64];
     let mut live = [0u8; 64];
-    generate_in(m, n, arities, cells, pairs, &mut queue, &mut live)
+    close_pairs_in(m, n, arities, cells, pairs, &mut queue, &mut live)
 }
 
-// `extend` with room for the queue and for the list of elements in use.
-fn extend_in(
+// `close_with` with room for the queue and for the list of elements in use.
+fn close_with_in(
     m: &mut [u8],
     n: usize,
     arities: &[u8],
@@ -89,7 +89,7 @@ fn extend_in(
     ensures { λ r. ⌜ r + names n (byte (now (m .exit))) ≡ names n (byte (now (m .entry))) ⌝ }
     ensures { λ _. ⌜ ((z : ℕ) → n ≤ z → byte (now (m .exit)) z ≡ byte (now (m .entry)) z) ⌝ }
 {
-    equivalence::blocks::identity(live, n);
+    equivalence::blocks::identity(n, live);
     let old = start::others(m, n, queue);
     let len = sweep::queue::merge_queued(m, n, queue, old, x as u8, y as u8);
     let all = rounds::close(
@@ -110,7 +110,7 @@ fn extend_in(
 }
 
 // The map m becomes the least congruence that joins what m joins, and x and y. How many blocks that cost.
-pub fn extend(m: &mut [u8], n: usize, arities: &[u8], cells: &[u8], x: usize, y: usize) -> usize
+pub fn close_with(m: &mut [u8], n: usize, arities: &[u8], cells: &[u8], x: usize, y: usize) -> usize
     requires { ⌜ Accepted (algebraIn n arities cells) ⌝ }
     requires { ⌜ n ≤ length (now m) ⌝ }
     requires { ⌜ Canonical n (byte (now m)) ⌝ }
@@ -122,13 +122,13 @@ pub fn extend(m: &mut [u8], n: usize, arities: &[u8], cells: &[u8], x: usize, y:
 {
     let mut queue = [0u8; 64];
     let mut live = [0u8; 64];
-    extend_in(m, n, arities, cells, x, y, &mut queue, &mut live)
+    close_with_in(m, n, arities, cells, x, y, &mut queue, &mut live)
 }
 
 // A congruence m is made to join x and y, unless that joins v and w, if they are two: then the work stops. It stops as well where a pair
 // would be joined that is marked in the table of refused pairs: whatever joins such a pair joins v and w. The names of m are in use at first.
 // How many blocks it cost.
-fn try_in(
+fn close_apart_in(
     m: &mut [u8],
     n: usize,
     arities: &[u8],
@@ -173,9 +173,9 @@ fn try_in(
     )
 }
 
-// As `extend`, for a map that is a congruence already and where that holds v and w apart: only the new pair is queued, and only names are in use. Where it
+// As `close_with`, for a map that is a congruence already and where that holds v and w apart: only the new pair is queued, and only names are in use. Where it
 // does not, the answer is false, and m is some map above the old one. The names of m, listed, are handed in.
-pub fn extend_apart(
+pub fn close_apart(
     m: &mut [u8],
     n: usize,
     arities: &[u8],
@@ -204,8 +204,8 @@ pub fn extend_apart(
 {
     let mut queue = [0u8; 64];
     let mut live = [0u8; 64];
-    equivalence::blocks::copy(names, &mut live, 64);
-    let lost = try_in(
+    equivalence::blocks::copy(64, names, &mut live);
+    let lost = close_apart_in(
         m,
         n,
         arities,

@@ -22,7 +22,7 @@ use Rattle.algebra.proofs.Accepted.{WellFormed, accepted-wellFormed, not-yes, w
 use Rattle.algebra.proofs.Congruences.{congruence-is}
 use Rattle.congruence.specs.Calls.{element, irreducibleAnswer, congruenceTest, quotientSpace, quotientTests, quotientCall, algebraFrom, decomposed, factorBytes, decomposeTests, decomposeCall}
 use Rattle.theory.specs.Decompose.{listed, factorSpace, reducible, commonPair}
-use Rattle.congruence.specs.Demands.{Answers11, QuotientDraws11, FactorCalls}
+use Rattle.congruence.specs.Demands.{Answers11, QuotientAnswers11, FactorCalls}
 use Rattle.congruence.proofs.Demands.{listed-right}
 use Rattle.theory.proofs.Factors.{listed-long}
 use Rattle.congruence.proofs.Decomposing.{decomposed-yes, decomposed-no, factorBytes-yes}
@@ -98,12 +98,12 @@ unfolding quotient
 size-quotient a m again g = g
 
 module _ (a : Algebra) (accepted : Accepted a) where
-  -- Quotient by a congruence whose quotient draws 11
-  pub quotient-draws11 : (m : Map) → Congruence a m → Answers11 (quotient a m) → QuotientDraws11 a m
-  quotient-draws11 m p e =
+  -- Quotient by a congruence whose quotient answers 11
+  pub quotient-answers11 : (m : Map) → Congruence a m → Answers11 (quotient a m) → QuotientAnswers11 a m
+  quotient-answers11 m p e =
       record {
         given = λ tables h. quotient-answer a accepted m p tables h;
-        draws11 = λ tables h b f again g.
+        answers11 = λ tables h b f again g.
             let b-is : blocks (a .size) m ≡ b = blocks-injective (blocks (a .size) m) b (sym (quotient-answer a accepted m p tables h) ∙ f) in
             let n = blocks (a .size) m in
             let q : Accepted (quotient a m) = wellFormed-accepted (quotient a m) (quotient-wellFormed a (accepted-wellFormed a accepted) m (congruence-is a m p)) in
@@ -134,5 +134,5 @@ module _ (a : Algebra) (accepted : Accepted a) where
             let r = factors-reducible a k d in
             let f = listed-right a accepted (r .0) in
             let j : i < length (listed a) = omega (arith, r .1) in
-            rw (maps k i d l) (quotient-draws11 (getD (listed a) i []) (f .congruences i j) (f .irreducible i j));
+            rw (maps k i d l) (quotient-answers11 (getD (listed a) i []) (f .congruences i j) (f .irreducible i j));
       }

@@ -47,7 +47,7 @@ module _ (a : Algebra) (c : WellFormed a) where
   pub of-irreducible : (x y : Element) → decomposed a ≡ Irreducible x y → (ms : List Map) → ¬ Splitting a ms
   of-irreducible x y e = unsplit a c (λ t. let d = decomposed-yes a t in let z : _≡_ {A = ℕ} 0 1 = cc in omega arith)
 
--- the quotient by a congruence that is maximal for some pair draws 11
+-- the quotient by a congruence that is maximal for some pair answers 11
 pub quotient-irreducible : (a : Algebra) → WellFormed a → (m : Map) → IsCongruence a m → (x y : ℕ) → x < a .size → y < a .size → MaximalFor a m x y
     → decomposed (quotient a m) ≡ irreducibleAnswer (quotient a m)
 quotient-irreducible a c m p x y l k h = irreducible-of (quotient a m) (quotient-wellFormed a c m p) (quotient-unsplit a c m p x y l k h)
@@ -63,14 +63,14 @@ unfolding factorBytes
 factorBytes-no a t = pick-no (reducible a) (concat (listed a)) [] t
 
 module _ (a : Algebra) (lent : List ℕ) {after : List ℕ} {found : Found} (f : Factored a found lent after)
-    {check : Check} (told : check ≡ Passed) (passed : check ≡ lowest (decomposeTests a (length lent))) where
+    {check : Check} (known : check ≡ Passed) (passed : check ≡ lowest (decomposeTests a (length lent))) where
   pub decompose-factors : {k : ℕ} → found ≡ Counted k → (Factors k, after) ≡ decomposeCall a lent
   decompose-factors {k} e =
       let g : Factored a (Counted k) lent after = rw e at f in
-      decompose-granted a lent passed told (rw (decomposed-yes a (g .0), g .1)) (rw (factorBytes-yes a (g .0)) (g .2))
+      decompose-granted a lent passed known (rw (decomposed-yes a (g .0), g .1)) (rw (factorBytes-yes a (g .0)) (g .2))
 
   pub decompose-irreducible : {x y : Element} → found ≡ Paired x y → (Irreducible x y, after) ≡ decomposeCall a lent
   unfolding written
   decompose-irreducible {x} {y} e =
       let g : Factored a (Paired x y) lent after = rw e at f in
-      decompose-granted a lent passed told (rw (decomposed-no a (g .0), g .1)) (rw (factorBytes-no a (g .0)) (g .2))
+      decompose-granted a lent passed known (rw (decomposed-no a (g .0), g .1)) (rw (factorBytes-no a (g .0)) (g .2))

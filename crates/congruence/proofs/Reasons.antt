@@ -1,4 +1,4 @@
--- The tests of every service rise by rank, and its refusals are told apart from each other and from its answers: so each is refused with the lowest
+-- The tests of every service rise by rank, and its refusals differ from each other and from its answers: so each is refused with the lowest
 -- reason among its tests, and only so; and a refusal leaves the lent bytes as they were.
 use Prim.Native.Nat.{ℕ}
 use mathlib.Core.Bool.{Bool, true, false}
@@ -65,7 +65,7 @@ module _ (a : Algebra) where
   unfolding rises rank numberOf algebraTests sizeTest mapsTest
   rises-certify bytes = tt
 
--- ---- refusals are told apart, and from the answers
+-- ---- refusals differ, from each other and from the answers
 
 write-apart : Injective WriteRefused
 write-apart r s e = cc

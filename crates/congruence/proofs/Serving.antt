@@ -39,7 +39,7 @@ use Rattle.congruence.proofs.Testing.{of-checked, of-pairsTest, of-elem
 -- ---- what a call may rely on once its tests have passed
 
 pub tests-passed : {check : Check} (tests : List Test) → check ≡ Passed → check ≡ lowest tests → Passed ≡ lowest tests
-tests-passed tests told e = sym told ∙ e
+tests-passed tests known e = sym known ∙ e
 
 module _ (a : Algebra) (room : ℕ) where
   pub of-generateTests : (ps : List ℕ) → Passed ≡ lowest (generateTests a ps room) → Accepted a × (Below (a .size) ps × (a .size ≤ room))
@@ -86,18 +86,18 @@ of-certifyTests a bytes e =
 
 pub certify-some : (n : ℕ) (arities cells bytes : List ℕ) {check : Check} → check ≡ Passed → check ≡ lowest (certifyTests (algebraOf n arities cells) bytes)
     → 0 < n
-certify-some n arities cells bytes told e = of-certifyTests (algebraOf n arities cells) bytes (tests-passed _ told e) .1 .some
+certify-some n arities cells bytes known e = of-certifyTests (algebraOf n arities cells) bytes (tests-passed _ known e) .1 .some
 
 -- ---- the answer, and the lent bytes afterwards
 
 module _ {ℓ} {A : Type ℓ} (refused : Refusal → A) (tests : List Test) (answer : A) (new lent : List ℕ) {check : Check} (e : check ≡ lowest tests) where
   -- a test declines: nothing is written
   declined : (r : Refusal) → check ≡ Failed r → (refused r, lent) ≡ serve refused tests answer new lent
-  declined r told = sym (serve-failed refused tests answer new lent r (sym e ∙ told))
+  declined r known = sym (serve-failed refused tests answer new lent r (sym e ∙ known))
 
   -- all pass, and the new bytes are written
   granted : check ≡ Passed → {given : A} {after : List ℕ} → given ≡ answer → after ≡ written new lent → (given, after) ≡ serve refused tests answer new lent
-  granted told f g = rw (f, g) (sym (serve-passed refused tests answer new lent (sym e ∙ told)))
+  granted known f g = rw (f, g) (sym (serve-passed refused tests answer new lent (sym e ∙ known)))
 
 module _ (a : Algebra) (ps lent : List ℕ) {check : Check} (e : check ≡ lowest (generateTests a ps (length lent))) where
   pub generate-declined : (r : Refusal) → check ≡ Failed r → (GenerateRefused r, lent) ≡ generateCall a ps lent
@@ -107,7 +107,7 @@ module _ (a : Algebra) (ps lent : List ℕ) {check : Check} (e : check ≡ lowes
   pub generate-granted : {merges : ℕ} {after : List ℕ} → check ≡ Passed → merges ≡ a .size - blocks (a .size) (generated a ps)
       → after ≡ written (generated a ps) lent → (Merges merges, after) ≡ generateCall a ps lent
   unfolding generateCall
-  generate-granted told f = granted GenerateRefused _ _ _ lent e told (ap Merges f)
+  generate-granted known f = granted GenerateRefused _ _ _ lent e known (ap Merges f)
 
 module _ (a : Algebra) (m lent : List ℕ) {check : Check} (e : check ≡ lowest (containedTests a m (length lent))) where
   pub contained-declined : (r : Refusal) → check ≡ Failed r → (WriteRefused r, lent) ≡ containedCall a m lent
@@ -116,7 +116,7 @@ module _ (a : Algebra) (m lent : List ℕ) {check : Check} (e : check ≡ lowest
 
   pub contained-granted : {after : List ℕ} → check ≡ Passed → after ≡ written (contained a m) lent → (Done, after) ≡ containedCall a m lent
   unfolding containedCall
-  contained-granted told = granted WriteRefused _ _ _ lent e told refl
+  contained-granted known = granted WriteRefused _ _ _ lent e known refl
 
 module _ (a : Algebra) (v w : ℕ) (lent : List ℕ) {check : Check} (e : check ≡ lowest (separateTests a v w (length lent))) where
   pub separate-declined : (r : Refusal) → check ≡ Failed r → (WriteRefused r, lent) ≡ separateCall a v w lent
@@ -125,7 +125,7 @@ module _ (a : Algebra) (v w : ℕ) (lent : List ℕ) {check : Check} (e : check 
 
   pub separate-granted : {after : List ℕ} → check ≡ Passed → after ≡ written (separated a v w) lent → (Done, after) ≡ separateCall a v w lent
   unfolding separateCall
-  separate-granted told = granted WriteRefused _ _ _ lent e told refl
+  separate-granted known = granted WriteRefused _ _ _ lent e known refl
 
 module _ (a : Algebra) (m lent : List ℕ) {check : Check} (e : check ≡ lowest (quotientTests a m (length lent))) where
   pub quotient-declined : (r : Refusal) → check ≡ Failed r → (DivideRefused r, lent) ≡ quotientCall a m lent
@@ -135,7 +135,7 @@ module _ (a : Algebra) (m lent : List ℕ) {check : Check} (e : check ≡ lowest
   pub quotient-granted : {b : ℕ} {after : List ℕ} → check ≡ Passed → b ≡ blocks (a .size) m → after ≡ written (quotientCells a m) lent
       → (Blocks b, after) ≡ quotientCall a m lent
   unfolding quotientCall
-  quotient-granted told f = granted DivideRefused _ _ _ lent e told (ap Blocks f)
+  quotient-granted known f = granted DivideRefused _ _ _ lent e known (ap Blocks f)
 
 module _ (a : Algebra) (lent : List ℕ) {check : Check} (e : check ≡ lowest (decomposeTests a (length lent))) where
   pub decompose-declined : (r : Refusal) → check ≡ Failed r → (DecomposeRefused r, lent) ≡ decomposeCall a lent
@@ -145,18 +145,18 @@ module _ (a : Algebra) (lent : List ℕ) {check : Check} (e : check ≡ lowest (
   pub decompose-granted : {given : Decomposed} {after : List ℕ} → check ≡ Passed → given ≡ decomposed a → after ≡ written (factorBytes a) lent
       → (given, after) ≡ decomposeCall a lent
   unfolding decomposeCall
-  decompose-granted told f g = granted DecomposeRefused _ _ _ lent e told f g
+  decompose-granted known f g = granted DecomposeRefused _ _ _ lent e known f g
 
 module _ (a : Algebra) (bytes : List ℕ) {check : Check} (e : check ≡ lowest (certifyTests a bytes)) where
   pub certify-declined : (r : Refusal) → check ≡ Failed r → CertifyRefused r ≡ certifyCall a bytes
   unfolding certifyCall answered
-  certify-declined r told = rw (← e, told)
+  certify-declined r known = rw (← e, known)
 
-  module _ (told : check ≡ Passed) {r : Bool} (f : r ≡ certified a (mapList (a .size) (length bytes / a .size) bytes)) where
+  module _ (known : check ≡ Passed) {r : Bool} (f : r ≡ certified a (mapList (a .size) (length bytes / a .size) bytes)) where
     pub certify-yes : r ≡ true → Yes ≡ certifyCall a bytes
     unfolding certifyCall answered mapsIn mapList
-    certify-yes g = rw (← e, told) (sym (pick-yes (certified a (mapsIn (a .size) bytes)) Yes No (T-of (sym f ∙ g))))
+    certify-yes g = rw (← e, known) (sym (pick-yes (certified a (mapsIn (a .size) bytes)) Yes No (T-of (sym f ∙ g))))
 
     pub certify-no : r ≡ false → No ≡ certifyCall a bytes
     unfolding certifyCall answered mapsIn mapList
-    certify-no g = rw (← e, told) (sym (pick-no (certified a (mapsIn (a .size) bytes)) Yes No (not-T-of (sym f ∙ g))))
+    certify-no g = rw (← e, known) (sym (pick-no (certified a (mapsIn (a .size) bytes)) Yes No (not-T-of (sym f ∙ g))))

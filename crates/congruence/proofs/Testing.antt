@@ -38,11 +38,11 @@ use Rattle.equivalence.specs.declared.Check.the-variants.{Passed, Failed}
 module _ (a : Algebra) (rest : List Test) where
   -- a reason of the algebra's is the call's
   pub algebra-declines : {check : Check} (r : Refusal) → check ≡ Failed r → check ≡ lowest (algebraTests a) → Failed r ≡ lowest (algebraTests a ++ rest)
-  algebra-declines r told e = sym (lowest-failed (algebraTests a) rest r (sym e ∙ told))
+  algebra-declines r known e = sym (lowest-failed (algebraTests a) rest r (sym e ∙ known))
 
   -- an accepted algebra's tests are passed over
   pub algebra-passes : {check found : Check} → check ≡ Passed → check ≡ lowest (algebraTests a) → found ≡ lowest rest → found ≡ lowest (algebraTests a ++ rest)
-  algebra-passes told e f = f ∙ sym (lowest-append (algebraTests a) rest (sym e ∙ told))
+  algebra-passes known e f = f ∙ sym (lowest-append (algebraTests a) rest (sym e ∙ known))
 
   -- where all pass, the algebra is accepted and the rest passes
   pub of-checked : Passed ≡ lowest (algebraTests a ++ rest) → Accepted a × (lowest rest ≡ Passed)
@@ -52,7 +52,7 @@ module _ (a : Algebra) (rest : List Test) where
 -- where the algebra's tests found nothing, it is accepted
 pub passed-accepted : (a : Algebra) {check : Check} → check ≡ Passed → check ≡ lowest (algebraTests a) → Accepted a
 unfolding Accepted
-passed-accepted a told e = sym e ∙ told
+passed-accepted a known e = sym e ∙ known
 
 -- where `is_map` says so, it is a map
 pub flag-map : (n : ℕ) (m : Map) {r : Bool} → r ≡ isMap n m → not r ≡ false → T (isMap n m)
@@ -61,9 +61,9 @@ flag-map n m {r} e f = T-of (sym e ∙ not-false r f)
 pub flag-long : (n : ℕ) (m : Map) {r : Bool} → r ≡ isMap n m → not r ≡ false → n ≤ length m
 flag-long n m e f = omega (arith, of-isMap n m (flag-map n m e f) .long)
 
-module _ (n : ℕ) (arities cells : List ℕ) {check : Check} (told : check ≡ Passed) (e : check ≡ lowest (algebraTests (algebraOf n arities cells))) where
+module _ (n : ℕ) (arities cells : List ℕ) {check : Check} (known : check ≡ Passed) (e : check ≡ lowest (algebraTests (algebraOf n arities cells))) where
   passed-wellFormed : WellFormed (algebraOf n arities cells)
-  passed-wellFormed = accepted-wellFormed (algebraOf n arities cells) (passed-accepted (algebraOf n arities cells) told e)
+  passed-wellFormed = accepted-wellFormed (algebraOf n arities cells) (passed-accepted (algebraOf n arities cells) known e)
 
   pub passed-some : 1 ≤ n
   passed-some = passed-wellFormed .some

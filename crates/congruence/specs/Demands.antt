@@ -107,9 +107,9 @@ pub record FactorTheorem (a : Algebra) : Type 0 where
   pub otherwise : ¬ Answers11 a → (decomposed a ≡ Factors (length (listed a))) × FactorsRight a (listed a)
 
 -- Quotient by m is given, and Decompose on the tables and b that it gave answers 11
-pub record QuotientDraws11 (a : Algebra) (m : Map) : Type 0 where
+pub record QuotientAnswers11 (a : Algebra) (m : Map) : Type 0 where
   pub given : (tables : List ℕ) → quotientSpace a m ≤ length tables → quotientCall a m tables .0 ≡ Blocks (blocks (a .size) m)
-  pub draws11 : (tables : List ℕ) → quotientSpace a m ≤ length tables
+  pub answers11 : (tables : List ℕ) → quotientSpace a m ≤ length tables
       → (b : ℕ) → quotientCall a m tables .0 ≡ Blocks b → (again : List ℕ) → factorSpace b ≤ length again
       → (x : Element) × (y : Element) × (decomposeCall (algebraFrom b (a .arities) (quotientCall a m tables .1)) again .0 ≡ Irreducible x y)
 
@@ -118,4 +118,4 @@ pub record QuotientDraws11 (a : Algebra) (m : Map) : Type 0 where
 pub record FactorCalls (a : Algebra) (lent : List ℕ) : Type 0 where
   pub answer : decomposeCall a lent .0 ≡ decomposed a
   pub maps : (k i : ℕ) → decomposed a ≡ Factors k → i < k → stretch (a .size) (decomposeCall a lent .1) i ≡ getD (listed a) i []
-  pub quotients : (k i : ℕ) → decomposeCall a lent .0 ≡ Factors k → i < k → QuotientDraws11 a (stretch (a .size) (decomposeCall a lent .1) i)
+  pub quotients : (k i : ℕ) → decomposeCall a lent .0 ≡ Factors k → i < k → QuotientAnswers11 a (stretch (a .size) (decomposeCall a lent .1) i)

@@ -12,6 +12,9 @@ use equivalence::Check;
 use equivalence::Refusal;
 use equivalence::checks::all_below;
 
+// The longest list of maps that Certify looks at.
+const MAX_MAPS: usize = 63;
+
 // Generate's tests.
 pub fn generate_check(n: usize, arities: &[u8], cells: &[u8], pairs: &[u8], room: usize) -> Check
     ensures { λ r. ⌜ r ≡ lowest (generateTests (algebraIn n (arities .entry) (cells .entry)) (now (pairs .entry)) room) ⌝ }
@@ -154,7 +157,7 @@ pub fn certify_check(n: usize, arities: &[u8], cells: &[u8], maps: &[u8]) -> Che
         return Check::Failed(Refusal::NotMap);
     }
     let count = maps.len() / n;
-    if 63 < count {
+    if MAX_MAPS < count {
         return Check::Failed(Refusal::NotMap);
     }
     if !all_maps(n, count, maps) {

@@ -6,35 +6,23 @@ use congruence::Generated;
 use equivalence::Refusal;
 use equivalence::Written;
 
-// The call's name and the algebra.
-fn print_call(name: &[u8], n: usize, arities: &[u8], cells: &[u8]) {
-    io::write_all(1, name);
-    io::write_all(1, b" ");
-    io::print_decimal(1, n as u64);
+// The call's name, the algebra and the service's own input.
+fn print_call(name: &[u8], n: usize, arities: &[u8], cells: &[u8], input: &[u8]) {
+    printing::print_call(name, n, arities, cells);
     io::write_all(1, b" |");
-    printing::print_bytes(arities);
-    io::write_all(1, b" |");
-    printing::print_bytes(cells);
-    io::write_all(1, b" |");
+    printing::print_bytes(input);
+    io::write_all(1, b" ->");
 }
 
 fn print_refused(reason: Refusal) {
-    io::write_all(1, b" refused");
-    printing::print_bytes(&[equivalence::checks::number(reason)]);
-}
-
-// The lent bytes after the call end the line.
-fn print_lent(lent: &[u8]) {
-    io::write_all(1, b" :");
-    printing::print_bytes(lent);
-    io::write_all(1, b"\n");
+    printing::print_refused(equivalence::checks::number(reason));
 }
 
 fn print_written(answer: Written, lent: &[u8]) {
     if let Written::Refused(reason) = answer {
         print_refused(reason);
     }
-    print_lent(lent);
+    printing::print_lent(lent);
 }
 
 fn print_generated(answer: Generated) {
@@ -56,11 +44,9 @@ fn print_count(count: u8) {
 }
 
 fn generate_into(n: usize, arities: &[u8], cells: &[u8], pairs: &[u8], lent: &mut [u8]) {
-    print_call(b"generate", n, arities, cells);
-    printing::print_bytes(pairs);
-    io::write_all(1, b" ->");
+    print_call(b"generate", n, arities, cells, pairs);
     print_generated(congruence::generate(n, arities, cells, pairs, lent));
-    print_lent(lent);
+    printing::print_lent(lent);
 }
 
 fn generate(n: usize, arities: &[u8], cells: &[u8], pairs: &[u8]) {
@@ -74,17 +60,15 @@ fn generate_short(n: usize, arities: &[u8], cells: &[u8], pairs: &[u8]) {
 }
 
 fn contained(n: usize, arities: &[u8], cells: &[u8], map: &[u8]) {
-    print_call(b"contained", n, arities, cells);
-    printing::print_bytes(map);
-    io::write_all(1, b" ->");
+    print_call(b"contained", n, arities, cells, map);
     let mut lent = [9u8; 5];
     let answer = congruence::contained(n, arities, cells, map, &mut lent);
     print_written(answer, &lent);
 }
 
 fn separate(n: usize, arities: &[u8], cells: &[u8], v: usize, w: usize) {
-    print_call(b"separate", n, arities, cells);
-    io::write_all(1, b" ");
+    printing::print_call(b"separate", n, arities, cells);
+    io::write_all(1, b" | ");
     io::print_decimal(1, v as u64);
     io::write_all(1, b" ");
     io::print_decimal(1, w as u64);
@@ -99,11 +83,9 @@ fn separate_printed(n: usize, arities: &[u8], cells: &[u8], v: usize, w: usize) 
 }
 
 fn quotient_into(n: usize, arities: &[u8], cells: &[u8], map: &[u8], lent: &mut [u8]) {
-    print_call(b"quotient", n, arities, cells);
-    printing::print_bytes(map);
-    io::write_all(1, b" ->");
+    print_call(b"quotient", n, arities, cells, map);
     print_divided(congruence::quotient(n, arities, cells, map, lent));
-    print_lent(lent);
+    printing::print_lent(lent);
 }
 
 fn quotient(n: usize, arities: &[u8], cells: &[u8], map: &[u8]) {
@@ -129,9 +111,7 @@ fn print_word(word: &[u8]) {
 }
 
 fn certify(n: usize, arities: &[u8], cells: &[u8], maps: &[u8]) {
-    print_call(b"certify", n, arities, cells);
-    printing::print_bytes(maps);
-    io::write_all(1, b" ->");
+    print_call(b"certify", n, arities, cells, maps);
     print_certified(congruence::certify(n, arities, cells, maps));
     io::write_all(1, b"\n");
 }

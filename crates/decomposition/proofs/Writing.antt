@@ -28,49 +28,49 @@ pub record NeededWritten (n : ℕ) (maps : List ℕ) (k : ℕ) (needed lent : Li
   pub total : length (concat (chosen n maps i needed)) ≡ i * n
   pub bytes : out ≡ written (concat (chosen n maps i needed)) lent
 
-pub writing-none : {n : ℕ} {maps : List ℕ} {k : ℕ} {needed lent : List ℕ} → ChosenMaps n maps k needed → k * n ≤ length lent → NeededWritten n maps k needed lent 0 0 lent
+pub needed-written-none : {n : ℕ} {maps : List ℕ} {k : ℕ} {needed lent : List ℕ} → ChosenMaps n maps k needed → k * n ≤ length lent → NeededWritten n maps k needed lent 0 0 lent
 unfolding concat written
-writing-none c r =
+needed-written-none c r =
     record { numbers = c; room = r; upto = omega arith; place = omega arith; total = omega arith; bytes = refl }
 
 module _ {n : ℕ} {maps : List ℕ} {k : ℕ} {needed lent : List ℕ} {i at : ℕ} {out : List ℕ} (w : NeededWritten n maps k needed lent i at out) where
   fits : i * n ≤ length lent
   fits = omega (arith, w .room, mul-le-mul-right n (w .upto))
 
-  pub writing-long : length out ≡ length lent
-  writing-long = rw (w .bytes) (written-length (concat (chosen n maps i needed)) lent (omega (arith, w .total, fits)))
+  pub needed-written-long : length out ≡ length lent
+  needed-written-long = rw (w .bytes) (written-length (concat (chosen n maps i needed)) lent (omega (arith, w .total, fits)))
 
-  pub writing-all : k ≤ i → out ≡ written (concat (chosen n maps k needed)) lent
-  writing-all h = let all : i ≡ k = omega (arith, w .upto) in rw all at (w .bytes)
+  pub needed-written-all : k ≤ i → out ≡ written (concat (chosen n maps k needed)) lent
+  needed-written-all h = let all : i ≡ k = omega (arith, w .upto) in rw all at (w .bytes)
 
   module _ (l : i < k) where
     -- the next map, and where it stands
     this : IsMap n (stretch n maps (byte needed i))
     this = of-isMap n (stretch n maps (byte needed i)) (w .numbers .each i l)
 
-    pub writing-part : (byte needed i * n + n ≤ length maps) × (at + n ≤ length out) × (i < length needed)
-    writing-part = (
+    pub needed-written-part : (byte needed i * n + n ≤ length maps) × (at + n ≤ length out) × (i < length needed)
+    needed-written-part = (
       w .numbers .within i l,
-      omega (arith, w .place, w .room, writing-long, mul-le-mul-right n l, suc-mul i n),
+      omega (arith, w .place, w .room, needed-written-long, mul-le-mul-right n l, suc-mul i n),
       omega (arith, w .numbers .room),
     )
 
-    pub writing-fit : (n ≤ length (onwards (byte needed i * n) maps)) × (n ≤ length (midOf at (length out - at) out))
-    writing-fit = (
-      rw (rest-whole (byte needed i * n) maps, length-drop (byte needed i * n) maps) (omega (arith, writing-part)),
-      rw (rest-whole at out, length-drop at out) (omega (arith, writing-part)),
+    pub needed-written-fit : (n ≤ length (onwards (byte needed i * n) maps)) × (n ≤ length (midOf at (length out - at) out))
+    needed-written-fit = (
+      rw (rest-whole (byte needed i * n) maps, length-drop (byte needed i * n) maps) (omega (arith, needed-written-part)),
+      rw (rest-whole at out, length-drop at out) (omega (arith, needed-written-part)),
     )
 
     more : chosen n maps (i + 1) needed ≡ chosen n maps i needed ++ (stretch n maps (byte needed i) ∷ [])
     more =
-        let last : take (i + 1) needed ≡ take i needed ++ (byte needed i ∷ []) = rw add-one (take-suc needed i 0 (writing-part .2)) in
+        let last : take (i + 1) needed ≡ take i needed ++ (byte needed i ∷ []) = rw add-one (take-suc needed i 0 (needed-written-part .2)) in
         ap (map (stretch n maps)) last ∙ map-append (stretch n maps) (take i needed) (byte needed i ∷ [])
 
-    pub writing-more : (part : List ℕ) → length part ≡ length (midOf at (length out - at) out)
+    pub needed-written-more : (part : List ℕ) → length part ≡ length (midOf at (length out - at) out)
         → Filled n (byte (onwards (byte needed i * n) maps)) (byte (midOf at (length out - at) out)) (byte part)
         → NeededWritten n maps k needed lent (i + 1) (at + n) (putMid at (length out - at) out part)
     unfolding concat stretch
-    writing-more part same copied =
+    needed-written-more part same copied =
         let m : Map = stretch n maps (byte needed i) in
         let front : Begins n (onwards (byte needed i * n) maps) m = rw rest-whole (begins-sym (begins-take _)) in
         let old : at ≡ length (concat (chosen n maps i needed)) = w .place ∙ sym (w .total) in
@@ -81,6 +81,6 @@ module _ {n : ℕ} {maps : List ℕ} {k : ℕ} {needed lent : List ℕ} {i at : 
           place = omega (arith, w .place, suc-mul i n);
           total = rw (more, concat-append (chosen n maps i needed) (m ∷ []), length-append (concat (chosen n maps i needed)) (m ++ []), append-nil m, this .long)
               (omega (arith, w .total, suc-mul i n));
-          bytes = copied-laid at out part front this (omega (arith, writing-part)) same copied
+          bytes = copied-laid at out part front this (omega (arith, needed-written-part)) same copied
               ∙ rw (w .bytes, laid-snoc (chosen n maps i needed) m lent at old (omega (arith, w .total, fits)), more);
         }

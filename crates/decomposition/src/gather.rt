@@ -62,7 +62,7 @@ pub fn gather(n: usize, arities: &[u8], cells: &[u8], met: &mut [u8], maps: &mut
     requires { ⌜ factorSpace n ≤ length (now maps) ⌝ }
     ensures { λ r. ⌜ GatheredRight (algebraIn n (arities .entry) (cells .entry)) r (now (maps .entry)) (now (maps .exit)) ⌝ }
 {
-    whole_into(met, n);
+    whole_into(n, met);
     let mut count = 0;
     let mut at = 0;
     while !is_identity(n, met) {

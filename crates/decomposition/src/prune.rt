@@ -47,7 +47,7 @@ fn mark_in_turn(
     requires { ⌜ count ≤ length (now needed) ⌝ }
     ensures { λ r. ⌜ NeededMaps n count (now (maps .entry)) r (now (needed .exit)) ⌝ }
 {
-    whole_into(met, n);
+    whole_into(n, met);
     let mut kept = 0;
     let mut i = 0;
     let mut at = 0;

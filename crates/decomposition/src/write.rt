@@ -17,7 +17,7 @@ pub fn write_needed(n: usize, maps: &[u8], kept: usize, needed: &[u8], out: &mut
     let mut at = 0;
     while i < kept {
         let from = needed[i] as usize * n;
-        copy(&maps[from..], &mut out[at..], n);
+        copy(n, &maps[from..], &mut out[at..]);
         at += n;
         i += 1;
     }

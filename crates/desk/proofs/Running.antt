@@ -8,11 +8,11 @@ use lib.ListN.{length, take, drop, length-append, length-drop}
 use lib.Seq.{drop-drop, drop-append-seam}
 use Rattle.reader.proofs.Laying.{laid-part}
 use Rattle.bracket.specs.Transcript.{output, transcript}
-use Rattle.bracket.specs.Fills.{over, due}
+use Rattle.bracket.specs.Fills.{due}
 use Rattle.bracket.specs.Standings.{positionOf, unread, Sound, Filling, FillPromise}
 use Rattle.bracket.proofs.Calling.{sound-able}
-use Rattle.bracket.proofs.Fills.{remaining, fill-remaining, left, fill-less}
-use Rattle.bracket.proofs.Gathering.{goes-left}
+use Rattle.bracket.proofs.Fills.{remaining, fill-remaining, distance, fill-less}
+use Rattle.bracket.proofs.Gathering.{goes-far}
 use Rattle.bracket.specs.declared.run.Standing.{Standing}
 use Rattle.bracket.specs.declared.run.Stepped.{Stepped}
 use Rattle.desk.specs.Writing.{Next}
@@ -24,7 +24,7 @@ pub record RunWritten (text : List ℕ) (s : Standing) (arities room out : List 
   pub enough : Enough text arities room out
   pub within : written ≤ length (transcript text)
   pub rest : drop written (transcript text) ≡ remaining text (positionOf s arities room)
-  pub bounded : written + 32768 * left text (positionOf s arities room) ≤ 32768 * (length text + 2)
+  pub bounded : written + 32768 * distance text (positionOf s arities room) ≤ 32768 * (length text + 2)
 
 -- what follows a part
 drop-part : (whole part rest : List ℕ) (written : ℕ) → drop written whole ≡ part ++ rest → drop (written + length part) whole ≡ rest
@@ -63,8 +63,8 @@ module _ (text : List ℕ) (s : Standing) (arities room out : List ℕ) (written
   part-within = omega (arith, filling .laid .within, filling .laid .long)
 
   -- each fill gets nearer to the end of the run
-  pub fill-nearer : left text (positionOf (r .standing) arities′ room′) < left text (positionOf s arities room)
-  fill-nearer = fill-less text (omega (arith, w .enough .long)) (goes-left text s arities room g) (filling .fill)
+  pub fill-nearer : distance text (positionOf (r .standing) arities′ room′) < distance text (positionOf s arities room)
+  fill-nearer = fill-less text (omega (arith, w .enough .long)) (goes-far text s arities room g) (filling .fill)
 
   few : length (filling .bytes) ≤ 32768
   few = omega (arith, filling .laid .place, filling .laid .within, w .enough .long)

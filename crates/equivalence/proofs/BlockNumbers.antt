@@ -21,7 +21,7 @@ pub blocks-some : (n : ℕ) (m : Map) → 1 ≤ n → IsMap n m → 1 ≤ blocks
 unfolding blocks
 blocks-some n m o p = let r = member-index (namesOf n m) 0 0 (member-namesOf n m 0 o (omega (arith, p .low 0 o))) in omega (arith, r .1)
 
--- e lies inside d and holds apart two-at-least elements that d joins: e has more blocks
+-- e lies inside d and holds apart two elements that d joins: e has more blocks
 pub blocks-more : (n : ℕ) (d e : Map) → IsMap n d → IsMap n e → Inside n e d → (v w : ℕ) → v < n → w < n → Holds d v w → ¬ Holds e v w → blocks n d < blocks n e
 unfolding blocks namesOf
 blocks-more n d e p q h v w l k s a =

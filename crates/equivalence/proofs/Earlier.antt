@@ -47,7 +47,7 @@ step-larger true false r f t = tt
 step-larger false true r f t = absurd (f tt)
 step-larger false false r f t = t
 
--- a holds the pair if b does, and the rest follows where both inside-by-pairs
+-- a holds the pair if b does, and the rest follows where both agree
 step-of : (h k r : Bool) → (T k → T h) → ((T h → T k) → T r) → T (step h k r)
 step-of true true r f g = g (λ t. tt)
 step-of true false r f g = tt
@@ -97,14 +97,14 @@ notLater-anti n a b p q t s =
     map-ext n a b p q (inside-by-pairs n a b (λ x y l k e. of-holds b x y (subst T (same x y l k) (holds-of a x y e))))
     (inside-by-pairs n b a (λ x y l k e. of-holds a x y (subst T (sym (same x y l k)) (holds-of b x y e))))
 
--- of two-at-least maps, one inside the other-member, the larger is not later
+-- of two maps, one inside the other, the larger is not later
 pub larger-notLater : (n : ℕ) (a b : Map) → Inside n b a → T (notLater n a b)
 unfolding notLater
 larger-notLater n a b h =
     on-larger (pairs n) a b
     (λ p i t. let r = of-pairs n p i in holds-of a p.0 p.1 (h p.0 p.1 (omega (arith, r .0, r .1)) (r .1) (of-holds b p.0 p.1 t)))
 
--- a is not later than b if each pair that b holds is held by a, wherever both inside-by-pairs on the pairs before it
+-- a is not later than b if each pair that b holds is held by a, wherever both agree on the pairs before it
 module _ (a b : Map) where
   abbrev pub Agree : List Pair → Type 0
   Agree ps = (q : Pair) → Member q ps → (Holds a q.0 q.1 → Holds b q.0 q.1) × (Holds b q.0 q.1 → Holds a q.0 q.1)

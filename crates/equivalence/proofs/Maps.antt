@@ -151,7 +151,7 @@ pub identity-map : (n : ℕ) → IsMap n (identity n)
 unfolding identity
 identity-map n = mapOf-map n eqb (eqb-equiv n)
 
--- m holds no two-at-least elements
+-- m holds no two elements
 abbrev pub Discrete : ℕ → Map → Type 0
 Discrete n m = (x y : ℕ) → x < n → y < n → Holds m x y → x ≡ y
 

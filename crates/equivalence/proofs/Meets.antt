@@ -15,8 +15,8 @@ module _ (n : ℕ) (a b : Map) where
   both-equiv =
       record {
         same = λ x l. make x x refl refl;
-        swap = λ x y l k t. make y x (sym (one x y t)) (sym (two-at-least x y t));
-        chain = λ x y z l k j t s. make x z (one x y t ∙ one y z s) (two-at-least x y t ∙ two-at-least y z s);
+        swap = λ x y l k t. make y x (sym (one x y t)) (sym (two x y t));
+        chain = λ x y z l k j t s. make x z (one x y t ∙ one y z s) (two x y t ∙ two y z s);
       }
     where
       make : (x y : ℕ) → Holds a x y → Holds b x y → T (holds a x y && holds b x y)
@@ -25,8 +25,8 @@ module _ (n : ℕ) (a b : Map) where
       one : (x y : ℕ) → T (holds a x y && holds b x y) → Holds a x y
       one x y t = of-holds a x y (left (holds a x y) (holds b x y) t)
 
-      two-at-least : (x y : ℕ) → T (holds a x y && holds b x y) → Holds b x y
-      two-at-least x y t = of-holds b x y (right (holds a x y) (holds b x y) t)
+      two : (x y : ℕ) → T (holds a x y && holds b x y) → Holds b x y
+      two x y t = of-holds b x y (right (holds a x y) (holds b x y) t)
 
   pub meet-map : IsMap n (meet n a b)
   unfolding meet

@@ -1,4 +1,4 @@
--- An answer is told by its outcome: success, refusal and 11 are told apart, and `writtenOutcome` is injective.
+-- An answer is known by its outcome: success, refusal and 11 differ, and `writtenOutcome` is injective.
 use Prim.Native.Nat.{ℕ}
 use mathlib.Core.Bool.{not, _&&_}
 use mathlib.Core.Path.{_≡_, refl, sym, ap}
@@ -11,7 +11,7 @@ use Rattle.equivalence.specs.declared.Refusal.{Refusal}
 use Rattle.equivalence.specs.declared.Refusal.the-variants.{Size, Operations, Arity, Cells, Length, Cell, Range, NotMap, Space, Equal, NotCongruence, Tally, Text}
 use Rattle.equivalence.specs.declared.Written.the-variants.{Done, Refused as WriteRefused}
 
--- ---- success, refusal and 11 are told apart
+-- ---- success, refusal and 11 differ
 
 number-apart : (r : Refusal) → T (not (eqb (numberOf r) 0) && not (eqb (numberOf r) 11))
 unfolding numberOf

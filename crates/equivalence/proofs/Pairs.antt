@@ -34,7 +34,7 @@ of-pairs n p i =
     let h : (u .0 < v .0) × (v .0 < n) = (ltb→lt (u .0) (v .0) (w .1), of-upTo n (v .0) (w .0)) in
     subst (λ (p : Pair). (p .0 < p .1) × (p .1 < n)) (v .2) h
 
--- to inside-by-pairs on the pairs (x, y) with x < y is to inside-by-pairs on all
+-- a map lies inside another where that holds each of its pairs (x, y) with x < y
 pub inside-by-pairs : (n : ℕ) (a b : Map) → ((x y : ℕ) → x < y → y < n → Holds a x y → Holds b x y) → Inside n a b
 inside-by-pairs n a b h x y l k e =
     elim (decLt x y) [

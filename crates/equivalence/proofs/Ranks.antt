@@ -1,4 +1,4 @@
--- The order of the reasons: a reason is told by its number; where tests rise by rank, the first that applies is the lowest; and so a call's
+-- The order of the reasons: a reason is known by its number; where tests rise by rank, the first that applies is the lowest; and so a call's
 -- refusals come each under its condition only.
 use Prim.Native.Nat.{ℕ, _≤_}
 use mathlib.Core.List.{List, [], _∷_, List·Memᴰ as Member, List·Memᴰ·head as here, List·Memᴰ·tail as there, List·Memᴰ·not-nil as not-nil, List·Memᴰ·cases-cons as cases-cons}
@@ -17,7 +17,7 @@ use Rattle.equivalence.specs.declared.Refusal.the-variants.{Size, Operat
 use Rattle.equivalence.specs.declared.Check.{Check}
 use Rattle.equivalence.specs.declared.Check.the-variants.{Passed, Failed}
 
--- ---- a reason is told by its number, and by its rank
+-- ---- a reason is known by its number, and by its rank
 
 -- the reason with a number
 numbered : ℕ → Refusal
@@ -123,7 +123,7 @@ lowest-found (t ∷ rest) up r l =
 pub lowest-reason : (tests : List Test) → T (rises tests) → ReasonRight Failed (lowest tests) tests
 lowest-reason tests up r = (found-lowest tests up r, lowest-found tests up r)
 
--- a call that answers by its tests: where refusals are told apart, and from the answer, it is refused by the same law
+-- a call that answers by its tests: where refusals differ, from each other and from the answer, it is refused by the same law
 module _ {A : Type 0} (refused : Refusal → A) (answer : A) (apart : Injective refused) (never : (r : Refusal) → ¬ (answer ≡ refused r)) where
   failed-of : (r : Refusal) (c : Check) → answered refused c answer ≡ refused r → c ≡ Failed r
   unfolding answered

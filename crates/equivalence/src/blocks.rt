@@ -13,7 +13,7 @@ fn relabelled(v: u8, old: u8, new: u8) -> u8
 }
 
 // Every byte `old` of the first n becomes `new`.
-fn relabel_all(m: &mut [u8], n: usize, old: u8, new: u8)
+fn relabel_all(n: usize, old: u8, new: u8, m: &mut [u8])
     requires { do ⌜ n ≤ (← ⟦m.len()⟧) ⌝ }
     ensures { λ _. ⌜ Filled n (λ x. relabel old new (byte (now (m .entry)) x)) (byte (now (m .entry))) (byte (now (m .exit))) ⌝ }
 {
@@ -39,7 +39,7 @@ pub fn larger(p: u8, q: u8) -> u8
 }
 
 // Puts the blocks of a and b, which are two, under the smaller name. Which name that is cannot be foreseen, so it is chosen without a branch.
-pub fn merge(m: &mut [u8], n: usize, a: usize, b: usize)
+pub fn merge(n: usize, a: usize, b: usize, m: &mut [u8])
     requires { do ⌜ n ≤ (← ⟦m.len()⟧) ⌝ }
     requires { ⌜ a < n ⌝ }
     requires { ⌜ b < n ⌝ }
@@ -51,11 +51,11 @@ pub fn merge(m: &mut [u8], n: usize, a: usize, b: usize)
     let q = m[b];
     let old = larger(p, q);
     let new = smaller(p, q);
-    relabel_all(m, n, old, new);
+    relabel_all(n, old, new, m);
 }
 
 // Puts x and y into one block, if they are not.
-pub fn unite(m: &mut [u8], n: usize, x: usize, y: usize)
+pub fn unite(n: usize, x: usize, y: usize, m: &mut [u8])
     requires { do ⌜ n ≤ (← ⟦m.len()⟧) ⌝ }
     requires { ⌜ x < n ⌝ }
     requires { ⌜ y < n ⌝ }
@@ -65,11 +65,11 @@ pub fn unite(m: &mut [u8], n: usize, x: usize, y: usize)
     if m[x] == m[y] {
         return;
     }
-    merge(m, n, x, y);
+    merge(n, x, y, m);
 }
 
 // The first n bytes of m become the identity.
-pub fn identity(m: &mut [u8], n: usize)
+pub fn identity(n: usize, m: &mut [u8])
     requires { do ⌜ n ≤ (← ⟦m.len()⟧) ⌝ }
     requires { ⌜ n ≤ 64 ⌝ }
     ensures { λ _. ⌜ Filled n (λ x. x) (byte (now (m .entry))) (byte (now (m .exit))) ⌝ }
@@ -82,7 +82,7 @@ pub fn identity(m: &mut [u8], n: usize)
 }
 
 // The first n bytes of `from` go to `to`.
-pub fn copy(from: &[u8], to: &mut [u8], n: usize)
+pub fn copy(n: usize, from: &[u8], to: &mut [u8])
     requires { do ⌜ n ≤ (← ⟦from.len()⟧) ⌝ }
     requires { do ⌜ n ≤ (← ⟦to.len()⟧) ⌝ }
     ensures { λ _. ⌜ Filled n (byte (now (from .entry))) (byte (now (to .entry))) (byte (now (to .exit))) ⌝ }

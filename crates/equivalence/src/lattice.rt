@@ -5,6 +5,7 @@ ghost use lib.ListN.{length};
 ghost use Rattle.equivalence.specs.Equivalence.{byte, meet, join};
 ghost use Rattle.kernel.specs.InnerKernel.{Canonical, Filled, Joined, seenOr};
 use crate::blocks;
+use crate::checks::MAX_SIZE;
 ghost use Rattle.equivalence.specs.Lent.{written};
 
 // No element: stands where a table keeps elements, which are below 64, and none was seen yet.
@@ -32,7 +33,7 @@ fn meet_by(n: usize, a: &[u8], b: &[u8], table: &mut [u8; 4096], out: &mut [u8])
 {
     let mut x = 0;
     while x < n {
-        let place = a[x] as usize * 64 + b[x] as usize;
+        let place = a[x] as usize * MAX_SIZE + b[x] as usize;
         let first = first_seen(table[place], x);
         table[place] = first;
         out[x] = first;
@@ -55,7 +56,7 @@ pub fn meet_into(n: usize, a: &[u8], b: &[u8], out: &mut [u8])
 }
 
 // Puts each element and its smallest member in b into one block.
-fn unite_all(m: &mut [u8], n: usize, b: &[u8])
+fn unite_all(n: usize, b: &[u8], m: &mut [u8])
     requires { do ⌜ n ≤ (← ⟦m.len()⟧) ⌝ }
     requires { do ⌜ n ≤ (← ⟦b.len()⟧) ⌝ }
     requires { ⌜ Canonical n (byte (now m)) ⌝ }
@@ -65,7 +66,7 @@ fn unite_all(m: &mut [u8], n: usize, b: &[u8])
     let mut x = 0;
     while x < n {
         let first = b[x] as usize;
-        blocks::unite(m, n, x, first);
+        blocks::unite(n, x, first, m);
         x += 1;
     }
 }
@@ -79,6 +80,6 @@ pub fn join_into(n: usize, a: &[u8], b: &[u8], out: &mut [u8])
     requires { ⌜ Canonical n (byte (now b)) ⌝ }
     ensures { λ _. ⌜ now (out .exit) ≡ written (join n (now (a .entry)) (now (b .entry))) (now (out .entry)) ⌝ }
 {
-    blocks::copy(a, out, n);
-    unite_all(out, n, b);
+    blocks::copy(n, a, out);
+    unite_all(n, b, out);
 }

@@ -93,7 +93,7 @@ pub fn pair_place(x: u8, y: u8) -> Place
     ensures { λ r. ⌜ r ≡ placeOf x y ⌝ }
 {
     if x < y {
-        if y < 64 {
+        if (y as usize) < checks::MAX_SIZE {
             return Place::At(order::place(x as usize, y as usize));
         }
     }

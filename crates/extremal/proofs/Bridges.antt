@@ -32,6 +32,7 @@ use Rattle.theory.proofs.Separation.{separated-is, lex-asym}
 use Rattle.closure.specs.InnerStarts.{JoinsPairs, Extends}
 use Rattle.separation.specs.InnerSearch.{Before, Earliest}
 use Rattle.refinement.proofs.Refinements.{canonical-same, compatible-same}
+use Rattle.extremal.specs.InnerExtension.{MapExtended}
 
 -- ---- the first n bytes of a slice
 
@@ -219,13 +220,12 @@ module _ (n : ℕ) (arities cells : List ℕ) (accepted : Accepted (algebraOf n 
       extended-front : extended a (take n lent) x y ≡ take n after
       extended-front = closed-extended a well after (omega arith) lent x y lx ly h
 
-      pub extended-written : KeptPast n lent after → after ≡ written (extended a (take n lent) x y) lent
-      extended-written = map-written (extended a (take n lent) x y) extended-front
-
-      -- blocks lost and blocks left make the blocks there were
-      pub extended-lost : (lost : ℕ) → lost + names n (byte after) ≡ names n (byte lent)
-          → lost + blocks n (extended a (take n lent) x y) ≡ blocks n (take n lent)
-      extended-lost lost e = rw extended-front (omega (arith, front-blocks n lent, front-blocks n after))
+      pub map-extended : (lost : ℕ) → lost + names n (byte after) ≡ names n (byte lent) → KeptPast n lent after → MapExtended a x y lent after lost
+      map-extended lost e rest =
+          record {
+            bytes = map-written (extended a (take n lent) x y) extended-front rest;
+            cost = rw extended-front (omega (arith, front-blocks n lent, front-blocks n after));
+          }
 
     pub contained-written : (e : Map) → T (isMap n e) → {copied : ℕ → ℕ} → Filled n (byte e) (byte lent) copied → Refined a copied (byte after)
         → ((x : ℕ) → n ≤ x → byte after x ≡ copied x) → after ≡ written (contained a e) lent

@@ -1,14 +1,15 @@
 // The least, the greatest and the earliest congruence of an accepted algebra, written at the start of a lent slice. Bytes past the first n keep their value.
 ghost use mathlib.Core.Path.{_≡_};
-ghost use Prim.Native.Nat.{ℕ, _+_, _-_, _<_, _≤_};
+ghost use Prim.Native.Nat.{ℕ, _-_, _<_, _≤_};
 ghost use lib.Dec.{T};
-ghost use lib.ListN.{length, take};
+ghost use lib.ListN.{length};
 ghost use Rattle.equivalence.specs.Equivalence.{byte, isMap, blocks};
 ghost use Rattle.kernel.specs.InnerKernel.{Canonical};
 ghost use Rattle.equivalence.specs.Lent.{written};
 ghost use Rattle.algebra.specs.Algebra.{algebraIn};
 ghost use Rattle.algebra.specs.Accepted.{Accepted};
-ghost use Rattle.theory.specs.Extremal.{generated, extended, contained, separated};
+ghost use Rattle.theory.specs.Extremal.{generated, contained, separated};
+ghost use Rattle.extremal.specs.InnerExtension.{MapExtended};
 
 // The least congruence that holds the pairs of a flat list goes to out. How many merges made it.
 pub fn generated_into(n: usize, arities: &[u8], cells: &[u8], pairs: &[u8], out: &mut [u8]) -> u8
@@ -18,27 +19,26 @@ pub fn generated_into(n: usize, arities: &[u8], cells: &[u8], pairs: &[u8], out:
     ensures { λ _. ⌜ now (out .exit) ≡ written (generated (algebraIn n (arities .entry) (cells .entry)) (now (pairs .entry))) (now (out .entry)) ⌝ }
     ensures { λ r. ⌜ r ≡ n - blocks n (generated (algebraIn n (arities .entry) (cells .entry)) (now (pairs .entry))) ⌝ }
 {
-    closure::generate(out, n, arities, cells, pairs) as u8
+    closure::close_pairs(out, n, arities, cells, pairs) as u8
 }
 
 // The map m becomes the least congruence that holds what m holds, and x and y. How many blocks that cost.
 pub fn extended_into(
-    m: &mut [u8],
     n: usize,
     arities: &[u8],
     cells: &[u8],
     x: usize,
     y: usize,
+    m: &mut [u8],
 ) -> usize
     requires { ⌜ Accepted (algebraIn n arities cells) ⌝ }
     requires { ⌜ n ≤ length (now m) ⌝ }
     requires { ⌜ Canonical n (byte (now m)) ⌝ }
     requires { ⌜ x < n ⌝ }
     requires { ⌜ y < n ⌝ }
-    ensures { λ _. ⌜ now (m .exit) ≡ written (extended (algebraIn n (arities .entry) (cells .entry)) (take n (now (m .entry))) x y) (now (m .entry)) ⌝ }
-    ensures { λ r. ⌜ r + blocks n (extended (algebraIn n (arities .entry) (cells .entry)) (take n (now (m .entry))) x y) ≡ blocks n (take n (now (m .entry))) ⌝ }
+    ensures { λ r. ⌜ MapExtended (algebraIn n (arities .entry) (cells .entry)) x y (now (m .entry)) (now (m .exit)) r ⌝ }
 {
-    closure::extend(m, n, arities, cells, x, y)
+    closure::close_with(m, n, arities, cells, x, y)
 }
 
 // The greatest congruence inside a map goes to out.
@@ -48,7 +48,7 @@ pub fn contained_into(n: usize, arities: &[u8], cells: &[u8], map: &[u8], out: &
     requires { ⌜ n ≤ length (now out) ⌝ }
     ensures { λ _. ⌜ now (out .exit) ≡ written (contained (algebraIn n (arities .entry) (cells .entry)) (now (map .entry))) (now (out .entry)) ⌝ }
 {
-    equivalence::blocks::copy(map, out, n);
+    equivalence::blocks::copy(n, map, out);
     refinement::refine(out, n, arities, cells);
 }
 
@@ -61,5 +61,5 @@ pub fn separated_into(n: usize, arities: &[u8], cells: &[u8], v: usize, w: usize
     requires { ⌜ n ≤ length (now out) ⌝ }
     ensures { λ _. ⌜ now (out .exit) ≡ written (separated (algebraIn n (arities .entry) (cells .entry)) v w) (now (out .entry)) ⌝ }
 {
-    separation::separate(n, arities, cells, v, w, out);
+    separation::earliest_apart(n, arities, cells, v, w, out);
 }

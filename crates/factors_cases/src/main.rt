@@ -1,23 +1,11 @@
 // Decompose on cases that a reader can check by hand: each line is a call on the bytes n, arities and cells, its lent bytes before it all 9, and what came
 // of it. Then the calls of demand 3's claim together: the first answer, how many of the last calls answered 11, and the three lent slices.
 use congruence::Decomposed;
-use equivalence::Refusal;
 
 // The call's name and the algebra.
-fn print_call(name: &[u8], n: usize, arities: &[u8], cells: &[u8]) {
-    io::write_all(1, name);
-    io::write_all(1, b" ");
-    io::print_decimal(1, n as u64);
-    io::write_all(1, b" |");
-    printing::print_bytes(arities);
-    io::write_all(1, b" |");
-    printing::print_bytes(cells);
+fn print_algebra(name: &[u8], n: usize, arities: &[u8], cells: &[u8]) {
+    printing::print_call(name, n, arities, cells);
     io::write_all(1, b" | ->");
-}
-
-fn print_refused(reason: Refusal) {
-    io::write_all(1, b" refused");
-    printing::print_bytes(&[equivalence::checks::number(reason)]);
 }
 
 fn print_decomposed(answer: Decomposed) {
@@ -29,16 +17,16 @@ fn print_decomposed(answer: Decomposed) {
             io::write_all(1, b" refused");
             printing::print_bytes(&[11, x.0, y.0]);
         }
-        Decomposed::Refused(reason) => print_refused(reason),
+        Decomposed::Refused(reason) => {
+            printing::print_refused(equivalence::checks::number(reason));
+        }
     }
 }
 
 fn decompose_into(n: usize, arities: &[u8], cells: &[u8], lent: &mut [u8]) {
-    print_call(b"decompose", n, arities, cells);
+    print_algebra(b"decompose", n, arities, cells);
     print_decomposed(congruence::decompose(n, arities, cells, lent));
-    io::write_all(1, b" :");
-    printing::print_bytes(lent);
-    io::write_all(1, b"\n");
+    printing::print_lent(lent);
 }
 
 fn decompose(n: usize, arities: &[u8], cells: &[u8]) {
@@ -77,11 +65,11 @@ fn claim_into(
     tables: &mut [u8],
     again: &mut [u8],
 ) {
-    print_call(b"claim", n, arities, cells);
+    print_algebra(b"claim", n, arities, cells);
     let made = claim::decompose_factors(n, arities, cells, list, tables, again);
     let first = made.first;
     print_decomposed(first);
-    io::write_all(1, b" drew ");
+    io::write_all(1, b" irreducible ");
     io::print_decimal(1, made.irreducible as u64);
     print_lent(list, tables, again);
 }

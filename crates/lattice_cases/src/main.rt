@@ -4,36 +4,27 @@ use equivalence::Place;
 use equivalence::Written;
 
 // The call's name and what it is handed.
-fn print_call(name: &[u8], n: usize, a: &[u8], b: &[u8]) {
-    io::write_all(1, name);
-    io::write_all(1, b" ");
-    io::print_decimal(1, n as u64);
-    io::write_all(1, b" |");
-    printing::print_bytes(a);
-    io::write_all(1, b" |");
-    printing::print_bytes(b);
+fn print_maps(name: &[u8], n: usize, a: &[u8], b: &[u8]) {
+    printing::print_call(name, n, a, b);
     io::write_all(1, b" ->");
 }
 
 // The answer and the lent bytes.
 fn print_written(answer: Written, lent: &[u8]) {
     if let Written::Refused(reason) = answer {
-        io::write_all(1, b" refused");
-        printing::print_bytes(&[equivalence::checks::number(reason)]);
+        printing::print_refused(equivalence::checks::number(reason));
     }
-    io::write_all(1, b" :");
-    printing::print_bytes(lent);
-    io::write_all(1, b"\n");
+    printing::print_lent(lent);
 }
 
 fn print_meet(n: usize, a: &[u8], b: &[u8], lent: &mut [u8]) {
-    print_call(b"meet", n, a, b);
+    print_maps(b"meet", n, a, b);
     let answer = equivalence::meet(n, a, b, lent);
     print_written(answer, lent);
 }
 
 fn print_join(n: usize, a: &[u8], b: &[u8], lent: &mut [u8]) {
-    print_call(b"join", n, a, b);
+    print_maps(b"join", n, a, b);
     let answer = equivalence::join(n, a, b, lent);
     print_written(answer, lent);
 }
@@ -55,7 +46,7 @@ fn both_short(n: usize, a: &[u8], b: &[u8]) {
 }
 
 fn prefer<'a>(n: usize, a: &'a [u8], b: &'a [u8]) {
-    print_call(b"prefer", n, a, b);
+    print_maps(b"prefer", n, a, b);
     printing::print_bytes(equivalence::prefer(n, a, b));
     io::write_all(1, b"\n");
 }

@@ -11,7 +11,7 @@ use equivalence::lattice::meet_into;
 use equivalence::map::is_identity;
 
 // The first n bytes become the map with one block.
-pub fn whole_into(m: &mut [u8], n: usize)
+pub fn whole_into(n: usize, m: &mut [u8])
     requires { do ⌜ n ≤ (← ⟦m.len()⟧) ⌝ }
     ensures { λ _. ⌜ now (m .exit) ≡ written (whole n) (now (m .entry)) ⌝ }
 {
@@ -33,7 +33,7 @@ pub fn meet_with(n: usize, map: &[u8], met: &mut [u8])
 {
     let mut new = [0u8; 64];
     meet_into(n, met, map, &mut new);
-    copy(&new, met, n);
+    copy(n, &new, met);
 }
 
 // Whether a and b meet in the identity.
@@ -62,7 +62,7 @@ fn meet_back(n: usize, maps: &[u8], at: usize, met: &mut [u8], suffixes: &mut [u
     ensures { λ _. ⌜ now (suffixes .exit) ≡ laid (now (suffixes .entry)) at (meet n (now (met .entry)) (drop at (now (maps .entry)))) ⌝ }
 {
     meet_with(n, &maps[at..], met);
-    copy(met, &mut suffixes[at..], n);
+    copy(n, met, &mut suffixes[at..]);
 }
 
 // The meet of the maps from number i on is laid at stretch i of `suffixes`, for every i up to their count. `met` is working storage.
@@ -74,8 +74,8 @@ pub fn suffix_meets(n: usize, count: usize, maps: &[u8], met: &mut [u8], suffixe
 {
     let mut i = count;
     let mut at = count * n;
-    whole_into(met, n);
-    whole_into(&mut suffixes[at..], n);
+    whole_into(n, met);
+    whole_into(n, &mut suffixes[at..]);
     while i > 0 {
         i -= 1;
         at -= n;

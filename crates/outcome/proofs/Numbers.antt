@@ -32,49 +32,49 @@ success-number k e = omega arith
 pub irreducible-number : (answer : Decomposed) (x y : Element) {first second : ℕ} → answer ≡ Irreducible x y → first ≡ x .0 → second ≡ y .0
     → 11 + 65536 * first + 16777216 * second ≡ packed (decomposedOutcome answer)
 unfolding packed decomposedOutcome
-irreducible-number answer x y told e f = rw told (omega arith)
+irreducible-number answer x y known e f = rw known (omega arith)
 
 -- the cases of the answers
 pub merges-number : (answer : Generated) (k : ℕ) {number : ℕ} → answer ≡ Merges k → number ≡ packed (success k) → number ≡ packed (generatedOutcome answer)
 unfolding generatedOutcome
-merges-number answer k told e = rw told e
+merges-number answer k known e = rw known e
 
 pub generate-refused : (answer : Generated) (r : Refusal) {number : ℕ} → answer ≡ GenerateRefused r → number ≡ packed (refusal r) → number ≡ packed (generatedOutcome answer)
 unfolding generatedOutcome
-generate-refused answer r told e = rw told e
+generate-refused answer r known e = rw known e
 
 pub done-number : (answer : Written) {number : ℕ} → answer ≡ Done → number ≡ packed (success 0) → number ≡ packed (writtenOutcome answer)
 unfolding writtenOutcome
-done-number answer told e = rw told e
+done-number answer known e = rw known e
 
 pub write-refused : (answer : Written) (r : Refusal) {number : ℕ} → answer ≡ WriteRefused r → number ≡ packed (refusal r) → number ≡ packed (writtenOutcome answer)
 unfolding writtenOutcome
-write-refused answer r told e = rw told e
+write-refused answer r known e = rw known e
 
 pub factors-number : (answer : Decomposed) (k : ℕ) {number : ℕ} → answer ≡ Factors k → number ≡ packed (success k) → number ≡ packed (decomposedOutcome answer)
 unfolding decomposedOutcome
-factors-number answer k told e = rw told e
+factors-number answer k known e = rw known e
 
 pub decompose-refused : (answer : Decomposed) (r : Refusal) {number : ℕ} → answer ≡ DecomposeRefused r → number ≡ packed (refusal r) → number ≡ packed (decomposedOutcome answer)
 unfolding decomposedOutcome
-decompose-refused answer r told e = rw told e
+decompose-refused answer r known e = rw known e
 
 pub blocks-number : (answer : Divided) (k : ℕ) {number : ℕ} → answer ≡ Blocks k → number ≡ packed (success k) → number ≡ packed (dividedOutcome answer)
 unfolding dividedOutcome
-blocks-number answer k told e = rw told e
+blocks-number answer k known e = rw known e
 
 pub divide-refused : (answer : Divided) (r : Refusal) {number : ℕ} → answer ≡ DivideRefused r → number ≡ packed (refusal r) → number ≡ packed (dividedOutcome answer)
 unfolding dividedOutcome
-divide-refused answer r told e = rw told e
+divide-refused answer r known e = rw known e
 
 pub certified-yes : (answer : Certified) {number : ℕ} → answer ≡ Yes → number ≡ packed (success 1) → number ≡ packed (certifiedOutcome answer)
 unfolding certifiedOutcome
-certified-yes answer told e = rw told e
+certified-yes answer known e = rw known e
 
 pub certified-no : (answer : Certified) {number : ℕ} → answer ≡ No → number ≡ packed (success 0) → number ≡ packed (certifiedOutcome answer)
 unfolding certifiedOutcome
-certified-no answer told e = rw told e
+certified-no answer known e = rw known e
 
 pub certify-refused : (answer : Certified) (r : Refusal) {number : ℕ} → answer ≡ CertifyRefused r → number ≡ packed (refusal r) → number ≡ packed (certifiedOutcome answer)
 unfolding certifiedOutcome
-certify-refused answer r told e = rw told e
+certify-refused answer r known e = rw known e

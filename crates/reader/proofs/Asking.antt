@@ -10,8 +10,8 @@ use lib.ListN.{length}
 use Rattle.equivalence.specs.Lists.{every}
 use Rattle.reader.specs.Reading.{ascii, Read, found, fault, Reader, onward, _>>=_, _>>_, done, failed, begins, opened}
 use Rattle.reader.specs.Tables.{items}
-use Rattle.reader.specs.Lines.{close, spacedNumber, Request, separate, itemsToEnd, asksWith, twoNumbers}
-use Rattle.reader.specs.InnerPromises.{readOf, NumberRead, RoomForText, Stored, requestOf, Requested, RequestRead}
+use Rattle.reader.specs.Lines.{close, spacedNumber, Request, requestOf, separating, itemsToEnd, asksWith, twoNumbers}
+use Rattle.reader.specs.InnerPromises.{readOf, NumberRead, RoomForText, Stored, Requested, RequestRead}
 use Rattle.reader.specs.declared.reading.Number.{Number}
 use Rattle.reader.specs.declared.reading.Spot.{Spot}
 use Rattle.reader.specs.declared.requests.Asked.{Asked}
@@ -68,7 +68,7 @@ asked-with ask xs false next r e = rw e
 
 pub items-asked : (text : List ℕ) (at : ℕ) (lent : List ℕ) (put : ℕ) (asked : Asked) (item : Reader (List ℕ)) (after : List ℕ) (r : Spot)
     → Stored text at lent put (itemsToEnd item text at) after r
-    → Requested text at lent put (asksWith (requestOf asked) item text at) after (asking (r .ok) asked (r .at) (r .put))
+    → Requested text at lent put (asksWith asked item text at) after (asking (r .ok) asked (r .at) (r .put))
 unfolding asksWith _>>=_
 items-asked text at lent put asked item after r s =
     record {
@@ -85,26 +85,26 @@ module _ (text : List ℕ) (at : ℕ) (put : ℕ) (w : at ≤ length text) (v : 
 
   pub separate-none : not (v .ok) ≡ true → RequestRead text at put (twoNumbers text at) (asking false Decompose at put)
   unfolding twoNumbers
-  separate-none h = no-request (then-fault spacedNumber (λ v. _>>=_ spacedNumber (λ w. _>>_ close (done (separate v w)))) text at (missing-number rv h))
+  separate-none h = no-request (then-fault spacedNumber (λ v. _>>=_ spacedNumber (λ w. _>>_ close (done (separating v w)))) text at (missing-number rv h))
 
   module _ (h : not (v .ok) ≡ false) (u : Number) (ru : NumberRead text (v .next) (spacedNumber text (v .next)) u) where
-    one : twoNumbers text at ≡ _>>=_ spacedNumber (λ w. _>>_ close (done (separate (v .value) w))) text (v .next)
+    one : twoNumbers text at ≡ _>>=_ spacedNumber (λ w. _>>_ close (done (separating (v .value) w))) text (v .next)
     unfolding twoNumbers
     one =
-        then-found spacedNumber (λ v. _>>=_ spacedNumber (λ w. _>>_ close (done (separate v w)))) text at (v .value) (v .next) (found-number rv h)
+        then-found spacedNumber (λ v. _>>=_ spacedNumber (λ w. _>>_ close (done (separating v w)))) text at (v .value) (v .next) (found-number rv h)
 
     pub separate-one : not (u .ok) ≡ true → RequestRead text at put (twoNumbers text at) (asking false Decompose at put)
     separate-one k =
-        no-request (one ∙ then-fault spacedNumber (λ w. _>>_ close (done (separate (v .value) w))) text (v .next) (missing-number ru k))
+        no-request (one ∙ then-fault spacedNumber (λ w. _>>_ close (done (separating (v .value) w))) text (v .next) (missing-number ru k))
 
     module _ (k : not (u .ok) ≡ false) (q : Bool) (eq : q ≡ begins text (u .next) (ascii "]\n")) where
-      two : twoNumbers text at ≡ _>>_ close (done (separate (v .value) (u .value))) text (u .next)
-      two = one ∙ then-found spacedNumber (λ w. _>>_ close (done (separate (v .value) w))) text (v .next) (u .value) (u .next) (found-number ru k)
+      two : twoNumbers text at ≡ _>>_ close (done (separating (v .value) (u .value))) text (u .next)
+      two = one ∙ then-found spacedNumber (λ w. _>>_ close (done (separating (v .value) w))) text (v .next) (u .value) (u .next) (found-number ru k)
 
       pub separate-open : not q ≡ true → RequestRead text at put (twoNumbers text at) (asking false Decompose at put)
       separate-open g =
           no-request
-          (two ∙ then-fault close (λ _. done (separate (v .value) (u .value))) text (u .next) (close-fault text (u .next) (sym eq ∙ not-true q g)))
+          (two ∙ then-fault close (λ _. done (separating (v .value) (u .value))) text (u .next) (close-fault text (u .next) (sym eq ∙ not-true q g)))
 
       pub separate-read : not q ≡ false → RequestRead text at put (twoNumbers text at) (asking true (Separate (v .value) (u .value)) (u .next + 2) put)
       unfolding ascii every
@@ -112,7 +112,7 @@ module _ (text : List ℕ) (at : ℕ) (put : ℕ) (w : at ≤ length text) (v : 
           record {
             value =
                 two
-                ∙ then-found close (λ _. done (separate (v .value) (u .value))) text (u .next) tt (u .next + 2)
+                ∙ then-found close (λ _. done (separating (v .value) (u .value))) text (u .next) tt (u .next + 2)
                 (close-found text (u .next) (sym eq ∙ not-false q g));
             end = refl;
             reached = omega (arith, begins-within text (ascii "]\n") (u .next) tt (ru .within) (sym eq ∙ not-false q g), rv .past, ru .past);

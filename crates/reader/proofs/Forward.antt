@@ -16,9 +16,11 @@ use Rattle.reader.specs.Reading.{ascii, Read, found, fault, Reader, byte
 use Rattle.reader.specs.Numbers.{digitAt, threeAt, number}
 use Rattle.reader.specs.Tables.{cell, parted, bracket, table, pair, itemsUpTo, items}
 use Rattle.reader.specs.Lines.{Progress, defined, refused, close, spacedNumber, tested, arity, lastTable, cellTest, operationTests, withOperation}
-use Rattle.reader.specs.Lines.{afterTable, afterArity, operation, Request, generate, contained, separate, decompose, itemsToEnd, asksWith, twoNumbers, request}
+use Rattle.reader.specs.Lines.{afterTable, afterArity, operation, requestOf, separating, itemsToEnd, asksWith, twoNumbers, request}
 use Rattle.kernel.specs.InnerKernel.{bit}
-use Rattle.reader.specs.InnerPromises.{readOf, requestOf, Requested}
+use Rattle.reader.specs.InnerPromises.{readOf, Requested}
+use Rattle.reader.specs.declared.requests.Asked.{Asked}
+use Rattle.reader.specs.declared.requests.Asked.the-variants.{Generate, Contained, Decompose}
 use Rattle.reader.specs.declared.requests.RequestLine.{RequestLine}
 
 -- where something is found, it is found k bytes further at least
@@ -163,25 +165,26 @@ items-to-end-forward : (item : Reader (List ℕ)) → Forward 0 item → Forward
 unfolding itemsToEnd
 items-to-end-forward item p = both-forward (items item) (λ xs. _>>_ close (done xs)) (items-forward item p) (λ xs. closed-forward (done xs) (done-forward xs))
 
-asks-forward : (ask : List ℕ → Request) (item : Reader (List ℕ)) → Forward 0 item → Forward 0 (asksWith ask item)
+asks-forward : (asked : Asked) (item : Reader (List ℕ)) → Forward 0 item → Forward 0 (asksWith asked item)
 unfolding asksWith
-asks-forward ask item p = both-forward (itemsToEnd item) (λ xs. done (ask xs)) (items-to-end-forward item p) (λ xs. done-forward (ask xs))
+asks-forward asked item p =
+    both-forward (itemsToEnd item) (λ xs. done (requestOf asked xs)) (items-to-end-forward item p) (λ xs. done-forward (requestOf asked xs))
 
 two-numbers-forward : Forward 0 twoNumbers
 unfolding twoNumbers
 two-numbers-forward =
-    both-forward spacedNumber (λ v. _>>=_ spacedNumber (λ w. _>>_ close (done (separate v w)))) spaced-number-forward
-    (λ v. both-forward spacedNumber (λ w. _>>_ close (done (separate v w))) spaced-number-forward
-    (λ w. closed-forward (done (separate v w)) (done-forward (separate v w))))
+    both-forward spacedNumber (λ v. _>>=_ spacedNumber (λ w. _>>_ close (done (separating v w)))) spaced-number-forward
+    (λ v. both-forward spacedNumber (λ w. _>>_ close (done (separating v w))) spaced-number-forward
+    (λ w. closed-forward (done (separating v w)) (done-forward (separating v w))))
 
 -- a request goes forward
 pub request-forward : Forward 1 request
 unfolding request ascii
 request-forward =
-    opened-forward (ascii "[generate") (asksWith generate pair) _ 1 (omega arith) (asks-forward generate pair pair-forward)
-    (opened-forward (ascii "[contained") (asksWith contained cell) _ 1 (omega arith) (asks-forward contained cell cell-forward)
+    opened-forward (ascii "[generate") (asksWith Generate pair) _ 1 (omega arith) (asks-forward Generate pair pair-forward)
+    (opened-forward (ascii "[contained") (asksWith Contained cell) _ 1 (omega arith) (asks-forward Contained cell cell-forward)
     (opened-forward (ascii "[separate") twoNumbers _ 1 (omega arith) two-numbers-forward
-    (opened-forward (ascii "[decompose]\n") (done decompose) failed 1 (omega arith) (done-forward decompose) (λ text at. tt))))
+    (opened-forward (ascii "[decompose]\n") (done (requestOf Decompose [])) failed 1 (omega arith) (done-forward (requestOf Decompose [])) (λ text at. tt))))
 
 -- so a request line that was read takes a byte at least
 read-past : {A : Type 0} (b : Bool) (a : A) (at next : ℕ) → at ≤ next → Past 1 at (readOf b a next) → at + bit b ≤ next

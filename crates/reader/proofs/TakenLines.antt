@@ -64,9 +64,9 @@ module _ (text : List ℕ) (at : ℕ) (w : at ≤ length text) (n : Number) (r :
   size-faulty h = record { value = λ arities cells. rw (missing-number r h); readable = omega arith; past = omega arith; operations = refl; cells = refl }
 
   module _ (h : not (n .ok) ≡ false) (b : Bool) (e : b ≡ not (sizeTest (n .value) .applies)) where
-    pub size-refused : not b ≡ true → SizeTaken text at (taken (Failed Size) (bare 1 at))
+    pub size-line-refused : not b ≡ true → SizeTaken text at (taken (Failed Size) (bare 1 at))
     unfolding sized afterSize tested
-    size-refused k =
+    size-line-refused k =
         record {
           value = λ arities cells. rw (found-number r h, size-fails (n .value) b e k);
           readable = omega arith;

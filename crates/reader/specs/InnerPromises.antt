@@ -11,12 +11,10 @@ use Rattle.reader.specs.Laying.{Laid}
 use Rattle.equivalence.specs.declared.Check.{Check}
 use Rattle.equivalence.specs.declared.Check.the-variants.{Passed, Failed}
 use Rattle.algebra.specs.Algebra.{algebraOf}
-use Rattle.reader.specs.Lines.{Progress, defined, refused, lastTable, afterTable, operation, Request, generate, contained, separate, decompose}
+use Rattle.reader.specs.Lines.{Progress, defined, refused, lastTable, afterTable, operation, Request, requestOf}
 use Rattle.reader.specs.declared.lines.OperationLine.{OperationLine}
 use Rattle.reader.specs.declared.reading.Number.{Number}
 use Rattle.reader.specs.declared.reading.Spot.{Spot}
-use Rattle.reader.specs.declared.requests.Asked.{Asked}
-use Rattle.reader.specs.declared.requests.Asked.the-variants.{Generate, Contained, Separate, Decompose}
 use Rattle.reader.specs.declared.requests.RequestLine.{RequestLine}
 
 -- a value and the place after it, or a fault, as a flag tells
@@ -103,13 +101,6 @@ pub record OperationRead (text : List ℕ) (at n operations : ℕ) (lent : List 
   pub behind : put ≤ r .cells
   pub stored : r .cells ≤ length lent
   pub before : take put after ≡ take put lent
-
--- what is asked, with the numbers that were stored for it
-abbrev pub requestOf : Asked → List ℕ → Request
-requestOf Generate xs = generate xs
-requestOf Contained xs = contained xs
-requestOf (Separate v w) xs = separate v w
-requestOf Decompose xs = decompose
 
 -- a request came to what `d` says, and its numbers stand in the storage from `put` on
 pub record Requested (text : List ℕ) (at : ℕ) (lent : List ℕ) (put : ℕ) (d : Read Request) (after : List ℕ) (r : RequestLine) : Type 0 where

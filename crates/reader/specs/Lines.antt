@@ -14,6 +14,8 @@ use Rattle.algebra.specs.Algebra.{Algebra, algebraOf}
 use Rattle.reader.specs.Reading.{ascii, Read, found, fault, Reader, _>>=_, _>>_, done, failed, mark, gap, opened}
 use Rattle.reader.specs.Numbers.{number}
 use Rattle.reader.specs.Tables.{cell, table, pair, items}
+use Rattle.reader.specs.declared.requests.Asked.{Asked}
+use Rattle.reader.specs.declared.requests.Asked.the-variants.{Generate, Contained, Separate, Decompose}
 
 -- the end of a line
 unfoldable pub close : Reader (Unit {0})
@@ -98,12 +100,18 @@ afterArity a text (found s at) =
 unfoldable pub operation : Algebra → List ℕ → ℕ → Progress
 operation a text at = afterArity a text (arity text at)
 
--- what a request asks for
-pub data Request : Type 0 where
-  generate : List ℕ → Request
-  contained : List ℕ → Request
-  separate : ℕ → ℕ → Request
-  decompose : Request
+-- what a request asks, and the numbers that it lists
+pub record Request : Type 0 where
+  pub asked : Asked
+  pub numbers : List ℕ
+
+-- the request that asks this, with these numbers
+abbrev pub requestOf : Asked → List ℕ → Request
+requestOf asked numbers = record { asked = asked; numbers = numbers }
+
+-- the request that names two elements and lists no numbers
+abbrev pub separating : ℕ → ℕ → Request
+separating v w = requestOf (Separate v w) []
 
 -- any count of items, each after a gap, to the line's end
 unfoldable pub itemsToEnd : Reader (List ℕ) → Reader (List ℕ)
@@ -113,10 +121,10 @@ itemsToEnd item = do
   done xs
 
 -- a request over such items
-unfoldable pub asksWith : (List ℕ → Request) → Reader (List ℕ) → Reader Request
-asksWith ask item = do
+unfoldable pub asksWith : Asked → Reader (List ℕ) → Reader Request
+asksWith asked item = do
   xs ← itemsToEnd item
-  done (ask xs)
+  done (requestOf asked xs)
 
 -- two numbers, to the line's end
 unfoldable pub twoNumbers : Reader Request
@@ -124,12 +132,12 @@ twoNumbers = do
   v ← spacedNumber
   w ← spacedNumber
   close
-  done (separate v w)
+  done (separating v w)
 
 -- a request line: `[generate [0 2]]`, `[contained 0 0 0 3]`, `[separate 0 2]` or `[decompose]`
 unfoldable pub request : Reader Request
 request =
-    opened (ascii "[generate") (asksWith generate pair)
-    (opened (ascii "[contained") (asksWith contained cell)
+    opened (ascii "[generate") (asksWith Generate pair)
+    (opened (ascii "[contained") (asksWith Contained cell)
     (opened (ascii "[separate") twoNumbers
-    (opened (ascii "[decompose]\n") (done decompose) failed)))
+    (opened (ascii "[decompose]\n") (done (requestOf Decompose [])) failed)))

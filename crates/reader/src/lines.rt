@@ -110,10 +110,10 @@ fn check_operation(n: u8, operations: usize, cells: usize, s: u8) -> equivalence
 
 // The table of an operation line, to the line's end: 14, then 6.
 fn read_last_table(
+    n: u8,
+    s: u8,
     text: &[u8],
     at: usize,
-    s: u8,
-    n: u8,
     cells: &mut [u8],
     put: usize,
 ) -> OperationLine
@@ -121,7 +121,7 @@ fn read_last_table(
     requires { ⌜ 0 < n ⌝ }
     ensures { λ r. ⌜ TableRead (now (text .entry)) at s n (now (cells .entry)) put (now (cells .exit)) r ⌝ }
 {
-    let table = read_table(text, at, s, n, cells, put);
+    let table = read_table(n, s, text, at, cells, put);
     let next = table.at;
     let end = table.put;
     if !table.ok {
@@ -158,10 +158,10 @@ fn read_last_table(
 
 // The rest of an operation line behind `[op`: 14 in its arity, then 2, 3 or 4, then 14 and 6 in its table.
 pub fn read_operation(
-    text: &[u8],
-    at: usize,
     n: u8,
     operations: usize,
+    text: &[u8],
+    at: usize,
     cells: &mut [u8],
     put: usize,
 ) -> OperationLine
@@ -190,5 +190,5 @@ pub fn read_operation(
             cells: put,
         };
     }
-    read_last_table(text, after, arity, n, cells, put)
+    read_last_table(n, arity, text, after, cells, put)
 }

@@ -136,7 +136,7 @@ fn read_cell(text: &[u8], at: usize, cells: &mut [u8], put: usize) -> Spot
 }
 
 // A table of an arity: a number, or a bracket of n tables of the arity below.
-pub fn read_table(text: &[u8], at: usize, arity: u8, n: u8, cells: &mut [u8], put: usize) -> Spot
+pub fn read_table(n: u8, arity: u8, text: &[u8], at: usize, cells: &mut [u8], put: usize) -> Spot
     requires { ⌜ RoomFor (n ^ arity) (now text) at (now cells) put ⌝ }
     requires { ⌜ 0 < n ⌝ }
     ensures { λ r. ⌜ StoredBy (table n arity) (text .entry) at (cells .entry) put (cells .exit) r ⌝ }
@@ -147,7 +147,7 @@ pub fn read_table(text: &[u8], at: usize, arity: u8, n: u8, cells: &mut [u8], pu
     if byte_at(text, at) != b'[' {
         return Spot { ok: false, at, put };
     }
-    let rows = read_rows(text, at + 1, arity, n, n, cells, put);
+    let rows = read_rows(n, arity, n, text, at + 1, cells, put);
     let next = rows.at;
     let so_far = rows.put;
     if !rows.ok {
@@ -173,11 +173,11 @@ pub fn read_table(text: &[u8], at: usize, arity: u8, n: u8, cells: &mut [u8], pu
 
 // So many tables of the arity below, parted by gaps.
 fn read_rows(
+    n: u8,
+    arity: u8,
+    left: u8,
     text: &[u8],
     at: usize,
-    arity: u8,
-    n: u8,
-    left: u8,
     cells: &mut [u8],
     put: usize,
 ) -> Spot
@@ -185,7 +185,7 @@ fn read_rows(
     requires { ⌜ (0 < n) × ((0 < arity) × (0 < left)) ⌝ }
     ensures { λ r. ⌜ StoredBy (parted (table n (arity - 1)) left) (text .entry) at (cells .entry) put (cells .exit) r ⌝ }
 {
-    let row = read_table(text, at, arity - 1, n, cells, put);
+    let row = read_table(n, arity - 1, text, at, cells, put);
     let next = row.at;
     let so_far = row.put;
     if !row.ok {
@@ -210,11 +210,11 @@ fn read_rows(
             put: so_far,
         };
     }
-    read_rows(text, after, arity, n, left - 1, cells, so_far)
+    read_rows(n, arity, left - 1, text, after, cells, so_far)
 }
 
 // Any count of tables of an arity, each after a gap.
-pub fn read_items(text: &[u8], at: usize, arity: u8, n: u8, cells: &mut [u8], put: usize) -> Spot
+pub fn read_items(n: u8, arity: u8, text: &[u8], at: usize, cells: &mut [u8], put: usize) -> Spot
     requires { ⌜ RoomForText (now text) at (now cells) put ⌝ }
     requires { ⌜ 0 < n ⌝ }
     ensures { λ r. ⌜ StoredBy (items (table n arity)) (text .entry) at (cells .entry) put (cells .exit) r ⌝ }
@@ -223,7 +223,7 @@ pub fn read_items(text: &[u8], at: usize, arity: u8, n: u8, cells: &mut [u8], pu
     let mut so_far = put;
     let mut after = gap_end(text, next);
     while after != next {
-        let item = read_table(text, after, arity, n, cells, so_far);
+        let item = read_table(n, arity, text, after, cells, so_far);
         next = item.at;
         so_far = item.put;
         if !item.ok {

@@ -7,7 +7,7 @@ ghost use Prim.Native.Nat.{_≤_, _<_};
 ghost use lib.ListN.{length};
 ghost use Rattle.reader.specs.Tables.{table};
 ghost use Rattle.reader.specs.Lines.{itemsToEnd, asksWith, twoNumbers, request};
-ghost use Rattle.reader.specs.InnerPromises.{RoomForText, StoredBy, requestOf, RequestedBy, RequestRead};
+ghost use Rattle.reader.specs.InnerPromises.{RoomForText, StoredBy, RequestedBy, RequestRead};
 
 // What a request asks: Generate or Contained with the numbers that were stored, Separate with two elements, Decompose.
 pub enum Asked {
@@ -26,12 +26,12 @@ pub struct RequestLine {
 }
 
 // Any count of tables of an arity, each after a gap, to the line's end.
-fn read_items_to_end(text: &[u8], at: usize, arity: u8, n: u8, room: &mut [u8], put: usize) -> Spot
+fn read_items_to_end(n: u8, arity: u8, text: &[u8], at: usize, room: &mut [u8], put: usize) -> Spot
     requires { ⌜ RoomForText (now text) at (now room) put ⌝ }
     requires { ⌜ 0 < n ⌝ }
     ensures { λ r. ⌜ StoredBy (itemsToEnd (table n arity)) (text .entry) at (room .entry) put (room .exit) r ⌝ }
 {
-    let items = read_items(text, at, arity, n, room, put);
+    let items = read_items(n, arity, text, at, room, put);
     let next = items.at;
     let end = items.put;
     if !items.ok {
@@ -57,19 +57,19 @@ fn read_items_to_end(text: &[u8], at: usize, arity: u8, n: u8, room: &mut [u8], 
 
 // A request over such tables.
 fn read_asking(
+    n: u8,
+    arity: u8,
+    asked: Asked,
     text: &[u8],
     at: usize,
-    asked: Asked,
-    arity: u8,
-    n: u8,
     room: &mut [u8],
     put: usize,
 ) -> RequestLine
     requires { ⌜ RoomForText (now text) at (now room) put ⌝ }
     requires { ⌜ 0 < n ⌝ }
-    ensures { λ r. ⌜ RequestedBy (asksWith (requestOf asked) (table n arity)) (text .entry) at (room .entry) put (room .exit) r ⌝ }
+    ensures { λ r. ⌜ RequestedBy (asksWith asked (table n arity)) (text .entry) at (room .entry) put (room .exit) r ⌝ }
 {
-    let items = read_items_to_end(text, at, arity, n, room, put);
+    let items = read_items_to_end(n, arity, text, at, room, put);
     RequestLine {
         ok: items.ok,
         asked,
@@ -116,10 +116,10 @@ pub fn read_request(text: &[u8], at: usize, room: &mut [u8], put: usize) -> Requ
     ensures { λ r. ⌜ RequestedBy request (text .entry) at (room .entry) put (room .exit) r ⌝ }
 {
     if begins_with(text, at, b"[generate") {
-        return read_asking(text, at + 9, Asked::Generate, 1, 2, room, put);
+        return read_asking(2, 1, Asked::Generate, text, at + 9, room, put);
     }
     if begins_with(text, at, b"[contained") {
-        return read_asking(text, at + 10, Asked::Contained, 0, 1, room, put);
+        return read_asking(1, 0, Asked::Contained, text, at + 10, room, put);
     }
     if begins_with(text, at, b"[separate") {
         return read_separate(text, at + 9, put);

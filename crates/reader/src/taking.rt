@@ -73,7 +73,7 @@ pub fn take_operation_line(
 {
     let size = algebra.size;
     let operations = algebra.operations;
-    let line = read_operation(text, algebra.at + 3, size, operations, cells, algebra.cells);
+    let line = read_operation(size, operations, text, algebra.at + 3, cells, algebra.cells);
     let next = line.next;
     let end = line.cells;
     let check = line.check;

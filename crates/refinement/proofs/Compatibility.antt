@@ -15,6 +15,7 @@ use Rattle.algebra.proofs.Accepted.{WellFormed}
 use Rattle.algebra.proofs.Congruences.{cells-below}
 use Rattle.algebra.proofs.Tables.{start-room}
 use Rattle.translation.proofs.Places.{place-one, place-two, place-three}
+use Rattle.translation.proofs.Translations.{result-below}
 use Rattle.refinement.specs.InnerSplitting.{lineAt, Keeps, KeepsOn, Any, Chosen, Table, MapLent, Represented}
 use Rattle.refinement.proofs.Splits.{keeps-by-first}
 use Rattle.kernel.proofs.Names.{name-back}
@@ -47,10 +48,6 @@ module _ (a : Algebra) (j : ℕ) where
 -- g joins two results where it joins the cells that they are
 same-cells : (g : ℕ → ℕ) {r s c d : ℕ} → r ≡ c → s ≡ d → g c ≡ g d → g r ≡ g s
 same-cells g p q e = ap g p ∙ e ∙ ap g (sym q)
-
-pub result-below : (a : Algebra) → WellFormed a → (j : ℕ) (xs : List ℕ) → result a j xs < a .size
-unfolding result
-result-below a w j xs = cells-below a w (tableStart a j + place (a .size) xs)
 
 -- ---- what is compatible is kept
 

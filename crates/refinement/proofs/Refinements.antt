@@ -18,7 +18,7 @@ use Rattle.algebra.proofs.Congruences.{congruence-is, congruence-of}
 use Rattle.translation.proofs.Translations.{congruence-compatible, compatible-congruence, identity-compatible}
 use Rattle.refinement.specs.InnerSplitting.{Elements, Sifted, Lists, Split, Represented}
 use Rattle.kernel.proofs.Names.{names-one}
-use Rattle.refinement.proofs.Compatibility.{result-below}
+use Rattle.translation.proofs.Translations.{result-below}
 
 -- a single block is compatible with every operation
 whole-compatible : (a : Algebra) → WellFormed a → (g : ℕ → ℕ) → Canonical (a .size) g → names (a .size) g ≡ 1 → Compatible a g

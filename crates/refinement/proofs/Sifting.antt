@@ -1,5 +1,5 @@
 -- Lists of elements, and what is left of them.
-use Prim.Native.Nat.{ℕ, _+_, _≤_, _<_}
+use Prim.Native.Nat.{ℕ, _+_, _-_, _≤_, _<_}
 use mathlib.Core.List.{List}
 use mathlib.Core.Path.{_≡_, refl, sym, ap, _∙_}
 use native.Mathlib.Decide.{ℕ-discrete}
@@ -25,17 +25,10 @@ pub record Sifting (f : ℕ → ℕ) (list₀ list : List ℕ) (i kept : ℕ) : 
 pub sifting-none : {f : ℕ → ℕ} {list : List ℕ} → Sifting f list list 0 0
 sifting-none = record { most = omega arith; ahead = λ k l. refl; old = λ k l. absurd (omega arith); all = λ k l. absurd (omega arith) }
 
--- the test that the loop makes, as a number
-other-bit : (f : ℕ → ℕ) (x b : ℕ) → b + bit (eqb (f x) x) ≡ 1 → ¬ (f x ≡ x) → b ≡ 1
-other-bit f x b e h = omega (arith, ap bit (ne-eqb (f x) x h))
-
-bit-most : (b c : ℕ) → b + c ≡ 1 → b ≤ 1
-bit-most b c e = omega arith
-
-pub sifting-more : {f : ℕ → ℕ} {list₀ list : List ℕ} {i kept : ℕ} (b : ℕ) → i < length list → Sifting f list₀ list i kept → b + bit (eqb (f (byte list i)) (byte list i)) ≡ 1
-    → Sifting f list₀ (set list kept (byte list i)) (i + 1) (kept + b)
+-- an element that is its own name is left out, and every other is kept
+pub sifting-more : {f : ℕ → ℕ} {list₀ list : List ℕ} {i kept : ℕ} (b : ℕ) → i < length list → Sifting f list₀ list i kept → b ≡ bit (eqb (f (byte list i)) (byte list i))
+    → Sifting f list₀ (set list kept (byte list i)) (i + 1) (kept + (1 - b))
 sifting-more {f} {list₀} {list} {i} {kept} b l s e =
-    let small = bit-most b _ e in
     let here : byte (set list kept (byte list i)) kept ≡ byte list i = getD-set-same list kept (byte list i) 0 (omega (arith, s .most)) in
     record {
       most = omega (arith, s .most);
@@ -51,7 +44,7 @@ sifting-more {f} {list₀} {list} {i} {kept} b l s e =
           elim (ℕ-discrete k i) [
             | yes q ↦
                 let same : byte list i ≡ byte list₀ k = s .ahead i (omega arith) ∙ ap (byte list₀) (sym q) in
-                let one : b ≡ 1 = other-bit f (byte list i) b e (rw same h) in
+                let none : b ≡ 0 = e ∙ ap bit (ne-eqb (f (byte list i)) (byte list i) (rw same h)) in
                 (kept, (omega arith, here ∙ same))
             | no q ↦
                 let o = s .all k (omega arith) h in

@@ -66,7 +66,7 @@ fn refine_in(
     ensures { λ _. ⌜ Refined (algebraIn n (arities .entry) (cells .entry)) (byte (now (m .entry))) (byte (now (m .exit))) ⌝ }
     ensures { λ _. ⌜ ((x : ℕ) → n ≤ x → byte (now (m .exit)) x ≡ byte (now (m .entry)) x) ⌝ }
 {
-    equivalence::blocks::copy(live, others, used);
+    equivalence::blocks::copy(used, live, others);
     let left = line::sift(m, others, used);
     refine_by(m, n, arities, cells, live, used, others, left);
 }
@@ -95,7 +95,7 @@ pub fn refine(m: &mut [u8], n: usize, arities: &[u8], cells: &[u8])
     ensures { λ _. ⌜ ((x : ℕ) → n ≤ x → byte (now (m .exit)) x ≡ byte (now (m .entry)) x) ⌝ }
 {
     let mut live = [0u8; 64];
-    equivalence::blocks::identity(&mut live, n);
+    equivalence::blocks::identity(n, &mut live);
     refine_above(m, n, arities, cells, &live, n);
 }
 
@@ -106,7 +106,7 @@ pub fn is_congruence(n: usize, arities: &[u8], cells: &[u8], m: &[u8]) -> bool
     ensures { λ r. ⌜ r ≡ isCongruence (algebraIn n (arities .entry) (cells .entry)) (now (m .entry)) ⌝ }
 {
     let mut split = [0u8; 64];
-    equivalence::blocks::copy(m, &mut split, n);
+    equivalence::blocks::copy(n, m, &mut split);
     refine(&mut split, n, arities, cells);
     equivalence::map::is_inside(n, m, &split)
 }

@@ -2,10 +2,9 @@
 // elements are compared with the smallest members of their blocks.
 ghost use mathlib.Core.Path.{_≡_};
 ghost use Prim.Native.Nat.{ℕ, _+_, _<_, _≤_};
-ghost use lib.Dec.{eqb};
 ghost use lib.ListN.{length};
 ghost use Rattle.equivalence.specs.Equivalence.{byte};
-ghost use Rattle.kernel.specs.InnerKernel.{bit, Listed};
+ghost use Rattle.kernel.specs.InnerKernel.{Listed};
 ghost use Rattle.refinement.specs.InnerSplitting.{Elements, lineAt, Keeps, KeepsOn, MapLent, OnLine, Broken, Alike, FirstsSeen, Sifted, Split};
 use equivalence::lattice::NONE;
 
@@ -107,7 +106,7 @@ fn split_block(m: &mut [u8], n: usize, cells: &[u8], base: usize, d: usize, name
     let mut next = [0u8; 64];
     let mut seen = [NONE; 64];
     rename(m, &mut next, &mut seen, n, cells, base, d, name);
-    equivalence::blocks::copy(&next, m, n);
+    equivalence::blocks::copy(n, &next, m);
 }
 
 // Splits the block of each listed element that the line takes out of it. Whether there was any.
@@ -141,14 +140,6 @@ fn split_blocks(
     any
 }
 
-// 1 where x is no smallest member, 0 where it is one.
-fn is_other(m: &[u8], x: usize) -> usize
-    requires { do ⌜ x < (← ⟦m.len()⟧) ⌝ }
-    ensures { λ r. ⌜ r + bit (eqb (byte (now (m .entry)) x) x) ≡ 1 ⌝ }
-{
-    if m[x] as usize == x { 0 } else { 1 }
-}
-
 // Keeps those of the first `count` elements that are no smallest members. How many there are.
 pub fn sift(m: &[u8], list: &mut [u8], count: usize) -> usize
     requires { ⌜ Elements (length (now m)) (now list) count ⌝ }
@@ -158,8 +149,9 @@ pub fn sift(m: &[u8], list: &mut [u8], count: usize) -> usize
     let mut i = 0;
     while i < count {
         let x = list[i];
+        let place = x as usize;
         list[kept] = x;
-        kept += is_other(m, x as usize);
+        kept += 1 - equivalence::map::self_named(m[place], place);
         i += 1;
     }
     kept

@@ -215,8 +215,8 @@ module _ (a : Algebra) (v w : ℕ) (f : ℕ → ℕ) where
 -- ---- the slices of the search
 
 -- a slice that is copied whole
-pub copied-whole : (k : ℕ) (from to : List ℕ) {old : ℕ → ℕ} → length from ≡ k → length to ≡ k → Filled k (byte from) old (byte to) → to ≡ from
-copied-whole k from to a b d = ext-getD 0 to from (b ∙ sym a) (λ x l. d .first x (omega arith))
+pub copied-equal : (k : ℕ) (from to : List ℕ) {old : ℕ → ℕ} → length from ≡ k → length to ≡ k → Filled k (byte from) old (byte to) → to ≡ from
+copied-equal k from to a b d = ext-getD 0 to from (b ∙ sym a) (λ x l. d .first x (omega arith))
 
 -- slices of other contents and the same lengths are rooms as well
 pub rooms-kept : {n v w : ℕ} {arities cells m names table m′ names′ table′ : List ℕ} → Rooms n arities cells m names table v w

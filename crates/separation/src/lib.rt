@@ -10,9 +10,9 @@ ghost use Rattle.separation.specs.InnerSearch.{Rooms, Earliest};
 pub mod blocks;
 pub mod search;
 
-// `separate` for v's row first, with room for a map, the list of its names and the marks of refused pairs: once every pair with v is
+// `earliest_apart` for v's row first, with room for a map, the list of its names and the marks of refused pairs: once every pair with v is
 // settled, the greatest congruence inside "v's block and the rest" is the answer (004, Lemma 10). The names of the map stand for all elements.
-fn separate_in(
+fn earliest_apart_in(
     m: &mut [u8],
     names: &mut [u8],
     n: usize,
@@ -30,7 +30,7 @@ fn separate_in(
     ensures { λ _. ⌜ Earliest (algebraIn n (arities .entry) (cells .entry)) v w (byte (now (out .exit))) ⌝ }
     ensures { λ _. ⌜ ((x : ℕ) → n ≤ x → byte (now (out .exit)) x ≡ byte (now (out .entry)) x) ⌝ }
 {
-    equivalence::blocks::identity(m, n);
+    equivalence::blocks::identity(n, m);
     let count = closure::start::names(m, n, names);
     let left = search::settle_rows(m, names, count, n, arities, cells, refused, v, w);
     blocks::two_blocks(m, n, v, out);
@@ -38,7 +38,7 @@ fn separate_in(
 }
 
 // The earliest congruence that holds v and w apart goes to the first n bytes of out; those past n keep their value.
-pub fn separate(n: usize, arities: &[u8], cells: &[u8], v: usize, w: usize, out: &mut [u8])
+pub fn earliest_apart(n: usize, arities: &[u8], cells: &[u8], v: usize, w: usize, out: &mut [u8])
     requires { ⌜ Accepted (algebraIn n arities cells) ⌝ }
     requires { ⌜ v < n ⌝ }
     requires { ⌜ w < n ⌝ }
@@ -51,7 +51,7 @@ pub fn separate(n: usize, arities: &[u8], cells: &[u8], v: usize, w: usize, out:
     let mut names = [0u8; 64];
     let mut refused = [0u8; 4096];
     if v < w {
-        separate_in(
+        earliest_apart_in(
             &mut m,
             &mut names,
             n,
@@ -63,7 +63,7 @@ pub fn separate(n: usize, arities: &[u8], cells: &[u8], v: usize, w: usize, out:
             out,
         );
     } else {
-        separate_in(
+        earliest_apart_in(
             &mut m,
             &mut names,
             n,

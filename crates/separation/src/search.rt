@@ -27,8 +27,8 @@ fn try_pair(
     ensures { λ r. ⌜ SearchState (algebraIn n (arities .entry) (cells .entry)) v w x (y + 1) (now (refused .exit)) (now (names .exit)) r (byte (now (m .exit))) ⌝ }
 {
     let mut spare = [0u8; 64];
-    equivalence::blocks::copy(m, &mut spare, 64);
-    if !closure::extend_apart(
+    equivalence::blocks::copy(64, m, &mut spare);
+    if !closure::close_apart(
         &mut spare,
         n,
         arities,
@@ -44,7 +44,7 @@ fn try_pair(
         refused[x * 64 + y] = 1;
         return count;
     }
-    equivalence::blocks::copy(&spare, m, 64);
+    equivalence::blocks::copy(64, &spare, m);
     closure::start::names(m, n, names)
 }
 

@@ -1,17 +1,18 @@
 -- The cells of a table against the results of its operation: a pass over the lines and planes of a table joins all images whose other
 -- arguments are listed. And images: they are elements, and what joins them keeps joining them.
-use Prim.Native.Nat.{ℕ, zero, suc, _+_, _*_, _^_, _≤_, _<_}
+use Prim.Native.Nat.{ℕ, zero, suc, _+_, _*_, _≤_, _<_}
 use mathlib.Core.List.{List, [], _∷_, _++_}
 use mathlib.Core.Path.{_≡_, refl, sym, ap, subst, _∙_, subst₂}
 use native.Mathlib.Omega.{arith}
-use lib.ListN.{length, getD, length-append}
+use lib.ListN.{length, getD}
 use Rattle.equivalence.specs.Equivalence.{byte}
 use Rattle.kernel.specs.InnerKernel.{Within, Listed}
 use Rattle.algebra.specs.Accepted.{Accepted}
 use Rattle.algebra.specs.Algebra.{Algebra, place}
 use Rattle.translation.specs.InnerTranslations.{AllBelow, tableStart, result, Compatible}
 use Rattle.algebra.proofs.Accepted.{WellFormed, accepted-wellFormed}
-use Rattle.translation.proofs.Places.{place-lt, place-one, place-two, place-three}
+use Rattle.translation.proofs.Places.{place-one, place-two, place-three}
+use Rattle.translation.proofs.Translations.{result-below}
 use Rattle.algebra.proofs.Tables.{start-room}
 use Rattle.sweep.specs.InnerContexts.{All, ImagesIn, OperationsIn, JoinsLine, JoinsPlane, JoinsTable, Contexts, TableInside}
 use Rattle.sweep.proofs.Sweeps.{each-more}
@@ -159,31 +160,22 @@ pub all-append : (L : ℕ → Type 0) (xs ys : List ℕ) → All L xs → All L 
 all-append L [] ys p q = q
 all-append L (x ∷ xs) ys p q = (p .0, all-append L xs ys (p .1) q)
 
-module _ (a : Algebra) (ok : WellFormed a) (j : ℕ) (lj : j < length (a .arities)) where
-  pub result-below : (xs : List ℕ) → length xs ≡ getD (a .arities) j 0 → All (λ x. x < a .size) xs → result a j xs < a .size
-  unfolding result
-  result-below xs e p =
-      let l : place (a .size) xs < a .size ^ getD (a .arities) j 0 = rw e at (place-lt (a .size) xs (all-below (a .size) xs p)) in
-      ok .below (tableStart a j + place (a .size) xs) (omega (arith, ok .filled, start-room (a .size) (a .arities) j lj))
+module _ (a : Algebra) (ok : WellFormed a) (j : ℕ) (L : ℕ → Type 0) (x y : ℕ) where
+  -- what joins the images keeps joining them
+  pub images-kept : {f f′ : ℕ → ℕ} → Within (a .size) f f′ → ImagesIn a j L x y f → ImagesIn a j L x y f′
+  images-kept w h pre post e p q =
+      w (result a j (pre ++ (x ∷ post))) (result a j (pre ++ (y ∷ post))) (result-below a ok j (pre ++ (x ∷ post))) (result-below a ok j (pre ++ (y ∷ post)))
+      (h pre post e p q)
 
-  module _ {L : ℕ → Type 0} (small : (c : ℕ) → L c → c < a .size) where
-    image-below : (x : ℕ) → x < a .size → (pre post : List ℕ) → length pre + 1 + length post ≡ getD (a .arities) j 0 → All L pre → All L post → result a j (pre ++ (x ∷ post)) < a .size
-    image-below x l pre post e p q =
-        result-below (pre ++ (x ∷ post)) (length-append pre (x ∷ post) ∙ omega arith) (all-append (λ c. c < a .size) pre (x ∷ post) (all-map small pre p) (l, all-map small post q))
-
-    -- what joins the images keeps joining them
-    pub images-kept : {x y : ℕ} {f f′ : ℕ → ℕ} → x < a .size → y < a .size → Within (a .size) f f′ → ImagesIn a j L x y f → ImagesIn a j L x y f′
-    images-kept {x} {y} lx ly w h pre post e p q =
-        w (result a j (pre ++ (x ∷ post))) (result a j (pre ++ (y ∷ post))) (image-below x lx pre post e p q) (image-below y ly pre post e p q) (h pre post e p q)
-
-    pub images-whole : {x y : ℕ} {f : ℕ → ℕ} → x < a .size → y < a .size → ((c : ℕ) → c < a .size → f c ≡ 0) → ImagesIn a j L x y f
-    images-whole {x} {y} lx ly z pre post e p q =
-        z (result a j (pre ++ (x ∷ post))) (image-below x lx pre post e p q) ∙ sym (z (result a j (pre ++ (y ∷ post))) (image-below y ly pre post e p q))
+  pub images-whole : {f : ℕ → ℕ} → ((c : ℕ) → c < a .size → f c ≡ 0) → ImagesIn a j L x y f
+  images-whole z pre post e p q =
+      z (result a j (pre ++ (x ∷ post))) (result-below a ok j (pre ++ (x ∷ post)))
+      ∙ sym (z (result a j (pre ++ (y ∷ post))) (result-below a ok j (pre ++ (y ∷ post))))
 
 -- with one block left everything is compatible
 pub compatible-whole : (a : Algebra) → WellFormed a → (f : ℕ → ℕ) → ((c : ℕ) → c < a .size → f c ≡ 0) → Compatible a f
 compatible-whole a ok f z x y lx ly e j lj pre post s p q =
-    images-whole a ok j lj {L = λ c. c < a .size} (λ c l. l) lx ly z pre post s (below-all (a .size) pre p) (below-all (a .size) post q)
+    images-whole a ok j (λ c. c < a .size) x y z pre post s (below-all (a .size) pre p) (below-all (a .size) post q)
 
 -- what is compatible joins the images of two elements that it joins
 pub compatible-images : (a : Algebra) {L : ℕ → Type 0} → ((c : ℕ) → L c → c < a .size) → (g : ℕ → ℕ) → Compatible a g → (x y : ℕ) → x < a .size → y < a .size → g x ≡ g y
@@ -210,8 +202,8 @@ module _ (a : Algebra) (accepted : Accepted a) (live : List ℕ) (count : ℕ) (
   pub operations-more : (f f′ : ℕ → ℕ) (j o : ℕ) → j < length (a .arities) → o ≡ tableStart a j → Within (a .size) f f′
       → JoinsTable (a .size) (a .cells) live count o (getD (a .arities) j 0) x y f′ → OperationsIn a j (Listed live count) x y f → OperationsIn a (j + 1) (Listed live count) x y f′
   operations-more f f′ j o l e w t h =
-      each-more (λ (k : ℕ) (g : ℕ → ℕ). ImagesIn a k (Listed live count) x y g) f f′ (λ k lk. images-kept a ok k (omega arith) (listed-below contexts) lx ly w) h
+      each-more (λ (k : ℕ) (g : ℕ → ℕ). ImagesIn a k (Listed live count) x y g) f f′ (λ k lk. images-kept a ok k (Listed live count) x y w) h
       (table-images a j live count x y f′ (ok .arity j l) (rw e at t))
 
   pub operations-whole : (f : ℕ → ℕ) → ((c : ℕ) → c < a .size → f c ≡ 0) → OperationsIn a (length (a .arities)) (Listed live count) x y f
-  operations-whole f z j l = images-whole a ok j l (listed-below contexts) lx ly z
+  operations-whole f z j l = images-whole a ok j (Listed live count) x y z

@@ -19,7 +19,7 @@ pub fn merge_queued(m: &mut [u8], n: usize, queue: &mut [u8], len: usize, a: u8,
     if p == q {
         return len;
     }
-    equivalence::blocks::merge(m, n, x, y);
+    equivalence::blocks::merge(n, x, y, m);
     queue[len] = algebra::larger(p, q);
     len + 1
 }

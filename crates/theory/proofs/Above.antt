@@ -1,7 +1,7 @@
 -- The least congruence above a map that holds the pairs of a flat list: it is one, only one map is it, and to go on from it with further pairs is to take
 -- all pairs at once. What Generate and Add give are cases.
 -- first, so that a wrong definition is refused by an example that it makes false
-use Rattle.theory.proofs.Examples.{Examples}
+use Rattle.theory.proofs.Examples.{TheoryExamples}
 use Prim.Native.Nat.{ℕ, zero, suc, _%_, _<_}
 use mathlib.Core.Bool.{Bool, true, _&&_}
 use mathlib.Core.List.{List, [], _∷_, _++_, List·Memᴰ as Member}

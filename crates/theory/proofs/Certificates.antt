@@ -23,7 +23,7 @@ use Rattle.algebra.proofs.Congruences.{IsCongruence, congruence-is, congruence-
 use Rattle.theory.specs.Certify.{isMaximalFor, certified}
 use Rattle.theory.specs.Decompose.{listed}
 use Rattle.theory.proofs.Above.{LeastJoining}
-use Rattle.theory.proofs.Factors.{listed-law, two-at-least}
+use Rattle.theory.proofs.Factors.{listed-law}
 use Rattle.theory.proofs.Separation.{MaximalFor}
 
 module _ (a : Algebra) (m : Map) where

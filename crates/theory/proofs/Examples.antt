@@ -13,7 +13,7 @@ use Rattle.theory.specs.Decompose.{added, gathered, pruned, listed, redu
 use Rattle.theory.specs.Extremal.{holdsAll, above, generated, contained, separated}
 use Rattle.quotient.specs.Quotient.{quotientTable, quotientCells}
 
-pub record Examples : Type 0 where
+pub record TheoryExamples : Type 0 where
   pub one : generated u (0 ∷ 2 ∷ []) ≡ 0 ∷ 1 ∷ 0 ∷ 1 ∷ []
   pub two : generated u (2 ∷ 3 ∷ []) ≡ 0 ∷ 1 ∷ 2 ∷ 2 ∷ []
   pub three : generated u [] ≡ 0 ∷ 1 ∷ 2 ∷ 3 ∷ []
@@ -37,11 +37,11 @@ pub record Examples : Type 0 where
       × (certified c ((0 ∷ 1 ∷ 2 ∷ 3 ∷ []) ∷ []) ≡ true)
   pub divided : quotientCells u (0 ∷ 1 ∷ 0 ∷ 1 ∷ []) ≡ 1 ∷ 0 ∷ []
 
-pub examples : Examples
+pub theory-examples : TheoryExamples
 unfolding upTo every any first holds concat mapOf keep maps namesOf blocks blockOf best meetAll inside same isIdentity isMap notLater notLaterOn pairs
     identity whole meet firstHeld isCongruence operations operationsOf cellCount arguments place value respects quotientCells quotientTable
     congruences holdsAll above generated contained separated added gathered pruned listed commonPair reducible certified isMaximalFor
-examples =
+theory-examples =
     record {
       one = refl;
       two = refl;

@@ -1,6 +1,6 @@
 -- A map is a congruence just where its bytes are compatible with every translation.
 use Prim.Native.Nat.{ℕ, zero, suc, _+_, _-_, _<_}
-use mathlib.Core.List.{List, [], _∷_, _++_, map}
+use mathlib.Core.List.{List, [], _∷_, _++_}
 use mathlib.Core.Path.{_≡_, refl, sym, ap, subst, _∙_}
 use native.Mathlib.Decide.{decLt}
 use native.Mathlib.Omega.{arith}
@@ -8,12 +8,17 @@ use lib.ListN.{length, getD, take, drop, set, length-take, length-append, take-a
 use lib.Seq.{getD-append-seam, set-append-seam, drop-cons, set-split}
 use Rattle.equivalence.specs.Equivalence.{Map, byte}
 use Rattle.equivalence.proofs.Maps.{Holds, IsMap}
-use Rattle.algebra.specs.Algebra.{Algebra, value}
-use Rattle.translation.specs.InnerTranslations.{AllBelow, result, Compatible}
+use Rattle.algebra.specs.Algebra.{Algebra, place, value}
+use Rattle.translation.specs.InnerTranslations.{AllBelow, tableStart, result, Compatible}
 use Rattle.algebra.proofs.Accepted.{WellFormed}
 use Rattle.algebra.proofs.Arguments.{Args}
-use Rattle.algebra.proofs.Congruences.{OneByOne, IsCongruence, respects-one, congruence-by-one}
+use Rattle.algebra.proofs.Congruences.{OneByOne, IsCongruence, respects-one, congruence-by-one, cells-below}
 use Rattle.algebra.proofs.Tables.{operationAt, operationAt-member, every-operation, value-at}
+
+-- a result is an element, whatever the arguments
+pub result-below : (a : Algebra) → WellFormed a → (j : ℕ) (xs : List ℕ) → result a j xs < a .size
+unfolding result
+result-below a w j xs = cells-below a w (tableStart a j + place (a .size) xs)
 
 -- a list whose members are below n, as an argument list, and back
 pub args-below : (n s : ℕ) (xs : List ℕ) → Args n s xs → AllBelow n xs

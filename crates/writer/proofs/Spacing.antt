@@ -136,9 +136,9 @@ module _ (lent : List ℕ) (put : ℕ) (mid : List ℕ) (at : ℕ) (after : List
   unfolding refusedLine
   refused-written r v mid′ at′ e p q s = rw refused-line (line-written (ascii "[refused") (spaced (numberOf r ∷ [])) mid′ at′ p (rw e at q) s)
 
-  pub generated-written : (word a b mid′ : List ℕ) (at′ : ℕ) (mid″ : List ℕ) (at″ : ℕ) → Laid lent put word mid at → Laid mid at a mid′ at′
+  pub two-parts-written : (word a b mid′ : List ℕ) (at′ : ℕ) (mid″ : List ℕ) (at″ : ℕ) → Laid lent put word mid at → Laid mid at a mid′ at′
       → Laid mid′ at′ b mid″ at″ → Laid mid″ at″ (ascii "]\n") after end → Laid lent put (line word (a ++ b)) after end
-  generated-written word a b mid′ at′ mid″ at″ p q r s =
+  two-parts-written word a b mid′ at′ mid″ at″ p q r s =
       line-written word (a ++ b) mid″ at″ p (laid-more mid at a mid′ at′ b mid″ at″ q r) s
 
 pub brackets-append : (ms ns : List (List ℕ)) → spacedBrackets (ms ++ ns) ≡ spacedBrackets ms ++ spacedBrackets ns

@@ -1,6 +1,6 @@
 -- `check` meets its contract, by the laws of Accepted: one for each return.
 use borrow.Author.Needs.{needs}
-use Rattle.algebra.proofs.Accepted.{tests-size, tests-operations, tests-arity, tests-cells, tests-length, tests-cell, tests-passed}
+use Rattle.algebra.proofs.Accepted.{tests-size, tests-operations, tests-arity, tests-cells, tests-length, tests-cell, tests-none}
 use Rattle.equivalence.proofs.Refusals.{sized-most}
 use Rattle.algebra.proofs.Maximum.{largest-most}
 use Rattle.algebra.proofs.check.Statement.{statement}
@@ -40,7 +40,7 @@ returns-6 : tie.Need-returns-6
 returns-6 c = search tests-cell
 
 returns-7 : tie.Need-returns-7
-returns-7 c = search tests-passed
+returns-7 c = search tests-none
 
 pub check-spec : {M : Type 1} → statement M
 check-spec =

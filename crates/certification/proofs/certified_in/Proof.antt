@@ -5,7 +5,7 @@ use native.Mathlib.Omega.{arith}
 use borrow.Author.Tests.{not-false}
 use Rattle.equivalence.proofs.Tests.{T-of}
 use Rattle.maplist.specs.InnerMapLists.{mapList}
-use Rattle.certification.proofs.Certifying.{no-congruence, no-identity, one-superfluous, maximal-decides, suffixes-canonical, suffixes-identity}
+use Rattle.certification.proofs.Certifying.{no-congruence, no-identity, one-superfluous, maximal-decides, all-suffixes-canonical, suffixes-identity}
 use borrow.Author.Needs.{needs}
 use Rattle.certification.proofs.certified_in.Statement.{statement}
 use Rattle.certification.proofs.certified_in.Tie as tie
@@ -20,7 +20,7 @@ suffix-meets-requires : tie.Need-suffix-meets-requires
 suffix-meets-requires c κs = let p = c .before .before .before .before .before .before .before .before .before .pre in (p .1 .0, (omega (arith, p .1 .0 .most), omega (arith, p .1 .0 .most, mul-le-mul-right (c .before .before .before .before .before .before .before .before .before .args .n) (p .1 .0 .few))))
 
 is-identity-requires : tie.Need-is-identity-requires
-is-identity-requires c κs = let p = c .before .before .before .before .before .before .before .before .before .before .before .before .before .before .before .pre in (omega (arith, p .1 .0 .most, c .before .before .before .before .before .suffix-meets .kept .1 .1 .1 .1 .0), suffixes-canonical (c .before .before .before .before .before .before .before .before .before .before .before .before .before .before .before .args .n) (mapList (c .before .before .before .before .before .before .before .before .before .before .before .before .before .before .before .args .n) (c .before .before .before .before .before .before .before .before .before .before .before .before .before .before .before .args .count) (c .before .before .before .before .before .before .before .before .before .before .before .before .before .before .before .args .maps .now)) (c .before .before .before .before .before .suffix-meets .last .1 .1 .1 .1 .0) (c .before .before .before .before .before .suffix-meets .ensures))
+is-identity-requires c κs = let p = c .before .before .before .before .before .before .before .before .before .before .before .before .before .before .before .pre in (omega (arith, p .1 .0 .most, c .before .before .before .before .before .suffix-meets .kept .1 .1 .1 .1 .0), all-suffixes-canonical (c .before .before .before .before .before .before .before .before .before .before .before .before .before .before .before .args .n) (mapList (c .before .before .before .before .before .before .before .before .before .before .before .before .before .before .before .args .n) (c .before .before .before .before .before .before .before .before .before .before .before .before .before .before .before .args .count) (c .before .before .before .before .before .before .before .before .before .before .before .before .before .before .before .args .maps .now)) (c .before .before .before .before .before .suffix-meets .last .1 .1 .1 .1 .0) (c .before .before .before .before .before .suffix-meets .ensures))
 
 same-length : tie.Need-same-length
 same-length c = search needs

@@ -2,7 +2,7 @@
 use native.Mathlib.Omega.{arith}
 use Rattle.equivalence.proofs.Maps.{of-isMap}
 use Rattle.algebra.proofs.Accepted.{accepted-wellFormed}
-use Rattle.certification.proofs.Closures.{shrunk-none, shrunk-closure, copied-canonical, closure-begins, closure-canonical}
+use Rattle.certification.proofs.Closures.{shrunk-none, shrunk-closure, copied-map-canonical, closure-begins, closure-canonical}
 use borrow.Author.Needs.{needs}
 use Rattle.certification.proofs.meet_closure.Statement.{statement}
 use Rattle.certification.proofs.meet_closure.Tie as tie
@@ -35,19 +35,19 @@ slice-aggregate-extended-into : tie.Need-slice-aggregate-extended-into
 slice-aggregate-extended-into c = search needs
 
 extended-into-requires : tie.Need-extended-into-requires
-extended-into-requires c κs = let p = c .before .before .before .before .before .before .before .before .before .before .before .before .pre in (p .0, (omega (arith, accepted-wellFormed _ (p .0) .most, c .before .before .copy .kept .1 .0), (copied-canonical (accepted-wellFormed _ (c .before .before .before .before .before .before .before .before .before .before .before .before .pre .0)) (of-isMap _ _ (c .before .before .before .before .before .before .before .before .before .before .before .before .pre .1 .0)) _ _ (c .before .before .before .before .before .before .before .before .before .before .before .before .pre .1 .1 .0) (c .before .before .before .before .before .before .before .before .before .before .before .before .pre .1 .1 .1 .0) (c .before .before .copy .last .1 .0) (omega (arith, accepted-wellFormed _ (c .before .before .before .before .before .before .before .before .before .before .before .before .pre .0) .most, c .before .before .copy .kept .1 .0)) (c .before .before .copy .ensures), (omega (arith, p .1 .1 .0, p .1 .1 .1 .0), p .1 .1 .1 .0))))
+extended-into-requires c κs = let p = c .before .before .before .before .before .before .before .before .before .before .before .before .pre in (p .0, (omega (arith, accepted-wellFormed _ (p .0) .most, c .before .before .copy .kept .1 .1 .0), (copied-map-canonical (accepted-wellFormed _ (c .before .before .before .before .before .before .before .before .before .before .before .before .pre .0)) (of-isMap _ _ (c .before .before .before .before .before .before .before .before .before .before .before .before .pre .1 .0)) _ _ (c .before .before .before .before .before .before .before .before .before .before .before .before .pre .1 .1 .0) (c .before .before .before .before .before .before .before .before .before .before .before .before .pre .1 .1 .1 .0) (c .before .before .copy .last .1 .1 .0) (omega (arith, accepted-wellFormed _ (c .before .before .before .before .before .before .before .before .before .before .before .before .pre .0) .most, c .before .before .copy .kept .1 .1 .0)) (c .before .before .copy .ensures), (omega (arith, p .1 .1 .0, p .1 .1 .1 .0), p .1 .1 .1 .0))))
 
 slice-aggregate-meet-with : tie.Need-slice-aggregate-meet-with
 slice-aggregate-meet-with c = search needs
 
 meet-with-requires : tie.Need-meet-with-requires
-meet-with-requires c κs = let p = c .before .before .before .before .before .before .before .before .before .before .before .before .before .before .before .before .pre in (accepted-wellFormed _ (p .0) .most, (omega (arith, accepted-wellFormed _ (p .0) .most, c .before .before .before .before .before .before .copy .kept .1 .0, c .before .before .before .extended-into .kept .0), (p .1 .1 .1 .1 .0, (closure-canonical (accepted-wellFormed _ (c .before .before .before .before .before .before .before .before .before .before .before .before .before .before .before .before .pre .0)) (of-isMap _ _ (c .before .before .before .before .before .before .before .before .before .before .before .before .before .before .before .before .pre .1 .0)) _ _ (c .before .before .before .before .before .before .before .before .before .before .before .before .before .before .before .before .pre .1 .1 .0) (c .before .before .before .before .before .before .before .before .before .before .before .before .before .before .before .before .pre .1 .1 .1 .0) (c .before .before .before .before .before .before .copy .last .1 .0) (omega (arith, accepted-wellFormed _ (c .before .before .before .before .before .before .before .before .before .before .before .before .before .before .before .before .pre .0) .most, c .before .before .before .before .before .before .copy .kept .1 .0)) (c .before .before .before .before .before .before .copy .ensures) (c .before .before .before .extended-into .ensures .0), p .1 .1 .1 .1 .1))))
+meet-with-requires c κs = let p = c .before .before .before .before .before .before .before .before .before .before .before .before .before .before .before .before .pre in (accepted-wellFormed _ (p .0) .most, (omega (arith, accepted-wellFormed _ (p .0) .most, c .before .before .before .before .before .before .copy .kept .1 .1 .0, c .before .before .before .extended-into .kept .1 .1 .1 .1 .1 .0), (p .1 .1 .1 .1 .0, (closure-canonical (accepted-wellFormed _ (c .before .before .before .before .before .before .before .before .before .before .before .before .before .before .before .before .pre .0)) (of-isMap _ _ (c .before .before .before .before .before .before .before .before .before .before .before .before .before .before .before .before .pre .1 .0)) _ _ (c .before .before .before .before .before .before .before .before .before .before .before .before .before .before .before .before .pre .1 .1 .0) (c .before .before .before .before .before .before .before .before .before .before .before .before .before .before .before .before .pre .1 .1 .1 .0) (c .before .before .before .before .before .before .copy .last .1 .1 .0) (omega (arith, accepted-wellFormed _ (c .before .before .before .before .before .before .before .before .before .before .before .before .before .before .before .before .pre .0) .most, c .before .before .before .before .before .before .copy .kept .1 .1 .0)) (c .before .before .before .before .before .before .copy .ensures) (c .before .before .before .extended-into .ensures .bytes), p .1 .1 .1 .1 .1))))
 
 same-length : tie.Need-same-length
 same-length c = search needs
 
 returns-3 : tie.Need-returns-3
-returns-3 c = shrunk-closure _ _ (c .before .before .before .before .before .before .before .before .before .before .before .before .before .before .before .before .before .before .before .pre .1 .1 .0) (c .before .before .before .before .before .before .before .before .before .before .before .before .before .before .before .before .before .before .before .pre .1 .1 .1 .0) (c .before .before .before .before .before .before .before .before .before .before .before .before .before .if1 .left) (c .before .before .before .before .before .before .before .before .before .before .before .if2 .left) (closure-begins (accepted-wellFormed _ (c .before .before .before .before .before .before .before .before .before .before .before .before .before .before .before .before .before .before .before .pre .0)) (of-isMap _ _ (c .before .before .before .before .before .before .before .before .before .before .before .before .before .before .before .before .before .before .before .pre .1 .0)) _ _ (c .before .before .before .before .before .before .before .before .before .before .before .before .before .before .before .before .before .before .before .pre .1 .1 .0) (c .before .before .before .before .before .before .before .before .before .before .before .before .before .before .before .before .before .before .before .pre .1 .1 .1 .0) (c .before .before .before .before .before .before .before .before .before .copy .last .1 .0) (omega (arith, accepted-wellFormed _ (c .before .before .before .before .before .before .before .before .before .before .before .before .before .before .before .before .before .before .before .pre .0) .most, c .before .before .before .before .before .before .before .before .before .copy .kept .1 .0)) (c .before .before .before .before .before .before .before .before .before .copy .ensures) (c .before .before .before .before .before .before .extended-into .ensures .0)) (c .before .before .meet-with .ensures)
+returns-3 c = shrunk-closure _ _ (c .before .before .before .before .before .before .before .before .before .before .before .before .before .before .before .before .before .before .before .pre .1 .1 .0) (c .before .before .before .before .before .before .before .before .before .before .before .before .before .before .before .before .before .before .before .pre .1 .1 .1 .0) (c .before .before .before .before .before .before .before .before .before .before .before .before .before .if1 .left) (c .before .before .before .before .before .before .before .before .before .before .before .if2 .left) (closure-begins (accepted-wellFormed _ (c .before .before .before .before .before .before .before .before .before .before .before .before .before .before .before .before .before .before .before .pre .0)) (of-isMap _ _ (c .before .before .before .before .before .before .before .before .before .before .before .before .before .before .before .before .before .before .before .pre .1 .0)) _ _ (c .before .before .before .before .before .before .before .before .before .before .before .before .before .before .before .before .before .before .before .pre .1 .1 .0) (c .before .before .before .before .before .before .before .before .before .before .before .before .before .before .before .before .before .before .before .pre .1 .1 .1 .0) (c .before .before .before .before .before .before .before .before .before .copy .last .1 .1 .0) (omega (arith, accepted-wellFormed _ (c .before .before .before .before .before .before .before .before .before .before .before .before .before .before .before .before .before .before .before .pre .0) .most, c .before .before .before .before .before .before .before .before .before .copy .kept .1 .1 .0)) (c .before .before .before .before .before .before .before .before .before .copy .ensures) (c .before .before .before .before .before .before .extended-into .ensures .bytes)) (c .before .before .meet-with .ensures)
 
 pub meet-closure-spec : {M : Type 1} → statement M
 meet-closure-spec =

@@ -3,7 +3,7 @@ use mathlib.Core.Path.{_≡_, refl}
 use borrow.Author.Needs.{needs}
 use lib.ListN.{length}
 use Rattle.bracket.specs.Standings.{positionOf}
-use Rattle.bracket.proofs.Fills.{left}
+use Rattle.bracket.proofs.Fills.{distance}
 use Rattle.desk.proofs.Running.{RunWritten, run-written-begins, part-next, part-within, count-fits, fill-nearer, run-written-on, run-written-ends}
 use Rattle.desk.proofs.run.Statement.{statement}
 use Rattle.desk.proofs.run.Tie as tie
@@ -13,7 +13,7 @@ Inv-loop text arities₀ room₀ out₀ standing₀ written₀ arities room out 
     RunWritten text standing arities room out written × ((length arities ≡ length arities₀) × (length room ≡ length room₀))
 
 abbrev μ-loop : tie.MeasureT-loop
-μ-loop text arities₀ room₀ out₀ standing₀ written₀ arities room out standing written = left text (positionOf standing arities room)
+μ-loop text arities₀ room₀ out₀ standing₀ written₀ arities room out standing written = distance text (positionOf standing arities room)
 
 unread-requires : tie.Need-unread-requires Inv-loop μ-loop
 unread-requires c κs = search needs

@@ -6,13 +6,13 @@ use borrow.Author.Needs.{needs}
 use Rattle.extremal.proofs.generated_into.Statement.{statement}
 use Rattle.extremal.proofs.generated_into.Tie as tie
 
-generate-requires : tie.Need-generate-requires
-generate-requires c κs = search needs
+close-pairs-requires : tie.Need-close-pairs-requires
+close-pairs-requires c κs = search needs
 
 cast-result : tie.Need-cast-result
 cast-result c =
     let s = c .before .before .before .before .before .before .before .before in
-    omega (arith, c .before .before .generate .ensures .1 .0, accepted-wellFormed _ (s .pre .0) .most)
+    omega (arith, c .before .before .close-pairs .ensures .1 .0, accepted-wellFormed _ (s .pre .0) .most)
 
 same-length : tie.Need-same-length
 same-length c = search needs
@@ -21,4 +21,4 @@ returns : tie.Need-returns
 returns c = search (generated-written, generated-merges)
 
 pub generated-into-spec : {M : Type 1} → statement M
-generated-into-spec = tie.close (tie.spec generate-requires cast-result same-length returns)
+generated-into-spec = tie.close (tie.spec close-pairs-requires cast-result same-length returns)

@@ -4,8 +4,8 @@ use borrow.Author.Needs.{needs}
 use Rattle.extremal.proofs.separated_into.Statement.{statement}
 use Rattle.extremal.proofs.separated_into.Tie as tie
 
-separate-requires : tie.Need-separate-requires
-separate-requires c κs = search needs
+earliest-apart-requires : tie.Need-earliest-apart-requires
+earliest-apart-requires c κs = search needs
 
 same-length : tie.Need-same-length
 same-length c = search needs
@@ -14,4 +14,4 @@ returns : tie.Need-returns
 returns c = search separated-written
 
 pub separated-into-spec : {M : Type 1} → statement M
-separated-into-spec = tie.close (tie.spec separate-requires same-length returns)
+separated-into-spec = tie.close (tie.spec earliest-apart-requires same-length returns)

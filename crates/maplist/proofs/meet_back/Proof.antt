@@ -53,7 +53,7 @@ returns c =
     let e = w .ensures ∙ ap (λ (m : List ℕ). written (meet (k .args .n) (k .args .met .now) m) (k .args .met .now)) (rest-whole (k .args .at) (k .args .maps .now)) in
     let r = c .before .before .copy in
     let front = begins-written _ _ e (meet-map _ _ _) in
-    (e, copied-laid (k .args .at) (k .args .suffixes .now) (r .last .1 .0) front (meet-map _ _ _) (k .pre .1 .1 .1 .0) (r .kept .1 .0) (r .ensures))
+    (e, copied-laid (k .args .at) (k .args .suffixes .now) (r .last .1 .1 .0) front (meet-map _ _ _) (k .pre .1 .1 .1 .0) (r .kept .1 .1 .0) (r .ensures))
 
 pub meet-back-spec : {M : Type 1} → statement M
 meet-back-spec =

@@ -14,10 +14,10 @@ use Rattle.maplist.proofs.whole_into.Statement.{statement}
 use Rattle.maplist.proofs.whole_into.Tie as tie
 
 abbrev Inv-loop : tie.InvT-loop
-Inv-loop m₀ n x₀ m x = (x ≤ n) × (length m ≡ length m₀) × Filled x (byte (whole n)) (byte m₀) (byte m)
+Inv-loop n m₀ x₀ m x = (x ≤ n) × (length m ≡ length m₀) × Filled x (byte (whole n)) (byte m₀) (byte m)
 
 abbrev μ-loop : tie.MeasureT-loop
-μ-loop m₀ n x₀ m x = n - x
+μ-loop n m₀ x₀ m x = n - x
 
 loop-holds : tie.Need-loop-holds Inv-loop μ-loop
 loop-holds c = (omega arith, refl, filled-none _ _)

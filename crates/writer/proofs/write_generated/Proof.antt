@@ -1,5 +1,5 @@
 -- `write_generated` meets its contract, by the laws of Spacing.
-use Rattle.writer.proofs.Spacing.{generated-written}
+use Rattle.writer.proofs.Spacing.{two-parts-written}
 use Rattle.reader.specs.Reading.{ascii}
 use borrow.Author.Needs.{needs}
 use Rattle.writer.proofs.write_generated.Statement.{statement}
@@ -25,7 +25,7 @@ same-length c = search needs
 
 returns : tie.Need-returns
 unfolding ascii
-returns c = search generated-written
+returns c = search two-parts-written
 
 pub write-generated-spec : {M : Type 1} → statement M
 write-generated-spec =

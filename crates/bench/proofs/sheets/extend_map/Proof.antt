@@ -12,7 +12,7 @@ extended-into-requires c κs =
     (p .0, (omega (arith, n), (front-canonical _ _ (p .1 .0), p .1 .1)))
 
 returns : tie.Need-returns
-returns c = map-grown _ (c .before .before .before .before .pre .0) _ _ _ _ _ (c .extended-into .ensures .0) (c .extended-into .ensures .1)
+returns c = map-grown _ (c .before .before .before .before .pre .0) _ _ _ _ _ (c .extended-into .ensures)
 
 pub extend-map-spec : {M : Type 1} → statement M
 extend-map-spec = tie.close (tie.spec extended-into-requires returns)

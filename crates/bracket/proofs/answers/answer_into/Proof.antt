@@ -1,6 +1,7 @@
 -- `answers::answer_into` meets its contract, by the laws of Answering.
 use native.Mathlib.Omega.{arith}
 use Rattle.bracket.proofs.Answering.{map-part, map-zeros, factors-part, factors-zeros, factors-short, answered-as}
+use Rattle.bracket.specs.Answers.{answer}
 use borrow.Author.Needs.{needs}
 use Rattle.bracket.proofs.answers.answer_into.Statement.{statement}
 use Rattle.bracket.proofs.answers.answer_into.Tie as tie
@@ -8,68 +9,68 @@ use Rattle.bracket.proofs.answers.answer_into.Tie as tie
 enum-told : tie.Need-enum-told
 enum-told c = search needs
 
-sub-generate-into : tie.Need-sub-generate-into
-sub-generate-into c = search needs
+sub-answer-generate : tie.Need-sub-answer-generate
+sub-answer-generate c = search needs
 
-part-generate-into-start : tie.Need-part-generate-into-start
-part-generate-into-start c = search needs
+part-answer-generate-start : tie.Need-part-answer-generate-start
+part-answer-generate-start c = search needs
 
-part-generate-into-end : tie.Need-part-generate-into-end
-part-generate-into-end c = search map-part
+part-answer-generate-end : tie.Need-part-answer-generate-end
+part-answer-generate-end c = search map-part
 
-generate-into-requires : tie.Need-generate-into-requires
-generate-into-requires c κs = search map-zeros
+answer-generate-requires : tie.Need-answer-generate-requires
+answer-generate-requires c κs = search map-zeros
 
 enum-told-2 : tie.Need-enum-told-2
 enum-told-2 c = search needs
 
-sub-contained-into : tie.Need-sub-contained-into
-sub-contained-into c = search needs
+sub-answer-contained : tie.Need-sub-answer-contained
+sub-answer-contained c = search needs
 
-part-contained-into-start : tie.Need-part-contained-into-start
-part-contained-into-start c = search needs
+part-answer-contained-start : tie.Need-part-answer-contained-start
+part-answer-contained-start c = search needs
 
-part-contained-into-end : tie.Need-part-contained-into-end
-part-contained-into-end c = search map-part
+part-answer-contained-end : tie.Need-part-answer-contained-end
+part-answer-contained-end c = search map-part
 
-contained-into-requires : tie.Need-contained-into-requires
-contained-into-requires c κs = search map-zeros
+answer-contained-requires : tie.Need-answer-contained-requires
+answer-contained-requires c κs = search map-zeros
 
 enum-known-asked : tie.Need-enum-known-asked
 enum-known-asked c = search needs
 
-sub-separate-into : tie.Need-sub-separate-into
-sub-separate-into c = search needs
+sub-answer-separate : tie.Need-sub-answer-separate
+sub-answer-separate c = search needs
 
-part-separate-into-start : tie.Need-part-separate-into-start
-part-separate-into-start c = search needs
+part-answer-separate-start : tie.Need-part-answer-separate-start
+part-answer-separate-start c = search needs
 
-part-separate-into-end : tie.Need-part-separate-into-end
-part-separate-into-end c = search map-part
+part-answer-separate-end : tie.Need-part-answer-separate-end
+part-answer-separate-end c = search map-part
 
-separate-into-requires : tie.Need-separate-into-requires
-separate-into-requires c κs = search map-zeros
+answer-separate-requires : tie.Need-answer-separate-requires
+answer-separate-requires c κs = search map-zeros
 
 enum-told-3 : tie.Need-enum-told-3
 enum-told-3 c = search needs
 
-sub-decompose-into : tie.Need-sub-decompose-into
-sub-decompose-into c = search needs
+sub-answer-decompose : tie.Need-sub-answer-decompose
+sub-answer-decompose c = search needs
 
-mul-decompose-into : tie.Need-mul-decompose-into
-mul-decompose-into c = let n = c .before .before .before .before .before .before .before .args .n in omega (arith, factors-short n (omega arith))
+mul-answer-decompose : tie.Need-mul-answer-decompose
+mul-answer-decompose c = let n = c .before .before .before .before .before .before .before .args .n in omega (arith, factors-short n (omega arith))
 
-sub-decompose-into-2 : tie.Need-sub-decompose-into-2
-sub-decompose-into-2 c = search needs
+sub-answer-decompose-2 : tie.Need-sub-answer-decompose-2
+sub-answer-decompose-2 c = search needs
 
-part-decompose-into-start : tie.Need-part-decompose-into-start
-part-decompose-into-start c = search needs
+part-answer-decompose-start : tie.Need-part-answer-decompose-start
+part-answer-decompose-start c = search needs
 
-part-decompose-into-end : tie.Need-part-decompose-into-end
-part-decompose-into-end c = search factors-part
+part-answer-decompose-end : tie.Need-part-answer-decompose-end
+part-answer-decompose-end c = search factors-part
 
-decompose-into-requires : tie.Need-decompose-into-requires
-decompose-into-requires c κs = search factors-zeros
+answer-decompose-requires : tie.Need-answer-decompose-requires
+answer-decompose-requires c κs = search factors-zeros
 
 same-length : tie.Need-same-length
 same-length c = search needs
@@ -96,6 +97,7 @@ same-length-6 : tie.Need-same-length-6
 same-length-6 c = search needs
 
 returns-3 : tie.Need-returns-3
+unfolding answer
 returns-3 c = search answered-as
 
 same-length-7 : tie.Need-same-length-7
@@ -105,6 +107,7 @@ same-length-8 : tie.Need-same-length-8
 same-length-8 c = search needs
 
 returns-4 : tie.Need-returns-4
+unfolding answer
 returns-4 c = search answered-as
 
 pub answer-into-spec : {M : Type 1} → statement M
@@ -112,27 +115,27 @@ answer-into-spec =
     tie.close
     (tie.spec
     enum-told
-    sub-generate-into
-    part-generate-into-start
-    part-generate-into-end
-    generate-into-requires
+    sub-answer-generate
+    part-answer-generate-start
+    part-answer-generate-end
+    answer-generate-requires
     enum-told-2
-    sub-contained-into
-    part-contained-into-start
-    part-contained-into-end
-    contained-into-requires
+    sub-answer-contained
+    part-answer-contained-start
+    part-answer-contained-end
+    answer-contained-requires
     enum-known-asked
-    sub-separate-into
-    part-separate-into-start
-    part-separate-into-end
-    separate-into-requires
+    sub-answer-separate
+    part-answer-separate-start
+    part-answer-separate-end
+    answer-separate-requires
     enum-told-3
-    sub-decompose-into
-    mul-decompose-into
-    sub-decompose-into-2
-    part-decompose-into-start
-    part-decompose-into-end
-    decompose-into-requires
+    sub-answer-decompose
+    mul-answer-decompose
+    sub-answer-decompose-2
+    part-answer-decompose-start
+    part-answer-decompose-end
+    answer-decompose-requires
     same-length
     same-length-2
     returns

@@ -13,8 +13,8 @@ unread-requires c κs = search needs
 returns : tie.Need-returns
 returns c = search fill-idles
 
-gather-requires : tie.Need-gather-requires
-gather-requires c κs = (search able-sound, search able-lent)
+take-lines-requires : tie.Need-take-lines-requires
+take-lines-requires c κs = (search able-sound, search able-lent)
 
 same-length : tie.Need-same-length
 same-length c = search needs
@@ -35,7 +35,7 @@ fill-spec =
     can-fill-requires
     unread-requires
     returns
-    gather-requires
+    take-lines-requires
     same-length
     same-length-2
     same-length-3

@@ -1,5 +1,5 @@
 -- `steps::after_line` meets its contract, by the laws of Stepping.
-use Rattle.bracket.proofs.Stepping.{line-refused, line-passed}
+use Rattle.bracket.proofs.Stepping.{line-refused, line-accepted}
 use borrow.Author.Needs.{needs}
 use Rattle.bracket.proofs.steps.after_line.Statement.{statement}
 use Rattle.bracket.proofs.steps.after_line.Tie as tie
@@ -26,7 +26,7 @@ behind-lines-requires-2 : tie.Need-behind-lines-requires-2
 behind-lines-requires-2 c κs = search needs
 
 returns-2 : tie.Need-returns-2
-returns-2 c = search line-passed
+returns-2 c = search line-accepted
 
 pub after-line-spec : {M : Type 1} → statement M
 after-line-spec =

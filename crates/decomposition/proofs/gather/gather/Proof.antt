@@ -63,7 +63,7 @@ common-requires c κs =
     (w .some, (w .most, (omega (arith, l .inv .0, ap length e), (subst (λ (m : List ℕ). Canonical (k .args .n) (byte m)) (sym e) (collecting-canonical w (k .pre .1 .1 .1) (l .inv .1)), ap (isIdentity (k .args .n)) e ∙ sym (c .before .before .before .before .before .before .before .before .before .before .is-identity .ensures) ∙ not-true (c .before .before .before .before .before .before .before .before .before .before .is-identity .result) (c .before .before .before .before .before .before .before .before .before .if1 .taken)))))
 
 same-length : tie.Need-same-length Inv-loop μ-loop
-same-length c = c .before .before .before .before .before .before .before .add .kept .1 .1 .1 .0 ∙ c .before .before .before .before .before .before .before .before .before .before .before .before .before .loop .inv .0 ∙ c .before .before .before .before .before .before .before .before .before .before .before .before .before .before .before .before .whole-into .kept .0
+same-length c = c .before .before .before .before .before .before .before .add .kept .1 .1 .1 .0 ∙ c .before .before .before .before .before .before .before .before .before .before .before .before .before .loop .inv .0 ∙ c .before .before .before .before .before .before .before .before .before .before .before .before .before .before .before .before .whole-into .kept .1 .0
 
 same-length-2 : tie.Need-same-length-2 Inv-loop μ-loop
 same-length-2 c =
@@ -96,7 +96,7 @@ loop-again c =
     (c .before .before .before .before .before .add .kept .1 .1 .1 .0 ∙ l .inv .0, collecting-more (accepted-wellFormed _ (k .pre .0)) (k .pre .1 .1 .1) (l .inv .1) (going (c .before .before .before .before .before .before .before .before .before .is-identity .ensures) (c .before .before .before .before .before .before .before .before .if1 .taken)) (c .before .before .before .before .before .add .ensures) (c .if2 .left))
 
 same-length-3 : tie.Need-same-length-3 Inv-loop μ-loop
-same-length-3 c = c .before .before .before .loop .inv .0 ∙ c .before .before .before .before .before .before .whole-into .kept .0
+same-length-3 c = c .before .before .before .loop .inv .0 ∙ c .before .before .before .before .before .before .whole-into .kept .1 .0
 
 same-length-4 : tie.Need-same-length-4 Inv-loop μ-loop
 same-length-4 c = let k = c .before .before .before .before .before .before .before .before .before .before .before .before in collecting-long (accepted-wellFormed _ (k .pre .0)) (k .pre .1 .1 .1) (c .before .before .before .loop .inv .1)

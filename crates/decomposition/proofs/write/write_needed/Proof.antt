@@ -2,7 +2,7 @@
 use Prim.Native.Nat.{_-_}
 use native.Mathlib.Omega.{arith}
 use borrow.Author.Needs.{needs}
-use Rattle.decomposition.proofs.Writing.{NeededWritten, writing-none, writing-part, writing-fit, writing-more, writing-long, writing-all}
+use Rattle.decomposition.proofs.Writing.{NeededWritten, needed-written-none, needed-written-part, needed-written-fit, needed-written-more, needed-written-long, needed-written-all}
 use Rattle.decomposition.proofs.write.write_needed.Statement.{statement}
 use Rattle.decomposition.proofs.write.write_needed.Tie as tie
 
@@ -13,43 +13,43 @@ abbrev μ-loop : tie.MeasureT-loop
 μ-loop n maps kept needed out₀ i₀ at₀ out i at = kept - i
 
 loop-holds : tie.Need-loop-holds Inv-loop μ-loop
-loop-holds c = search writing-none
+loop-holds c = search needed-written-none
 
 shared-slice-read-from : tie.Need-shared-slice-read-from Inv-loop μ-loop
-shared-slice-read-from c = omega (arith, writing-part (c .before .before .loop .inv) (c .before .loop-test .taken))
+shared-slice-read-from c = omega (arith, needed-written-part (c .before .before .loop .inv) (c .before .loop-test .taken))
 
 cast-from : tie.Need-cast-from Inv-loop μ-loop
 cast-from c = omega (arith, c .shared-slice-known3 .given (c .before .before .loop .i))
 
 mul-from : tie.Need-mul-from Inv-loop μ-loop
-mul-from c = omega (arith, writing-part (c .before .before .loop .inv) (c .before .loop-test .taken))
+mul-from c = omega (arith, needed-written-part (c .before .before .loop .inv) (c .before .loop-test .taken))
 
 sub-copy : tie.Need-sub-copy Inv-loop μ-loop
-sub-copy c = omega (arith, writing-part (c .before .before .loop .inv) (c .before .loop-test .taken))
+sub-copy c = omega (arith, needed-written-part (c .before .before .loop .inv) (c .before .loop-test .taken))
 
 part-copy-start : tie.Need-part-copy-start Inv-loop μ-loop
-part-copy-start c = omega (arith, writing-part (c .before .before .loop .inv) (c .before .loop-test .taken))
+part-copy-start c = omega (arith, needed-written-part (c .before .before .loop .inv) (c .before .loop-test .taken))
 
 part-copy-end : tie.Need-part-copy-end Inv-loop μ-loop
-part-copy-end c = omega (arith, writing-part (c .before .before .loop .inv) (c .before .loop-test .taken))
+part-copy-end c = omega (arith, needed-written-part (c .before .before .loop .inv) (c .before .loop-test .taken))
 
 sub-copy-2 : tie.Need-sub-copy-2 Inv-loop μ-loop
-sub-copy-2 c = omega (arith, writing-part (c .before .before .before .loop .inv) (c .before .before .loop-test .taken))
+sub-copy-2 c = omega (arith, needed-written-part (c .before .before .before .loop .inv) (c .before .before .loop-test .taken))
 
 part-copy-start-2 : tie.Need-part-copy-start-2 Inv-loop μ-loop
-part-copy-start-2 c = omega (arith, writing-part (c .before .before .before .loop .inv) (c .before .before .loop-test .taken))
+part-copy-start-2 c = omega (arith, needed-written-part (c .before .before .before .loop .inv) (c .before .before .loop-test .taken))
 
 part-copy-end-2 : tie.Need-part-copy-end-2 Inv-loop μ-loop
-part-copy-end-2 c = omega (arith, writing-part (c .before .before .before .loop .inv) (c .before .before .loop-test .taken))
+part-copy-end-2 c = omega (arith, needed-written-part (c .before .before .before .loop .inv) (c .before .before .loop-test .taken))
 
 copy-requires : tie.Need-copy-requires Inv-loop μ-loop
-copy-requires c κs = writing-fit (c .before .before .before .before .loop .inv) (c .before .before .before .loop-test .taken)
+copy-requires c κs = needed-written-fit (c .before .before .before .before .loop .inv) (c .before .before .before .loop-test .taken)
 
 add-at : tie.Need-add-at Inv-loop μ-loop
 add-at c =
     let test = c .before .before .before .before .before .before in
     let w = test .before .loop .inv in
-    omega (arith, writing-part w (test .loop-test .taken), writing-long w)
+    omega (arith, needed-written-part w (test .loop-test .taken), needed-written-long w)
 
 add-i : tie.Need-add-i Inv-loop μ-loop
 add-i c = search needs
@@ -58,13 +58,13 @@ loop-less : tie.Need-loop-less Inv-loop μ-loop
 loop-less c = search needs
 
 loop-again : tie.Need-loop-again Inv-loop μ-loop
-loop-again c = search writing-more
+loop-again c = search needed-written-more
 
 same-length : tie.Need-same-length Inv-loop μ-loop
-same-length c = writing-long (c .before .loop .inv)
+same-length c = needed-written-long (c .before .loop .inv)
 
 returns : tie.Need-returns Inv-loop μ-loop
-returns c = writing-all (c .before .loop .inv) (c .loop-test .left)
+returns c = needed-written-all (c .before .loop .inv) (c .loop-test .left)
 
 pub write-needed-spec : {M : Type 1} → statement M
 write-needed-spec =

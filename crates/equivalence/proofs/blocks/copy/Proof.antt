@@ -11,10 +11,10 @@ use Rattle.equivalence.proofs.blocks.copy.Statement.{statement}
 use Rattle.equivalence.proofs.blocks.copy.Tie as tie
 
 abbrev Inv-loop : tie.InvT-loop
-Inv-loop from to₀ n i₀ to i = (i ≤ n) × (length to ≡ length to₀) × Filled i (byte from) (byte to₀) (byte to)
+Inv-loop n from to₀ i₀ to i = (i ≤ n) × (length to ≡ length to₀) × Filled i (byte from) (byte to₀) (byte to)
 
 abbrev μ-loop : tie.MeasureT-loop
-μ-loop from to₀ n i₀ to i = n - i
+μ-loop n from to₀ i₀ to i = n - i
 
 loop-holds : tie.Need-loop-holds Inv-loop μ-loop
 loop-holds c = (omega arith, refl, filled-none _ _)

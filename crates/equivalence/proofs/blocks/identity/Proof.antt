@@ -11,10 +11,10 @@ use Rattle.equivalence.proofs.blocks.identity.Statement.{statement}
 use Rattle.equivalence.proofs.blocks.identity.Tie as tie
 
 abbrev Inv-loop : tie.InvT-loop
-Inv-loop m₀ n i₀ m i = (i ≤ n) × (length m ≡ length m₀) × Filled i (λ x. x) (byte m₀) (byte m)
+Inv-loop n m₀ i₀ m i = (i ≤ n) × (length m ≡ length m₀) × Filled i (λ x. x) (byte m₀) (byte m)
 
 abbrev μ-loop : tie.MeasureT-loop
-μ-loop m₀ n i₀ m i = n - i
+μ-loop n m₀ i₀ m i = n - i
 
 loop-holds : tie.Need-loop-holds Inv-loop μ-loop
 loop-holds c = (omega arith, refl, filled-none _ _)

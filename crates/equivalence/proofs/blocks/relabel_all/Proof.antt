@@ -11,10 +11,10 @@ use Rattle.equivalence.proofs.blocks.relabel_all.Statement.{statement}
 use Rattle.equivalence.proofs.blocks.relabel_all.Tie as tie
 
 abbrev Inv-loop : tie.InvT-loop
-Inv-loop m₀ n old new i₀ m i = (i ≤ n) × (length m ≡ length m₀) × Filled i (λ x. relabel old new (byte m₀ x)) (byte m₀) (byte m)
+Inv-loop n old new m₀ i₀ m i = (i ≤ n) × (length m ≡ length m₀) × Filled i (λ x. relabel old new (byte m₀ x)) (byte m₀) (byte m)
 
 abbrev μ-loop : tie.MeasureT-loop
-μ-loop m₀ n old new i₀ m i = n - i
+μ-loop n old new m₀ i₀ m i = n - i
 
 loop-holds : tie.Need-loop-holds Inv-loop μ-loop
 loop-holds c = (omega arith, refl, filled-none _ _)

@@ -11,10 +11,10 @@ use Rattle.equivalence.proofs.lattice.unite_all.Statement.{statement}
 use Rattle.equivalence.proofs.lattice.unite_all.Tie as tie
 
 abbrev Inv-loop : tie.InvT-loop
-Inv-loop m₀ n b x₀ m x = (x ≤ n) × (length m ≡ length m₀) × Joined n x (byte b) (byte m₀) (byte m)
+Inv-loop n b m₀ x₀ m x = (x ≤ n) × (length m ≡ length m₀) × Joined n x (byte b) (byte m₀) (byte m)
 
 abbrev μ-loop : tie.MeasureT-loop
-μ-loop m₀ n b x₀ m x = n - x
+μ-loop n b m₀ x₀ m x = n - x
 
 loop-holds : tie.Need-loop-holds Inv-loop μ-loop
 loop-holds c = (omega arith, refl, search joined-none)

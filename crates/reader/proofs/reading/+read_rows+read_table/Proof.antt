@@ -23,10 +23,10 @@ use Rattle.reader.proofs.reading.+read_rows+read_table.{statement}
 use Rattle.reader.proofs.reading.+read_rows+read_table.Tie.{close}
 
 abbrev μ-read-rows : Measures 2 read-rows-kinds.ps ℕ
-μ-read-rows κs a = a .1 .1 .0 * (length (a .0 .now) + 1) + (length (a .0 .now) - a .1 .0)
+μ-read-rows κs a = a .1 .0 * (length (a .1 .1 .1 .0 .now) + 1) + (length (a .1 .1 .1 .0 .now) - a .1 .1 .1 .1 .0)
 
 abbrev μ-read-table : Measures 2 read-table-kinds.ps ℕ
-μ-read-table κs a = a .1 .1 .0 * (length (a .0 .now) + 1) + (length (a .0 .now) - a .1 .0)
+μ-read-table κs a = a .1 .0 * (length (a .1 .1 .0 .now) + 1) + (length (a .1 .1 .0 .now) - a .1 .1 .1 .0)
 
 abbrev read-rows-at : ℕ → In 2 read-rows-kinds.ps
 read-rows-at t = and 2 read-rows-kinds.ps (is 2 read-rows-kinds.ps μ-read-rows t) read-rows.Pre

@@ -11,11 +11,11 @@ use Rattle.reader.proofs.reading.read_items.Statement.{statement}
 use Rattle.reader.proofs.reading.read_items.Tie as tie
 
 abbrev Inv-loop : tie.InvT-loop
-Inv-loop text at arity n cells₀ put next₀ so-far₀ after₀ cells next so-far after =
+Inv-loop n arity text at cells₀ put next₀ so-far₀ after₀ cells next so-far after =
     ItemsRead text at cells₀ put (table n arity) cells next so-far × GapRead text next after
 
 abbrev μ-loop : tie.MeasureT-loop
-μ-loop text at arity n cells₀ put next₀ so-far₀ after₀ cells next so-far after = length text - next
+μ-loop n arity text at cells₀ put next₀ so-far₀ after₀ cells next so-far after = length text - next
 
 gap-end-requires : tie.Need-gap-end-requires Inv-loop μ-loop
 gap-end-requires c κs = search needs

@@ -1,5 +1,5 @@
 -- `taking::take_size_line` meets its contract, by the laws of TakenLines.
-use Rattle.reader.proofs.TakenLines.{size-faulty, size-refused, size-taken}
+use Rattle.reader.proofs.TakenLines.{size-faulty, size-line-refused, size-taken}
 use borrow.Author.Needs.{needs}
 use Rattle.reader.proofs.taking.take_size_line.Statement.{statement}
 use Rattle.reader.proofs.taking.take_size_line.Tie as tie
@@ -17,7 +17,7 @@ is-size-requires : tie.Need-is-size-requires
 is-size-requires c κs = search needs
 
 returns-2 : tie.Need-returns-2
-returns-2 c = search size-refused
+returns-2 c = search size-line-refused
 
 returns-3 : tie.Need-returns-3
 returns-3 c = search size-taken

@@ -2,8 +2,11 @@
 use Prim.Native.Nat.{_-_, _≤_}
 use mathlib.Core.Path.{_≡_, refl}
 use native.Mathlib.Omega.{arith}
+use lib.Dec.{eqb}
 use lib.ListN.{length, length-set}
+use borrow.Author.Needs.{needs}
 use Rattle.equivalence.specs.Equivalence.{byte}
+use Rattle.kernel.proofs.Names.{bit-most}
 use Rattle.refinement.proofs.Sifting.{Sifting, sifting-none, sifting-more, sifting-sifted}
 use Rattle.refinement.proofs.line.sift.Statement.{statement}
 use Rattle.refinement.proofs.line.sift.Tie as tie
@@ -20,17 +23,28 @@ loop-holds c = (omega arith, refl, sifting-none)
 slice-read-x : tie.Need-slice-read-x Inv-loop μ-loop
 slice-read-x c = omega (arith, c .before .before .before .before .before .pre .room)
 
+cast-place : tie.Need-cast-place Inv-loop μ-loop
+cast-place c = omega (arith, c .slice-known2 .given (c .before .before .loop .i))
+
 slice-write-list : tie.Need-slice-write-list Inv-loop μ-loop
 slice-write-list c = omega (arith, c .before .before .before .before .before .pre .room, c .before .before .loop .inv .2 .most)
 
-cast-is-other : tie.Need-cast-is-other Inv-loop μ-loop
-cast-is-other c = omega (arith, c .slice-known2 .given (c .before .before .loop .i))
+shared-slice-read-self-named : tie.Need-shared-slice-read-self-named Inv-loop μ-loop
+shared-slice-read-self-named c =
+    let l = c .before .before .before .loop in
+    omega (arith, l .inv .2 .ahead (l .i) (omega arith), c .before .before .before .before .before .before .pre .below (l .i) (c .before .before .loop-test .taken))
 
-is-other-requires : tie.Need-is-other-requires Inv-loop μ-loop
-is-other-requires c κs = let l = c .before .before .loop in omega (arith, l .inv .2 .ahead (l .i) (omega arith), c .before .before .before .before .before .pre .below (l .i) (c .before .loop-test .taken))
+self-named-requires : tie.Need-self-named-requires Inv-loop μ-loop
+self-named-requires c κs = search needs
+
+sub-kept : tie.Need-sub-kept Inv-loop μ-loop
+sub-kept c =
+    let l = c .before .before .before .before .loop in
+    let x = byte (l .list) (l .i) in
+    omega (arith, c .self-named .ensures, bit-most (eqb (byte (c .before .before .before .before .before .before .before .args .m .now) x) x))
 
 add-kept : tie.Need-add-kept Inv-loop μ-loop
-add-kept c = omega (arith, c .before .before .before .before .before .before .pre .room, c .before .before .before .loop .inv .2 .most, c .is-other .ensures)
+add-kept c = omega (arith, c .before .before .before .before .before .before .before .pre .room, c .before .before .before .before .loop .inv .2 .most)
 
 add-i : tie.Need-add-i Inv-loop μ-loop
 add-i c = omega arith
@@ -39,7 +53,9 @@ loop-less : tie.Need-loop-less Inv-loop μ-loop
 loop-less c = omega arith
 
 loop-again : tie.Need-loop-again Inv-loop μ-loop
-loop-again c = let l = c .before .before .before .loop in (omega arith, simp length-set (omega arith), sifting-more (c .is-other .result) (omega (arith, c .before .before .before .before .before .before .pre .room)) (l .inv .2) (c .is-other .ensures))
+loop-again c =
+    let l = c .before .before .before .before .loop in
+    (omega arith, simp length-set (omega arith), sifting-more (c .self-named .result) (omega (arith, c .before .before .before .before .before .before .before .pre .room)) (l .inv .2) (c .self-named .ensures))
 
 same-length : tie.Need-same-length Inv-loop μ-loop
 same-length c = omega arith
@@ -58,9 +74,11 @@ sift-spec =
     μ-loop
     loop-holds
     slice-read-x
+    cast-place
     slice-write-list
-    cast-is-other
-    is-other-requires
+    shared-slice-read-self-named
+    self-named-requires
+    sub-kept
     add-kept
     add-i
     loop-less

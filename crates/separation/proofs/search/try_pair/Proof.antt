@@ -2,7 +2,7 @@
 use native.Mathlib.Omega.{arith}
 use Rattle.algebra.proofs.Accepted.{accepted-wellFormed}
 use Rattle.separation.specs.InnerSearch.{Refused}
-use Rattle.separation.proofs.Settling.{settled-take, settled-pass, refusals-up, refusals-mark, copied-whole}
+use Rattle.separation.proofs.Settling.{settled-take, settled-pass, refusals-up, refusals-mark, copied-equal}
 use borrow.Author.Needs.{needs}
 use borrow.Author.Tests.{not-true, not-false}
 use Rattle.separation.proofs.search.try_pair.Statement.{statement}
@@ -14,17 +14,17 @@ slice-aggregate-copy c = search needs
 copy-requires : tie.Need-copy-requires
 copy-requires c κs = search needs
 
-slice-aggregate-extend-apart : tie.Need-slice-aggregate-extend-apart
-slice-aggregate-extend-apart c = search needs
+slice-aggregate-close-apart : tie.Need-slice-aggregate-close-apart
+slice-aggregate-close-apart c = search needs
 
-extend-apart-requires : tie.Need-extend-apart-requires
-extend-apart-requires c κs =
+close-apart-requires : tie.Need-close-apart-requires
+close-apart-requires c κs =
     let s = c .before .before .before .before .before .before .before .before .before .before .before .before in
     let r = s .pre .0 in
     let t = s .pre .1 .1 .1 in
     let w = accepted-wellFormed _ (r .accepted) in
     let k = c .before .before .before .before .copy in
-    let same = copied-whole 64 (s .args .m .now) (k .last .1 .0) (r .map-room) (omega (arith, k .kept)) (k .ensures) in
+    let same = copied-equal 64 (s .args .m .now) (k .last .1 .1 .0) (r .map-room) (omega (arith, k .kept)) (k .ensures) in
     rw same
     (r .accepted, (omega (arith, w .most, r .map-room), (t .settled .canonical, (t .settled .compatible, (omega (arith, r .names-room), (t .listed, (omega (arith, s .pre .1 .0, s .pre .1 .1 .0), (s .pre .1 .1 .0, (r .left, (r .right, t .refusals))))))))))
 
@@ -56,8 +56,8 @@ returns c =
     let t = s .pre .1 .1 .1 in
     let w = accepted-wellFormed _ (r .accepted) in
     let k = c .before .before .before .before .before .before .before .copy in
-    let same = copied-whole 64 (s .args .m .now) (k .last .1 .0) (r .map-room) (omega (arith, k .kept)) (k .ensures) in
-    let e = rw same at (c .before .before .extend-apart .ensures .0) in
+    let same = copied-equal 64 (s .args .m .now) (k .last .1 .1 .0) (r .map-room) (omega (arith, k .kept)) (k .ensures) in
+    let e = rw same at (c .before .before .close-apart .ensures .0) in
     let refused : Refused _ (s .args .v) (s .args .w) _ (s .args .x) (s .args .y) = λ g good up h. e .joined (not-true _ (c .if1 .taken)) g good (up, h) in
     record {
       settled = settled-pass _ _ _ _ _ _ (t .settled) (s .pre .1 .0) (s .pre .1 .1 .0) refused;
@@ -92,13 +92,13 @@ returns-2 c =
     let r = s .pre .0 in
     let t = s .pre .1 .1 .1 in
     let k = c .before .before .before .before .before .before .before .before .before .before .before .before .before .before .before .before .before .copy in
-    let same = copied-whole 64 (s .args .m .now) (k .last .1 .0) (r .map-room) (omega (arith, k .kept)) (k .ensures) in
-    let x = c .before .before .before .before .before .before .before .before .before .before .before .before .extend-apart in
+    let same = copied-equal 64 (s .args .m .now) (k .last .1 .1 .0) (r .map-room) (omega (arith, k .kept)) (k .ensures) in
+    let x = c .before .before .before .before .before .before .before .before .before .before .before .before .close-apart in
     let e = rw same at (x .ensures .0) in
     let yes = not-false _ (c .before .before .before .before .before .before .before .before .before .before .if1 .left) in
     let d = e .closed yes in
     let back = c .before .before .before .before .before .before .before .copy2 in
-    let taken = copied-whole 64 (x .last .0) (back .last .1 .0) (omega (arith, k .kept, x .kept)) (omega (arith, r .map-room, back .kept)) (back .ensures) in
+    let taken = copied-equal 64 (x .last .0) (back .last .1 .1 .0) (omega (arith, k .kept, x .kept)) (omega (arith, r .map-room, back .kept)) (back .ensures) in
     record {
       settled = rw taken (settled-take _ _ _ _ _ _ (t .settled) (s .pre .1 .0) (s .pre .1 .1 .0) _ d (e .apart yes));
       refusals = rw taken (refusals-up _ _ _ _ _ (s .args .refused .now) (d .good .0) (t .refusals));
@@ -111,8 +111,8 @@ try-pair-spec =
     (tie.spec
     slice-aggregate-copy
     copy-requires
-    slice-aggregate-extend-apart
-    extend-apart-requires
+    slice-aggregate-close-apart
+    close-apart-requires
     mul-refused
     add-refused
     slice-write-refused

@@ -1,8 +1,8 @@
--- `run::line` meets its contract, by the laws of Gathering.
+-- `run::take_line` meets its contract, by the laws of Gathering.
 use Rattle.bracket.proofs.Gathering.{line-taken}
 use borrow.Author.Needs.{needs}
-use Rattle.bracket.proofs.run.line.Statement.{statement}
-use Rattle.bracket.proofs.run.line.Tie as tie
+use Rattle.bracket.proofs.run.take_line.Statement.{statement}
+use Rattle.bracket.proofs.run.take_line.Tie as tie
 
 next-step-requires : tie.Need-next-step-requires
 next-step-requires c κs = search needs
@@ -22,7 +22,7 @@ same-length-3 c = search needs
 returns : tie.Need-returns
 returns c = search line-taken
 
-pub line-spec : {M : Type 1} → statement M
-line-spec =
+pub take-line-spec : {M : Type 1} → statement M
+take-line-spec =
     tie.close
     (tie.spec next-step-requires closed-requires same-length same-length-2 same-length-3 returns)

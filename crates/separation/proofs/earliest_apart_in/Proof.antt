@@ -1,4 +1,4 @@
--- `separate_in`: from the identity through the rows to the end of the search.
+-- `earliest_apart_in`: from the identity through the rows to the end of the search.
 use mathlib.Core.Path.{refl, _∙_}
 use native.Mathlib.Omega.{arith}
 use Rattle.algebra.proofs.Accepted.{accepted-wellFormed}
@@ -7,8 +7,8 @@ use Rattle.separation.proofs.TwoBlocks.{names-represent}
 use Rattle.translation.proofs.Translations.{identity-compatible}
 use Rattle.separation.proofs.Settling.{settled-start, settled-end, refusals-none, rooms-kept}
 use borrow.Author.Needs.{needs}
-use Rattle.separation.proofs.separate_in.Statement.{statement}
-use Rattle.separation.proofs.separate_in.Tie as tie
+use Rattle.separation.proofs.earliest_apart_in.Statement.{statement}
+use Rattle.separation.proofs.earliest_apart_in.Tie as tie
 
 identity-requires : tie.Need-identity-requires
 identity-requires c κs =
@@ -78,8 +78,8 @@ returns c =
       λ x l. q .1 x l ∙ two .1 .1 x l,
     )
 
-pub separate-in-spec : {M : Type 1} → statement M
-separate-in-spec =
+pub earliest-apart-in-spec : {M : Type 1} → statement M
+earliest-apart-in-spec =
     tie.close
     (tie.spec
     identity-requires

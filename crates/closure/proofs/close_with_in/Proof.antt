@@ -1,4 +1,4 @@
--- `extend_in`: above the identity, with the elements that are no names queued and the pair joined, to the end of the queue.
+-- `close_with_in`: above the identity, with the elements that are no names queued and the pair joined, to the end of the queue.
 use mathlib.Core.Path.{refl, _∙_}
 use mathlib.Core.Logic.{inl, inr}
 use native.Mathlib.Omega.{arith}
@@ -10,8 +10,8 @@ use Rattle.sweep.proofs.Queues.{in-queue-kept, grown-first}
 use Rattle.closure.proofs.Starting.{accepted-contexts, others-ready, others-lost, identity-begun, bounded-start, grown-closed}
 use Rattle.equivalence.specs.Equivalence.{byte, blocks, identity}
 use Rattle.equivalence.specs.Lists.{first}
-use Rattle.closure.proofs.extend_in.Statement.{statement}
-use Rattle.closure.proofs.extend_in.Tie as tie
+use Rattle.closure.proofs.close_with_in.Statement.{statement}
+use Rattle.closure.proofs.close_with_in.Tie as tie
 
 identity-requires : tie.Need-identity-requires
 identity-requires c κs = (c .before .before .before .before .before .before .pre .1 .1 .1 .0, accepted-wellFormed (algebraOf (c .before .before .before .before .before .before .args .n) (c .before .before .before .before .before .before .args .arities .now) (c .before .before .before .before .before .before .args .cells .now)) (c .before .before .before .before .before .before .pre .0) .most)
@@ -48,7 +48,7 @@ close-requires c κs =
       (
         bounded-start n z z z (d .blocks ∙ total),
         (
-          accepted-contexts (c .before .before .before .before .before .before .before .before .before .before .before .before .before .before .before .before .before .before .before .before .before .before .before .before .args .arities .now) (c .before .before .before .before .before .before .before .before .before .before .before .before .before .before .before .before .before .before .before .before .before .before .before .before .pre .0) (omega (arith, c .before .before .before .before .before .before .before .before .before .before .before .before .before .before .before .before .before .identity .kept .0, c .before .before .before .before .before .before .before .before .before .before .before .before .before .before .before .before .before .before .before .before .before .before .before .before .pre .1 .1 .1 .0)) (λ i l. omega (arith, c .before .before .before .before .before .before .before .before .before .before .before .before .before .before .before .before .before .identity .ensures .first i l)),
+          accepted-contexts (c .before .before .before .before .before .before .before .before .before .before .before .before .before .before .before .before .before .before .before .before .before .before .before .before .args .arities .now) (c .before .before .before .before .before .before .before .before .before .before .before .before .before .before .before .before .before .before .before .before .before .before .before .before .pre .0) (omega (arith, c .before .before .before .before .before .before .before .before .before .before .before .before .before .before .before .before .before .identity .kept .1 .0, c .before .before .before .before .before .before .before .before .before .before .before .before .before .before .before .before .before .before .before .before .before .before .before .before .pre .1 .1 .1 .0)) (λ i l. omega (arith, c .before .before .before .before .before .before .before .before .before .before .before .before .before .before .before .before .before .identity .ensures .first i l)),
           (
             c .before .before .before .before .before .before .before .before .before .before .before .before .before .before .before .before .before .before .before .before .before .before .before .before .pre .0,
             identity-begun a (c .before .before .before .before .before .before .before .before .before .before .before .before .before .before .before .before .before .identity .ensures .first)
@@ -81,8 +81,8 @@ returns c =
       (omega (arith, e .blocks, d .blocks, d .longer, e .longer), λ z l. e .rest z l ∙ d .rest z l),
     )
 
-pub extend-in-spec : {M : Type 1} → statement M
-extend-in-spec =
+pub close-with-in-spec : {M : Type 1} → statement M
+close-with-in-spec =
     tie.close
     (tie.spec
     identity-requires

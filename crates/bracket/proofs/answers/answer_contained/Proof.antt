@@ -1,8 +1,8 @@
--- `answers::contained_into` meets its contract, by the laws of Answering.
+-- `answers::answer_contained` meets its contract, by the laws of Answering.
 use Rattle.bracket.proofs.Answering.{map-fits, contained-answered}
 use borrow.Author.Needs.{needs}
-use Rattle.bracket.proofs.answers.contained_into.Statement.{statement}
-use Rattle.bracket.proofs.answers.contained_into.Tie as tie
+use Rattle.bracket.proofs.answers.answer_contained.Statement.{statement}
+use Rattle.bracket.proofs.answers.answer_contained.Tie as tie
 
 contained-requires : tie.Need-contained-requires
 contained-requires c κs = search needs
@@ -19,7 +19,7 @@ same-length-2 c = search needs
 returns : tie.Need-returns
 returns c = search contained-answered
 
-pub contained-into-spec : {M : Type 1} → statement M
-contained-into-spec =
+pub answer-contained-spec : {M : Type 1} → statement M
+answer-contained-spec =
     tie.close
     (tie.spec contained-requires write-written-requires same-length same-length-2 returns)

@@ -1,4 +1,4 @@
--- `generate_in`: above the identity, with the pairs joined, to the end of the queue.
+-- `close_pairs_in`: above the identity, with the pairs joined, to the end of the queue.
 use Prim.Native.Nat.{_+_, _*_}
 use mathlib.Core.Path.{refl, _∙_}
 use native.Mathlib.Omega.{arith}
@@ -11,8 +11,8 @@ use Rattle.sweep.proofs.Queues.{grown-first}
 use Rattle.equivalence.specs.Equivalence.{byte, blocks, identity}
 use Rattle.equivalence.specs.Lists.{first}
 use Rattle.equivalence.specs.Order.{pairs}
-use Rattle.closure.proofs.generate_in.Statement.{statement}
-use Rattle.closure.proofs.generate_in.Tie as tie
+use Rattle.closure.proofs.close_pairs_in.Statement.{statement}
+use Rattle.closure.proofs.close_pairs_in.Tie as tie
 
 identity-requires : tie.Need-identity-requires
 identity-requires c κs = (c .before .before .before .before .before .before .before .pre .1 .0, accepted-wellFormed (algebraOf (c .before .before .before .before .before .before .before .args .n) (c .before .before .before .before .before .before .before .args .arities .now) (c .before .before .before .before .before .before .before .args .cells .now)) (c .before .before .before .before .before .before .before .pre .0) .most)
@@ -21,7 +21,7 @@ identity-requires-2 : tie.Need-identity-requires-2
 identity-requires-2 c κs = (c .before .before .before .before .before .before .before .before .before .before .before .pre .1 .1 .1 .0, accepted-wellFormed (algebraOf (c .before .before .before .before .before .before .before .before .before .before .before .args .n) (c .before .before .before .before .before .before .before .before .before .before .before .args .arities .now) (c .before .before .before .before .before .before .before .before .before .before .before .args .cells .now)) (c .before .before .before .before .before .before .before .before .before .before .before .pre .0) .most)
 
 seed-requires : tie.Need-seed-requires
-seed-requires c κs = (identity-ready (omega (arith, c .before .before .before .before .before .before .before .before .identity .kept .0, c .before .before .before .before .before .before .before .before .before .before .before .before .before .before .before .before .pre .1 .0)) (c .before .before .before .before .before .before .before .before .before .before .before .before .before .before .before .before .pre .1 .1 .0) (c .before .before .before .before .before .before .before .before .identity .ensures .first), c .before .before .before .before .before .before .before .before .before .before .before .before .before .before .before .before .pre .1 .1 .1 .1)
+seed-requires c κs = (identity-ready (omega (arith, c .before .before .before .before .before .before .before .before .identity .kept .1 .0, c .before .before .before .before .before .before .before .before .before .before .before .before .before .before .before .before .pre .1 .0)) (c .before .before .before .before .before .before .before .before .before .before .before .before .before .before .before .before .pre .1 .1 .0) (c .before .before .before .before .before .before .before .before .identity .ensures .first), c .before .before .before .before .before .before .before .before .before .before .before .before .before .before .before .before .pre .1 .1 .1 .1)
 
 sub-close : tie.Need-sub-close
 sub-close c = omega (arith, accepted-wellFormed (algebraOf (c .before .before .before .before .before .before .before .before .before .before .before .before .before .before .before .before .before .before .before .before .before .before .before .args .n) (c .before .before .before .before .before .before .before .before .before .before .before .before .before .before .before .before .before .before .before .before .before .before .before .args .arities .now) (c .before .before .before .before .before .before .before .before .before .before .before .before .before .before .before .before .before .before .before .before .before .before .before .args .cells .now)) (c .before .before .before .before .before .before .before .before .before .before .before .before .before .before .before .before .before .before .before .before .before .before .before .pre .0) .some)
@@ -35,7 +35,7 @@ close-requires c κs =
     let d = c .before .before .before .before .before .before .before .seed .ensures .0 in
     let total = identity-total n _ f in (
       record {
-        map-room = omega (arith, c .before .before .before .before .before .before .before .before .before .before .before .before .before .before .before .before .identity .kept .0, c .before .before .before .before .before .before .before .seed .kept .0, c .before .before .before .before .before .before .before .before .before .before .before .before .before .before .before .before .before .before .before .before .before .before .before .before .pre .1 .0);
+        map-room = omega (arith, c .before .before .before .before .before .before .before .before .before .before .before .before .before .before .before .before .identity .kept .1 .0, c .before .before .before .before .before .before .before .seed .kept .0, c .before .before .before .before .before .before .before .before .before .before .before .before .before .before .before .before .before .before .before .before .before .before .before .before .pre .1 .0);
         queue-room = omega (arith, c .before .before .before .before .before .before .before .seed .kept .1 .1 .0, c .before .before .before .before .before .before .before .before .before .before .before .before .before .before .before .before .before .before .before .before .before .before .before .before .pre .1 .1 .0);
         most = omega (arith, d .blocks, total);
         queued = d .queued;
@@ -43,7 +43,7 @@ close-requires c κs =
       (
         bounded-start n z z z (d .blocks ∙ total),
         (
-          accepted-contexts (c .before .before .before .before .before .before .before .before .before .before .before .before .before .before .before .before .before .before .before .before .before .before .before .before .args .arities .now) (c .before .before .before .before .before .before .before .before .before .before .before .before .before .before .before .before .before .before .before .before .before .before .before .before .pre .0) (omega (arith, c .before .before .before .before .before .before .before .before .before .before .before .before .identity2 .kept .0, c .before .before .before .before .before .before .before .before .before .before .before .before .before .before .before .before .before .before .before .before .before .before .before .before .pre .1 .1 .1 .0)) (λ i l. omega (arith, c .before .before .before .before .before .before .before .before .before .before .before .before .identity2 .ensures .first i l)),
+          accepted-contexts (c .before .before .before .before .before .before .before .before .before .before .before .before .before .before .before .before .before .before .before .before .before .before .before .before .args .arities .now) (c .before .before .before .before .before .before .before .before .before .before .before .before .before .before .before .before .before .before .before .before .before .before .before .before .pre .0) (omega (arith, c .before .before .before .before .before .before .before .before .before .before .before .before .identity2 .kept .1 .0, c .before .before .before .before .before .before .before .before .before .before .before .before .before .before .before .before .before .before .before .before .before .before .before .before .pre .1 .1 .1 .0)) (λ i l. omega (arith, c .before .before .before .before .before .before .before .before .before .before .before .before .identity2 .ensures .first i l)),
           (c .before .before .before .before .before .before .before .before .before .before .before .before .before .before .before .before .before .before .before .before .before .before .before .before .pre .0, identity-begun a (c .before .before .before .before .before .before .before .before .before .before .before .before .identity2 .ensures .first) (λ x l. d .pushed x l (f x l))),
         ),
       ),
@@ -71,8 +71,8 @@ returns c =
       (e .blocks ∙ d .blocks ∙ identity-total n _ f, λ z l. e .rest z l ∙ d .rest z l ∙ c .before .before .before .before .before .before .before .before .before .before .before .before .before .before .before .before .before .before .before .before .before .before .before .identity .ensures .rest z l),
     )
 
-pub generate-in-spec : {M : Type 1} → statement M
-generate-in-spec =
+pub close-pairs-in-spec : {M : Type 1} → statement M
+close-pairs-in-spec =
     tie.close
     (tie.spec
     identity-requires

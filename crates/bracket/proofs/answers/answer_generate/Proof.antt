@@ -1,8 +1,8 @@
--- `answers::generate_into` meets its contract, by the laws of Answering.
+-- `answers::answer_generate` meets its contract, by the laws of Answering.
 use Rattle.bracket.proofs.Answering.{map-fits, generate-answered}
 use borrow.Author.Needs.{needs}
-use Rattle.bracket.proofs.answers.generate_into.Statement.{statement}
-use Rattle.bracket.proofs.answers.generate_into.Tie as tie
+use Rattle.bracket.proofs.answers.answer_generate.Statement.{statement}
+use Rattle.bracket.proofs.answers.answer_generate.Tie as tie
 
 generate-requires : tie.Need-generate-requires
 generate-requires c κs = search needs
@@ -19,7 +19,7 @@ same-length-2 c = search needs
 returns : tie.Need-returns
 returns c = search generate-answered
 
-pub generate-into-spec : {M : Type 1} → statement M
-generate-into-spec =
+pub answer-generate-spec : {M : Type 1} → statement M
+answer-generate-spec =
     tie.close
     (tie.spec generate-requires write-generate-requires same-length same-length-2 returns)

@@ -1,8 +1,8 @@
--- `answers::separate_into` meets its contract, by the laws of Answering.
+-- `answers::answer_separate` meets its contract, by the laws of Answering.
 use Rattle.bracket.proofs.Answering.{map-fits, separate-answered}
 use borrow.Author.Needs.{needs}
-use Rattle.bracket.proofs.answers.separate_into.Statement.{statement}
-use Rattle.bracket.proofs.answers.separate_into.Tie as tie
+use Rattle.bracket.proofs.answers.answer_separate.Statement.{statement}
+use Rattle.bracket.proofs.answers.answer_separate.Tie as tie
 
 separate-requires : tie.Need-separate-requires
 separate-requires c κs = search needs
@@ -19,6 +19,6 @@ same-length-2 c = search needs
 returns : tie.Need-returns
 returns c = search separate-answered
 
-pub separate-into-spec : {M : Type 1} → statement M
-separate-into-spec =
+pub answer-separate-spec : {M : Type 1} → statement M
+answer-separate-spec =
     tie.close (tie.spec separate-requires write-written-requires same-length same-length-2 returns)

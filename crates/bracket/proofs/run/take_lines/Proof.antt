@@ -1,20 +1,20 @@
--- `run::gather` meets its contract, by the laws of Gathering. The measure is how far the run is from its end.
+-- `run::take_lines` meets its contract, by the laws of Gathering. The measure is how far the run is from its end.
 use Prim.Native.Nat.{_+_, _≤_}
 use native.Mathlib.Omega.{arith}
 use lib.ListN.{length}
-use Rattle.bracket.proofs.Fills.{left}
+use Rattle.bracket.proofs.Fills.{distance}
 use Rattle.bracket.proofs.Gathering.{LinesGathered, lines-gathered-none, lines-gathered-more, lines-gathered-over, lines-gathered-short, lines-gathered-fits, lines-gathered-lent, line-less}
 use Rattle.bracket.specs.Standings.{positionOf}
 use borrow.Author.Needs.{needs}
-use Rattle.bracket.proofs.run.gather.Statement.{statement}
-use Rattle.bracket.proofs.run.gather.Tie as tie
+use Rattle.bracket.proofs.run.take_lines.Statement.{statement}
+use Rattle.bracket.proofs.run.take_lines.Tie as tie
 
 abbrev Inv-loop : tie.InvT-loop
 Inv-loop text arities₀ room₀ out₀ standing₀ put₀ arities room out standing put =
     LinesGathered text standing₀ arities₀ room₀ out₀ standing arities room out put
 
 abbrev μ-loop : tie.MeasureT-loop
-μ-loop text arities₀ room₀ out₀ standing₀ put₀ arities room out standing put = left text (positionOf standing arities room)
+μ-loop text arities₀ room₀ out₀ standing₀ put₀ arities room out standing put = distance text (positionOf standing arities room)
 
 loop-holds : tie.Need-loop-holds Inv-loop μ-loop
 loop-holds c = search lines-gathered-none
@@ -34,23 +34,23 @@ same-length-3 c = search needs
 returns : tie.Need-returns Inv-loop μ-loop
 returns c = search lines-gathered-short
 
-sub-line : tie.Need-sub-line Inv-loop μ-loop
-sub-line c = search needs
+sub-take-line : tie.Need-sub-take-line Inv-loop μ-loop
+sub-take-line c = search needs
 
-part-line-start : tie.Need-part-line-start Inv-loop μ-loop
-part-line-start c = search needs
+part-take-line-start : tie.Need-part-take-line-start Inv-loop μ-loop
+part-take-line-start c = search needs
 
-part-line-end : tie.Need-part-line-end Inv-loop μ-loop
-part-line-end c = search needs
+part-take-line-end : tie.Need-part-take-line-end Inv-loop μ-loop
+part-take-line-end c = search needs
 
-line-requires : tie.Need-line-requires Inv-loop μ-loop
-line-requires c κs = (search needs, (search lines-gathered-lent, search needs))
+take-line-requires : tie.Need-take-line-requires Inv-loop μ-loop
+take-line-requires c κs = (search needs, (search lines-gathered-lent, search needs))
 
 add-put : tie.Need-add-put Inv-loop μ-loop
 add-put c =
     let k = c .before .before .before .before .before .before .before .before in
     let l = k .before .before .before .before .before .before in
-    let h : l .loop .put + k .line .result .wrote ≤ length (l .loop .out) = search lines-gathered-fits in
+    let h : l .loop .put + k .take-line .result .wrote ≤ length (l .loop .out) = search lines-gathered-fits in
     omega (arith, l .loop .inv .laid .long, l .before .before .before .before .before .good)
 
 loop-less : tie.Need-loop-less Inv-loop μ-loop
@@ -71,8 +71,8 @@ same-length-6 c = search needs
 returns-2 : tie.Need-returns-2 Inv-loop μ-loop
 returns-2 c = search lines-gathered-over
 
-pub gather-spec : {M : Type 1} → statement M
-gather-spec =
+pub take-lines-spec : {M : Type 1} → statement M
+take-lines-spec =
     tie.close
     (tie.spec
     Inv-loop
@@ -83,10 +83,10 @@ gather-spec =
     same-length-2
     same-length-3
     returns
-    sub-line
-    part-line-start
-    part-line-end
-    line-requires
+    sub-take-line
+    part-take-line-start
+    part-take-line-end
+    take-line-requires
     add-put
     loop-less
     loop-again

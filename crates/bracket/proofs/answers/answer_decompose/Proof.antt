@@ -1,8 +1,8 @@
--- `answers::decompose_into` meets its contract, by the laws of Answering.
+-- `answers::answer_decompose` meets its contract, by the laws of Answering.
 use Rattle.bracket.proofs.Answering.{factors-fit, decompose-answered}
 use borrow.Author.Needs.{needs}
-use Rattle.bracket.proofs.answers.decompose_into.Statement.{statement}
-use Rattle.bracket.proofs.answers.decompose_into.Tie as tie
+use Rattle.bracket.proofs.answers.answer_decompose.Statement.{statement}
+use Rattle.bracket.proofs.answers.answer_decompose.Tie as tie
 
 decompose-requires : tie.Need-decompose-requires
 decompose-requires c κs = search needs
@@ -19,7 +19,7 @@ same-length-2 c = search needs
 returns : tie.Need-returns
 returns c = search decompose-answered
 
-pub decompose-into-spec : {M : Type 1} → statement M
-decompose-into-spec =
+pub answer-decompose-spec : {M : Type 1} → statement M
+answer-decompose-spec =
     tie.close
     (tie.spec decompose-requires write-decompose-requires same-length same-length-2 returns)

@@ -1,4 +1,4 @@
--- `try_in`: above the congruence itself, with its names in use and only the pair joined, to the end of the queue or to the stop.
+-- `close_apart_in`: above the congruence itself, with its names in use and only the pair joined, to the end of the queue or to the stop.
 use mathlib.Core.Path.{refl, _∙_}
 use native.Mathlib.Omega.{arith}
 use borrow.Author.Needs.{needs}
@@ -9,8 +9,8 @@ use Rattle.closure.proofs.Starting.{accepted-contexts, canonical-ready,
 use Rattle.sweep.proofs.Queues.{grown-first}
 use Rattle.kernel.proofs.Kernels.{names-positive}
 use Rattle.equivalence.specs.Equivalence.{byte}
-use Rattle.closure.proofs.try_in.Statement.{statement}
-use Rattle.closure.proofs.try_in.Tie as tie
+use Rattle.closure.proofs.close_apart_in.Statement.{statement}
+use Rattle.closure.proofs.close_apart_in.Tie as tie
 
 cast-merge-queued : tie.Need-cast-merge-queued
 cast-merge-queued c =
@@ -76,8 +76,8 @@ returns c =
     grown-tried (algebraOf (s .args .n) (s .args .arities .now) (s .args .cells .now)) (q .0) (q .1 .0) refl (d .0) (d .1)
     (grown-first (λ g good h. (good, q .1 .1 .1 .1 .0 g good (λ a b la lb i. h a b la lb (d .0 .within a b la lb i)))) (e .0)) (e .1)
 
-pub try-in-spec : {M : Type 1} → statement M
-try-in-spec =
+pub close-apart-in-spec : {M : Type 1} → statement M
+close-apart-in-spec =
     tie.close
     (tie.spec
     cast-merge-queued
