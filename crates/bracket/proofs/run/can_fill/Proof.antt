@@ -1,5 +1,6 @@
 -- `run::can_fill` meets its contract, by the laws of Calling.
 use Rattle.bracket.proofs.Calling.{run-over, past-text, no-size, size-above, operations-above, operations-past, cells-past, few-arities, little-room, last-test}
+use borrow.Author.Needs.{needs}
 use Rattle.bracket.proofs.run.can_fill.Statement.{statement}
 use Rattle.bracket.proofs.run.can_fill.Tie as tie
 
@@ -11,6 +12,9 @@ returns-2 c = search past-text
 
 returns-3 : tie.Need-returns-3
 returns-3 c = search no-size
+
+cast-if4 : tie.Need-cast-if4
+cast-if4 c = search needs
 
 returns-4 : tie.Need-returns-4
 returns-4 c = search size-above
@@ -40,6 +44,7 @@ can-fill-spec =
     returns
     returns-2
     returns-3
+    cast-if4
     returns-4
     returns-5
     returns-6
