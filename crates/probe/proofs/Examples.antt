@@ -1,33 +1,16 @@
--- The image and the numbers, computed of the definitions.
+-- A call over an image of another length, and the numbers of places, computed of the definitions.
 use mathlib.Core.List.{[], _∷_}
 use mathlib.Core.Path.{_≡_, refl}
-use lib.ListN.{getD, take, drop}
 use Rattle.bench.specs.Calls.{clearCall}
-use Rattle.bench.specs.State.{zeroSheet, sheetWith, eightOf, freshBench}
-use Rattle.bench.specs.declared.Bench.{Bench}
-use Rattle.equivalence.specs.Equivalence.{mapOf, identity}
-use Rattle.equivalence.specs.Lists.{upTo, first, concat}
-use Rattle.equivalence.specs.Lent.{written}
 use Rattle.equivalence.specs.Order.{rowStart, placeOf}
 use Rattle.probe.specs.Calls.{placeNumber, imageCall}
-use Rattle.probe.specs.Image.{little, littleIn, sheetBytes, sizeBytes, tallyBytes, imageOf}
-
--- a fresh bench over 3 whose tally is 258
-abbrev sample : Bench
-sample = record { n = 3; tally = 258; sheets = freshBench 3 .sheets }
 
 pub record Examples : Type 0 where
-  -- 258 is 2 and 1 times 256
-  pub number : (little 4 258 ≡ 2 ∷ 1 ∷ 0 ∷ 0 ∷ []) × (littleIn (2 ∷ 1 ∷ 0 ∷ 0 ∷ []) ≡ 258)
-  -- sheet 1 begins at byte 64, n is byte 512, and the tally ends the image
-  pub sheet : take 4 (drop 64 (imageOf sample)) ≡ 0 ∷ 1 ∷ 2 ∷ 0 ∷ []
-  pub size : getD (imageOf sample) 512 0 ≡ 3
-  pub tally : drop 513 (imageOf sample) ≡ 2 ∷ 1 ∷ 0 ∷ 0 ∷ []
   -- an image of another length
   pub other : imageCall (λ b. clearCall b 0) (1 ∷ []) ≡ (255, 1 ∷ [])
   -- the first pair, and no pair
   pub place : (placeNumber (placeOf 0 1) ≡ 0) × (placeNumber (placeOf 1 1) ≡ 65535)
 
 pub examples : Examples
-unfolding upTo first concat mapOf identity written zeroSheet sheetWith eightOf freshBench rowStart placeOf little littleIn sheetBytes sizeBytes tallyBytes imageOf placeNumber imageCall
-examples = record { number = (refl, refl); sheet = refl; size = refl; tally = refl; other = refl; place = (refl, refl) }
+unfolding rowStart placeOf placeNumber imageCall
+examples = record { other = refl; place = (refl, refl) }

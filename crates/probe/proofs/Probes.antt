@@ -20,8 +20,8 @@ use Rattle.equivalence.specs.declared.Check.the-variants.{Passed, Failed}
 use Rattle.equivalence.specs.declared.Place.the-variants.{At}
 use Rattle.equivalence.proofs.Places.{place-index}
 use Rattle.equivalence.proofs.Tests.{eq→eqb, pick, pick-yes, pick-no}
+use Rattle.image.specs.Image.{imageOf, benchIn}
 use Rattle.probe.specs.Calls.{preferred, imageCall}
-use Rattle.probe.specs.Image.{imageOf, benchIn}
 
 -- ---- places
 

@@ -3,27 +3,23 @@ use Prim.Native.Nat.{ℕ}
 use mathlib.Core.Bool.{true, false}
 use mathlib.Core.List.{List, []}
 use lib.Dec.{eqb}
-use lib.ListN.{length, take}
+use lib.ListN.{length}
 use Rattle.bench.specs.Outcome.{answerOutcome}
 use Rattle.bench.specs.declared.Bench.{Bench}
 use Rattle.bench.specs.declared.Benched.{Benched}
 use Rattle.equivalence.specs.Outcome.{packed}
 use Rattle.equivalence.specs.Calls.{preferCheck, earlierOf}
 use Rattle.equivalence.specs.Equivalence.{Map}
-use Rattle.equivalence.specs.Lent.{written}
 use Rattle.equivalence.specs.Refusal.{answered}
 use Rattle.equivalence.specs.declared.Place.{Place}
 use Rattle.equivalence.specs.declared.Place.the-variants.{At, Nowhere}
-use Rattle.probe.specs.Image.{imageOf, benchIn}
+use Rattle.image.specs.Copies.{copied}
+use Rattle.image.specs.Image.{imageOf, benchIn}
 
 -- a place, or 65,535 for none
 unfoldable pub placeNumber : Place → ℕ
 placeNumber (At place) = place
 placeNumber Nowhere = 65535
-
--- the lent bytes with a copy of the part at their start, as far as it fits
-unfoldable pub copied : List ℕ → List ℕ → List ℕ
-copied part lent = written (take (length lent) part) lent
 
 -- the bytes of the part that Prefer hands back: the earlier map, or none
 unfoldable pub preferred : ℕ → Map → Map → List ℕ

@@ -8,8 +8,8 @@ ghost use Rattle.equivalence.specs.Outcome.{packed, writtenOutcome};
 ghost use Rattle.congruence.specs.Outcome.{dividedOutcome, certifiedOutcome};
 ghost use Rattle.bench.specs.Calls.{startCall, addCall, clearCall};
 ghost use Rattle.probe.specs.Calls.{placeNumber, preferCopy, imageCall};
+use image::LENGTH as IMAGE_LENGTH;
 
-mod image;
 mod numbers;
 
 // Meet: the reason.
@@ -36,7 +36,7 @@ pub extern "C" fn probe_prefer<'a>(n: usize, a: &'a [u8], b: &'a [u8], out: &mut
     ensures { λ r. ⌜ (r, now (out .exit)) ≡ preferCopy n (now (a .entry)) (now (b .entry)) (now (out .entry)) ⌝ }
 {
     let part = equivalence::prefer(n, a, b);
-    image::fill(out, part);
+    image::copy_part(part, out);
     part.len()
 }
 
@@ -76,12 +76,12 @@ pub extern "C" fn probe_certify(n: usize, arities: &[u8], cells: &[u8], maps: &[
 pub extern "C" fn probe_bench_start(n: usize, bytes: &mut [u8]) -> u32
     ensures { λ r. ⌜ (r, now (bytes .exit)) ≡ imageCall (λ _. startCall n) (now (bytes .entry)) ⌝ }
 {
-    if bytes.len() != image::LENGTH {
+    if bytes.len() != IMAGE_LENGTH {
         return 255;
     }
     let done = bench::start(n);
     let after = done.bench;
-    image::write(bytes, after);
+    image::write(after, bytes);
     let answer = done.answer;
     numbers::answer_number(answer)
 }
@@ -99,13 +99,13 @@ pub extern "C" fn probe_bench_add(
 ) -> u32
     ensures { λ r. ⌜ (r, now (bytes .exit)) ≡ imageCall (λ b. addCall b (algebraIn n (arities .entry) (cells .entry)) sheet x y) (now (bytes .entry)) ⌝ }
 {
-    if bytes.len() != image::LENGTH {
+    if bytes.len() != IMAGE_LENGTH {
         return 255;
     }
     let before = image::read(bytes);
     let done = bench::add(before, n, arities, cells, sheet, x, y);
     let after = done.bench;
-    image::write(bytes, after);
+    image::write(after, bytes);
     let answer = done.answer;
     numbers::answer_number(answer)
 }
@@ -115,13 +115,13 @@ pub extern "C" fn probe_bench_add(
 pub extern "C" fn probe_bench_clear(bytes: &mut [u8], sheet: usize) -> u32
     ensures { λ r. ⌜ (r, now (bytes .exit)) ≡ imageCall (λ b. clearCall b sheet) (now (bytes .entry)) ⌝ }
 {
-    if bytes.len() != image::LENGTH {
+    if bytes.len() != IMAGE_LENGTH {
         return 255;
     }
     let before = image::read(bytes);
     let done = bench::clear(before, sheet);
     let after = done.bench;
-    image::write(bytes, after);
+    image::write(after, bytes);
     let answer = done.answer;
     numbers::answer_number(answer)
 }

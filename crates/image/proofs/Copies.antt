@@ -1,0 +1,85 @@
+-- Copies: a loop that copies one list over the start of another, element by element; bytes copied to the start of lent ones, as far as they
+-- fit; and bytes laid into others from some byte on.
+use Prim.Native.Nat.{ℕ, suc, _+_, _-_, _≤_, _<_}
+use mathlib.Core.List.{List, _++_, append-assoc, append-nil}
+use mathlib.Core.Path.{_≡_, refl, sym, ap, _∙_}
+use native.Mathlib.Numerals.{add-one}
+use native.Mathlib.Omega.{arith}
+use lib.ListN.{length, getD, take, drop, set, length-drop, drop-of-length-le}
+use lib.Seq.{take-all, take-suc, drop-cons, append-snoc, set-at, take-at, drop-at, drop-drop, length-take-le}
+use borrow.Rule.Slice.PartMut.{putMid, midOf}
+use Rattle.equivalence.specs.Lent.{written, laid}
+use Rattle.equivalence.proofs.Laying.{rest-whole, laid-from}
+use Rattle.image.specs.Copies.{copied}
+use Rattle.image.specs.Image.{part}
+
+-- ---- the loop that copies
+
+-- the first i elements of `from` stand in the place of the first i of `old`
+pub record Copying {A : Type 0} (from old : List A) (i : ℕ) (new : List A) : Type 0 where
+  pub within : i ≤ length from
+  pub room : i ≤ length old
+  pub elements : new ≡ take i from ++ drop i old
+
+module _ {A : Type 0} (from old : List A) where
+  pub copying-none : Copying from old 0 old
+  copying-none = record { within = omega arith; room = omega arith; elements = refl }
+
+  store : (i : ℕ) (d : A) → i < length from → i < length old → set (take i from ++ drop i old) i (getD from i d) ≡ take (suc i) from ++ drop (suc i) old
+  store i d h k =
+      ap (λ (r : List A). set (take i from ++ r) i (getD from i d)) (drop-cons old i d k)
+      ∙ set-at (take i from) (getD old i d) (drop (suc i) old) (getD from i d) i (length-take-le i from (omega arith))
+      ∙ sym (append-snoc (take i from) (getD from i d) (drop (suc i) old))
+      ∙ ap (λ (r : List A). r ++ drop (suc i) old) (sym (take-suc from i d h))
+
+  pub copying-more : (i : ℕ) (new : List A) → Copying from old i new → i < length from → i < length old → (d v : A) → v ≡ getD from i d → Copying from old (i + 1) (set new i v)
+  copying-more i new c h k d v e =
+      record { within = omega arith; room = omega arith; elements = rw (c .elements, e, add-one i) (store i d h k) }
+
+  -- all of both
+  pub copying-all : (i : ℕ) (new : List A) → Copying from old i new → i ≡ length from → length old ≤ i → new ≡ from
+  copying-all i new c e h = c .elements ∙ rw (take-all i from (omega arith), drop-of-length-le old {i = i} h) (append-nil from)
+
+-- ---- bytes copied as far as they fit
+
+module _ (from lent : List ℕ) (i : ℕ) (new : List ℕ) (c : Copying from lent i new) where
+  -- all of them fit
+  pub copied-whole : i ≡ length from → new ≡ copied from lent
+  unfolding copied written
+  copied-whole e = let k = c .room in c .elements ∙ rw (take-all (length lent) from (omega arith), take-all i from (omega arith), e) refl
+
+  -- the lent bytes are full
+  pub copied-full : i ≡ length lent → new ≡ copied from lent
+  unfolding copied written
+  copied-full e = let k = c .within in c .elements ∙ rw (length-take-le (length lent) from (omega arith), e) refl
+
+-- k bytes to fill, and no fewer to copy
+pub copied-first : (from lent : List ℕ) (k : ℕ) → length lent ≡ k → k ≤ length from → copied from lent ≡ take k from
+unfolding copied written
+copied-first from lent k e h =
+    rw (e, length-take-le k from h, drop-of-length-le lent {i = k} (omega arith)) (append-nil (take k from))
+
+-- all of them fit
+copied-all : (from lent : List ℕ) → length from ≤ length lent → copied from lent ≡ written from lent
+unfolding copied
+copied-all from lent h = ap (λ (l : List ℕ). written l lent) (take-all (length lent) from h)
+
+-- ---- parts of slices
+
+-- the part of k bytes that a copy of the rest begins with
+pub copied-part : (at k : ℕ) (l lent : List ℕ) → length lent ≡ k → at + k ≤ length l → copied (take (length l - at) (drop at l)) lent ≡ part at k l
+unfolding part
+copied-part at k l lent e h = rw (rest-whole at l) (copied-first (drop at l) lent k e (omega (arith, length-drop at l)))
+
+-- bytes that a callee copied into the rest
+pub copied-from : (to : ℕ) (l new rest : List ℕ) → to + length new ≤ length l → rest ≡ copied new (midOf to (length l - to) l)
+    → putMid to (length l - to) l rest ≡ laid l to new
+copied-from to l new rest h e =
+    let room : length new ≤ length (midOf to (length l - to) l) = rw (rest-whole to l, length-drop to l) (omega arith) in
+    ap (putMid to (length l - to) l) (e ∙ copied-all new (midOf to (length l - to) l) room) ∙ laid-from to l new (omega arith)
+
+-- bytes laid behind those that stand before them
+pub laid-behind : (front old new : List ℕ) (to : ℕ) → length front ≡ to → laid (front ++ drop to old) to new ≡ front ++ new ++ drop (to + length new) old
+unfolding laid written
+laid-behind front old new to e =
+    rw (take-at front (drop to old) to e, drop-at front (drop to old) to e, drop-drop (length new) to old) (sym (append-assoc front new (drop (to + length new) old)))

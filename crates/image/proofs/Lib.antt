@@ -1,0 +1,4 @@
+pub mod Examples
+pub mod Copies
+pub mod Littles
+pub mod Images

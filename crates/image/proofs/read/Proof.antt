@@ -1,0 +1,25 @@
+-- `image::read` meets its contract.
+use native.Mathlib.Omega.{arith}
+use borrow.Author.Needs.{needs}
+use Rattle.image.specs.Image.{benchIn}
+use Rattle.image.proofs.read.Statement.{statement}
+use Rattle.image.proofs.read.Tie as tie
+
+read-sheets-requires : tie.Need-read-sheets-requires
+read-sheets-requires c κs = search needs
+
+read-little-requires : tie.Need-read-little-requires
+read-little-requires c κs = search needs
+
+read-little-requires-2 : tie.Need-read-little-requires-2
+read-little-requires-2 c κs = search needs
+
+cast-tally : tie.Need-cast-tally
+cast-tally c = omega (arith, c .read-little2 .ensures .1)
+
+returns : tie.Need-returns
+unfolding benchIn
+returns c = rw (c .before .before .read-sheets .ensures, c .before .read-little .ensures .0, c .read-little2 .ensures .0)
+
+pub read-spec : {M : Type 1} → statement M
+read-spec = tie.close (tie.spec read-sheets-requires read-little-requires read-little-requires-2 cast-tally returns)

@@ -1,0 +1,26 @@
+-- `image::write` meets its contract.
+use borrow.Author.Needs.{needs}
+use Rattle.image.proofs.Images.{image-written}
+use Rattle.image.proofs.write.Statement.{statement}
+use Rattle.image.proofs.write.Tie as tie
+
+write-sheets-requires : tie.Need-write-sheets-requires
+write-sheets-requires c κs = search needs
+
+write-little-requires : tie.Need-write-little-requires
+write-little-requires c κs = search needs
+
+cast-write-little : tie.Need-cast-write-little
+cast-write-little c = search needs
+
+write-little-requires-2 : tie.Need-write-little-requires-2
+write-little-requires-2 c κs = search needs
+
+same-length : tie.Need-same-length
+same-length c = search needs
+
+returns : tie.Need-returns
+returns c = search image-written
+
+pub write-spec : {M : Type 1} → statement M
+write-spec = tie.close (tie.spec write-sheets-requires write-little-requires cast-write-little write-little-requires-2 same-length returns)
