@@ -6,11 +6,10 @@ ghost use Rattle.equivalence.specs.Refusal.{lowest};
 ghost use Rattle.algebra.specs.Algebra.{algebraIn};
 ghost use Rattle.bench.specs.Calls.{startTests, benchTest, clearTests, placeTests, handedTests};
 use super::Bench;
+use super::SHEETS;
 use super::sheets;
 use equivalence::Check;
 use equivalence::Refusal;
-
-const SHEETS: usize = 8;
 
 // Start's: 1.
 pub fn start_check(n: usize) -> Check

@@ -14,18 +14,24 @@ use equivalence::Refusal;
 pub mod checks;
 pub mod sheets;
 
+// How many sheets a bench has.
+pub const SHEETS: usize = 8;
+
+// How many bytes a sheet keeps for its map.
+pub const SHEET_BYTES: usize = 64;
+
 // The top of the tally.
 const MAX_TALLY: u64 = 4294967295;
 
 // A map in its first n bytes. Bytes past n are never read, and no call changes them.
 pub struct Sheet {
-    pub map: [u8; 64],
+    pub map: [u8; SHEET_BYTES],
 }
 
 pub struct Bench {
     pub n: usize,
     pub tally: u32,
-    pub sheets: [Sheet; 8],
+    pub sheets: [Sheet; SHEETS],
 }
 
 pub enum Answer {

@@ -11,15 +11,19 @@ ghost use Rattle.algebra.specs.Accepted.{Accepted};
 ghost use Rattle.bench.specs.State.{mapOn, zeroSheet, sheetWith, eightOf, zeroBench, freshBench, noSheet, withSheet, withMap};
 ghost use Rattle.bench.specs.InnerGrowth.{MapGrown, SheetGrown};
 use super::Bench;
+use super::SHEET_BYTES;
+use super::SHEETS;
 use super::Sheet;
 
 fn zero_sheet() -> Sheet
     ensures { λ r. ⌜ r ≡ zeroSheet ⌝ }
 {
-    Sheet { map: [0u8; 64] }
+    Sheet {
+        map: [0u8; SHEET_BYTES],
+    }
 }
 
-fn write_identity(n: usize, map: &mut [u8; 64])
+fn write_identity(n: usize, map: &mut [u8; SHEET_BYTES])
     requires { ⌜ n ≤ 64 ⌝ }
     ensures { λ _. ⌜ now (map .exit) ≡ written (identity n) (now (map .entry)) ⌝ }
 {
@@ -45,7 +49,7 @@ fn eight_of(n: usize, sheet: Sheet) -> Bench
     Bench {
         n,
         tally: 0,
-        sheets: [sheet; 8],
+        sheets: [sheet; SHEETS],
     }
 }
 
@@ -89,7 +93,7 @@ pub fn cleared(bench: Bench, k: usize) -> Bench
 }
 
 // One of eight sheets.
-pub fn nth(sheets: [Sheet; 8], k: usize) -> Sheet
+pub fn nth(sheets: [Sheet; SHEETS], k: usize) -> Sheet
     requires { ⌜ k < 8 ⌝ }
     ensures { λ r. ⌜ (r ≡ getD sheets k noSheet) × (k < length sheets) ⌝ }
 {
@@ -97,7 +101,7 @@ pub fn nth(sheets: [Sheet; 8], k: usize) -> Sheet
 }
 
 // Whether the first n bytes are a map over n.
-fn has_map(n: usize, map: &[u8; 64]) -> bool
+fn has_map(n: usize, map: &[u8; SHEET_BYTES]) -> bool
     requires { ⌜ n ≤ 64 ⌝ }
     ensures { λ r. ⌜ r ≡ isMap n (take n (now (map .entry))) ⌝ }
 {
@@ -106,12 +110,12 @@ fn has_map(n: usize, map: &[u8; 64]) -> bool
 }
 
 // Whether all eight sheets have maps over n.
-pub fn all_have_maps(n: usize, sheets: [Sheet; 8]) -> bool
+pub fn all_have_maps(n: usize, sheets: [Sheet; SHEETS]) -> bool
     requires { ⌜ n ≤ 64 ⌝ }
     ensures { λ r. ⌜ r ≡ every (λ s. isMap n (mapOn n s)) sheets ⌝ }
 {
     let mut k: usize = 0;
-    while k < 8 {
+    while k < SHEETS {
         let sheet = sheets[k];
         let map = sheet.map;
         if !has_map(n, &map) {
@@ -135,7 +139,7 @@ fn extend_map(
     cells: &[u8],
     x: usize,
     y: usize,
-    map: &mut [u8; 64],
+    map: &mut [u8; SHEET_BYTES],
 ) -> usize
     requires { ⌜ Accepted (algebraIn n arities cells) ⌝ }
     requires { ⌜ T (isMap n (take n (now map))) ⌝ }

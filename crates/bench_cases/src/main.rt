@@ -7,8 +7,7 @@ use bench::Sheet;
 
 fn print_answer(answer: Answer) {
     if let Answer::Refused(reason) = answer {
-        io::write_all(1, b"refused");
-        printing::print_bytes(&[equivalence::checks::number(reason)]);
+        printing::print_refused(equivalence::checks::number(reason));
     } else {
         io::write_all(1, b" done");
     }

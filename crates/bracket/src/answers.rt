@@ -16,6 +16,9 @@ ghost use Rattle.bracket.specs.Answers.{generatedLine, mapLine, factorsL
 ghost use Rattle.reader.specs.Laying.{Laid};
 ghost use Rattle.bracket.specs.InnerPromises.{Answered, LineFits, MapFits, FactorsFit, Zeros};
 
+// The most bytes that a service wants: 63 maps of 64 elements.
+const MOST_SPACE: usize = 4032;
+
 // The line for Generate's answer, which wrote the map.
 fn write_generate(answer: Generated, map: &[u8], out: &mut [u8]) -> usize
     requires { ⌜ MapFits (now map) (now out) ⌝ }
@@ -147,6 +150,6 @@ pub fn answer(
     requires { ⌜ LineFits n (now out) ⌝ }
     ensures { λ r. ⌜ Answered (algebraIn n (arities .entry) (cells .entry)) asked (now (numbers .entry)) (out .entry) (out .exit) r ⌝ }
 {
-    let mut space = [0u8; 4032];
+    let mut space = [0u8; MOST_SPACE];
     answer_into(n, arities, cells, asked, numbers, &mut space, out)
 }

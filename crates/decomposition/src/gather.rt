@@ -24,7 +24,7 @@ pub enum Collected {
 }
 
 // One congruence more: the one that Separate gives for the first pair of `met` goes to `map`, and is met unless it is the identity. Whether it is.
-fn add(n: usize, arities: &[u8], cells: &[u8], met: &mut [u8], map: &mut [u8]) -> bool
+fn gather_next(n: usize, arities: &[u8], cells: &[u8], met: &mut [u8], map: &mut [u8]) -> bool
     requires { ⌜ Accepted (algebraIn n arities cells) ⌝ }
     requires { ⌜ n ≤ length (now met) ⌝ }
     requires { ⌜ Canonical n (byte (now met)) ⌝ }
@@ -66,7 +66,7 @@ pub fn gather(n: usize, arities: &[u8], cells: &[u8], met: &mut [u8], maps: &mut
     let mut count = 0;
     let mut at = 0;
     while !is_identity(n, met) {
-        if add(n, arities, cells, met, &mut maps[at..]) {
+        if gather_next(n, arities, cells, met, &mut maps[at..]) {
             return common(n, met);
         }
         count += 1;

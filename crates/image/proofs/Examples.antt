@@ -13,7 +13,7 @@ use Rattle.image.specs.Image.{little, littleIn, sheetBytes, sizeBytes, t
 abbrev sample : Bench
 sample = record { n = 3; tally = 258; sheets = freshBench 3 .sheets }
 
-pub record Examples : Type 0 where
+pub record ImageExamples : Type 0 where
   -- 258 is 2 and 1 times 256
   pub number : (little 4 258 ≡ 2 ∷ 1 ∷ 0 ∷ 0 ∷ []) × (littleIn (2 ∷ 1 ∷ 0 ∷ 0 ∷ []) ≡ 258)
   -- sheet 1 begins at byte 64, n is byte 512, and the tally ends the image
@@ -21,6 +21,6 @@ pub record Examples : Type 0 where
   pub size : getD (imageOf sample) 512 0 ≡ 3
   pub tally : drop 513 (imageOf sample) ≡ 2 ∷ 1 ∷ 0 ∷ 0 ∷ []
 
-pub examples : Examples
+pub image-examples : ImageExamples
 unfolding upTo first concat mapOf identity written zeroSheet sheetWith eightOf freshBench little littleIn sheetBytes sizeBytes tallyBytes imageOf
-examples = record { number = (refl, refl); sheet = refl; size = refl; tally = refl }
+image-examples = record { number = (refl, refl); sheet = refl; size = refl; tally = refl }

@@ -7,14 +7,11 @@ ghost use Rattle.image.specs.Image.{part, little, littleIn, sheetsIn, im
 ghost use Rattle.image.specs.Copies.{copied};
 ghost use Rattle.image.specs.InnerSteps.{SheetsLaid};
 use bench::Bench;
+use bench::SHEET_BYTES;
+use bench::SHEETS;
 use bench::Sheet;
 
 pub const LENGTH: usize = 517;
-
-// How many sheets there are, and how many bytes each has.
-const SHEETS: usize = 8;
-
-const SHEET_BYTES: usize = 64;
 
 // Where n and the tally begin, and how many bytes the tally has.
 const SIZE_AT: usize = 512;

@@ -5,12 +5,12 @@ use Rattle.bench.specs.Calls.{clearCall}
 use Rattle.equivalence.specs.Order.{rowStart, placeOf}
 use Rattle.probe.specs.Calls.{placeNumber, imageCall}
 
-pub record Examples : Type 0 where
+pub record ProbeExamples : Type 0 where
   -- an image of another length
   pub other : imageCall (λ b. clearCall b 0) (1 ∷ []) ≡ (255, 1 ∷ [])
   -- the first pair, and no pair
   pub place : (placeNumber (placeOf 0 1) ≡ 0) × (placeNumber (placeOf 1 1) ≡ 65535)
 
-pub examples : Examples
+pub probe-examples : ProbeExamples
 unfolding rowStart placeOf placeNumber imageCall
-examples = record { other = refl; place = (refl, refl) }
+probe-examples = record { other = refl; place = (refl, refl) }

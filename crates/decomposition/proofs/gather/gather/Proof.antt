@@ -37,17 +37,17 @@ loop-holds c = let k = c .before .before .before .before .before .before .before
 is-identity-requires : tie.Need-is-identity-requires Inv-loop μ-loop
 is-identity-requires c κs = let k = c .before .before .before .before .before .before .before .before .before .before in let l = c .before .loop in (omega (arith, l .inv .0), collecting-canonical (accepted-wellFormed _ (k .pre .0)) (k .pre .1 .1 .1) (l .inv .1))
 
-sub-add : tie.Need-sub-add Inv-loop μ-loop
-sub-add c = let k = c .before .before .before .before .before .before .before .before .before .before .before .before .before in omega (arith, collecting-fits (accepted-wellFormed _ (k .pre .0)) (k .pre .1 .1 .1) (c .before .before .before .before .loop .inv .1) (going (c .before .before .is-identity .ensures) (c .before .if1 .taken)))
+sub-gather-next : tie.Need-sub-gather-next Inv-loop μ-loop
+sub-gather-next c = let k = c .before .before .before .before .before .before .before .before .before .before .before .before .before in omega (arith, collecting-fits (accepted-wellFormed _ (k .pre .0)) (k .pre .1 .1 .1) (c .before .before .before .before .loop .inv .1) (going (c .before .before .is-identity .ensures) (c .before .if1 .taken)))
 
-part-add-start : tie.Need-part-add-start Inv-loop μ-loop
-part-add-start c = let k = c .before .before .before .before .before .before .before .before .before .before .before .before .before in omega (arith, collecting-fits (accepted-wellFormed _ (k .pre .0)) (k .pre .1 .1 .1) (c .before .before .before .before .loop .inv .1) (going (c .before .before .is-identity .ensures) (c .before .if1 .taken)))
+part-gather-next-start : tie.Need-part-gather-next-start Inv-loop μ-loop
+part-gather-next-start c = let k = c .before .before .before .before .before .before .before .before .before .before .before .before .before in omega (arith, collecting-fits (accepted-wellFormed _ (k .pre .0)) (k .pre .1 .1 .1) (c .before .before .before .before .loop .inv .1) (going (c .before .before .is-identity .ensures) (c .before .if1 .taken)))
 
-part-add-end : tie.Need-part-add-end Inv-loop μ-loop
-part-add-end c = let k = c .before .before .before .before .before .before .before .before .before .before .before .before .before in omega (arith, collecting-fits (accepted-wellFormed _ (k .pre .0)) (k .pre .1 .1 .1) (c .before .before .before .before .loop .inv .1) (going (c .before .before .is-identity .ensures) (c .before .if1 .taken)))
+part-gather-next-end : tie.Need-part-gather-next-end Inv-loop μ-loop
+part-gather-next-end c = let k = c .before .before .before .before .before .before .before .before .before .before .before .before .before in omega (arith, collecting-fits (accepted-wellFormed _ (k .pre .0)) (k .pre .1 .1 .1) (c .before .before .before .before .loop .inv .1) (going (c .before .before .is-identity .ensures) (c .before .if1 .taken)))
 
-add-requires : tie.Need-add-requires Inv-loop μ-loop
-add-requires c κs =
+gather-next-requires : tie.Need-gather-next-requires Inv-loop μ-loop
+gather-next-requires c κs =
     let k = c .before .before .before .before .before .before .before .before .before .before .before .before .before .before in
     let l = c .before .before .before .before .before .loop in
     let w = accepted-wellFormed _ (k .pre .0) in
@@ -59,22 +59,22 @@ common-requires c κs =
     let k = c .before .before .before .before .before .before .before .before .before .before .before .before .before .before .before .before .before .before .before .before .before in
     let l = c .before .before .before .before .before .before .before .before .before .before .before .before .loop in
     let w = accepted-wellFormed _ (k .pre .0) in
-    let e = c .before .before .before .before .before .before .add .ensures .stays (c .before .if2 .taken) in
+    let e = c .before .before .before .before .before .before .gather-next .ensures .stays (c .before .if2 .taken) in
     (w .some, (w .most, (omega (arith, l .inv .0, ap length e), (subst (λ (m : List ℕ). Canonical (k .args .n) (byte m)) (sym e) (collecting-canonical w (k .pre .1 .1 .1) (l .inv .1)), ap (isIdentity (k .args .n)) e ∙ sym (c .before .before .before .before .before .before .before .before .before .before .is-identity .ensures) ∙ not-true (c .before .before .before .before .before .before .before .before .before .before .is-identity .result) (c .before .before .before .before .before .before .before .before .before .if1 .taken)))))
 
 same-length : tie.Need-same-length Inv-loop μ-loop
-same-length c = c .before .before .before .before .before .before .before .add .kept .1 .1 .1 .0 ∙ c .before .before .before .before .before .before .before .before .before .before .before .before .before .loop .inv .0 ∙ c .before .before .before .before .before .before .before .before .before .before .before .before .before .before .before .before .whole-into .kept .1 .0
+same-length c = c .before .before .before .before .before .before .before .gather-next .kept .1 .1 .1 .0 ∙ c .before .before .before .before .before .before .before .before .before .before .before .before .before .loop .inv .0 ∙ c .before .before .before .before .before .before .before .before .before .before .before .before .before .before .before .before .whole-into .kept .1 .0
 
 same-length-2 : tie.Need-same-length-2 Inv-loop μ-loop
 same-length-2 c =
     let k = c .before .before .before .before .before .before .before .before .before .before .before .before .before .before .before .before .before .before .before .before .before .before in
     let l = c .before .before .before .before .before .before .before .before .before .before .before .before .before .loop in
-    same-len-mid (l .at) (length (l .maps) - l .at) (l .maps) (c .before .before .before .before .before .before .before .add .last .1 .1 .1 .1 .0) (c .before .before .before .before .before .before .before .add .kept .1 .1 .1 .1 .0) ∙ collecting-long (accepted-wellFormed _ (k .pre .0)) (k .pre .1 .1 .1) (l .inv .1)
+    same-len-mid (l .at) (length (l .maps) - l .at) (l .maps) (c .before .before .before .before .before .before .before .gather-next .last .1 .1 .1 .1 .0) (c .before .before .before .before .before .before .before .gather-next .kept .1 .1 .1 .1 .0) ∙ collecting-long (accepted-wellFormed _ (k .pre .0)) (k .pre .1 .1 .1) (l .inv .1)
 
 returns : tie.Need-returns Inv-loop μ-loop
 returns c =
     let k = c .before .before .before .before .before .before .before .before .before .before .before .before .before .before .before .before .before .before .before .before .before .before in
-    collecting-stop (accepted-wellFormed _ (k .pre .0)) (k .pre .1 .1 .1) (c .before .before .before .before .before .before .before .before .before .before .before .before .before .loop .inv .1) _ (k .pre .1 .0) (going (c .before .before .before .before .before .before .before .before .before .before .before .is-identity .ensures) (c .before .before .before .before .before .before .before .before .before .before .if1 .taken)) (c .before .before .before .before .before .before .before .add .ensures) (c .before .before .if2 .taken) (c .common .ensures)
+    collecting-stop (accepted-wellFormed _ (k .pre .0)) (k .pre .1 .1 .1) (c .before .before .before .before .before .before .before .before .before .before .before .before .before .loop .inv .1) _ (k .pre .1 .0) (going (c .before .before .before .before .before .before .before .before .before .before .before .is-identity .ensures) (c .before .before .before .before .before .before .before .before .before .before .if1 .taken)) (c .before .before .before .before .before .before .before .gather-next .ensures) (c .before .before .if2 .taken) (c .common .ensures)
 
 add-count : tie.Need-add-count Inv-loop μ-loop
 add-count c = let k = c .before .before .before .before .before .before .before .before .before .before .before .before .before .before .before .before .before .before .before .before in omega (arith, collecting-few (accepted-wellFormed _ (k .pre .0)) (k .pre .1 .1 .1) (c .before .before .before .before .before .before .before .before .before .before .before .loop .inv .1), accepted-wellFormed _ (k .pre .0) .most)
@@ -93,7 +93,7 @@ loop-again : tie.Need-loop-again Inv-loop μ-loop
 loop-again c =
     let k = c .before .before .before .before .before .before .before .before .before .before .before .before .before .before .before .before .before .before .before .before in
     let l = c .before .before .before .before .before .before .before .before .before .before .before .loop in
-    (c .before .before .before .before .before .add .kept .1 .1 .1 .0 ∙ l .inv .0, collecting-more (accepted-wellFormed _ (k .pre .0)) (k .pre .1 .1 .1) (l .inv .1) (going (c .before .before .before .before .before .before .before .before .before .is-identity .ensures) (c .before .before .before .before .before .before .before .before .if1 .taken)) (c .before .before .before .before .before .add .ensures) (c .if2 .left))
+    (c .before .before .before .before .before .gather-next .kept .1 .1 .1 .0 ∙ l .inv .0, collecting-more (accepted-wellFormed _ (k .pre .0)) (k .pre .1 .1 .1) (l .inv .1) (going (c .before .before .before .before .before .before .before .before .before .is-identity .ensures) (c .before .before .before .before .before .before .before .before .if1 .taken)) (c .before .before .before .before .before .gather-next .ensures) (c .if2 .left))
 
 same-length-3 : tie.Need-same-length-3 Inv-loop μ-loop
 same-length-3 c = c .before .before .before .loop .inv .0 ∙ c .before .before .before .before .before .before .whole-into .kept .1 .0
@@ -115,10 +115,10 @@ gather-spec =
     whole-into-requires
     loop-holds
     is-identity-requires
-    sub-add
-    part-add-start
-    part-add-end
-    add-requires
+    sub-gather-next
+    part-gather-next-start
+    part-gather-next-end
+    gather-next-requires
     common-requires
     same-length
     same-length-2

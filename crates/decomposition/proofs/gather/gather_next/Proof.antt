@@ -1,4 +1,4 @@
--- `add`: the first pair is of two elements, so Separate has a congruence for it, which is a map.
+-- `gather_next`: the first pair is of two elements, so Separate has a congruence for it, which is a map.
 use mathlib.Core.Path.{_≡_, ap}
 use native.Mathlib.Omega.{arith}
 use borrow.Author.Needs.{needs}
@@ -7,8 +7,8 @@ use Rattle.equivalence.specs.Order.{Pair, firstHeld}
 use Rattle.algebra.proofs.Accepted.{accepted-wellFormed}
 use Rattle.decomposition.proofs.Gathering.{first-below, added-written, step-stop, step-more}
 use Rattle.maplist.proofs.MapLists.{begins-written, begins-canonical}
-use Rattle.decomposition.proofs.gather.add.Statement.{statement}
-use Rattle.decomposition.proofs.gather.add.Tie as tie
+use Rattle.decomposition.proofs.gather.gather_next.Statement.{statement}
+use Rattle.decomposition.proofs.gather.gather_next.Tie as tie
 
 first-held-requires : tie.Need-first-held-requires
 first-held-requires c κs = let k = c .before .before .before .before .before in (accepted-wellFormed _ (k .pre .0) .some, (k .pre .1 .0, k .pre .1 .1 .0))
@@ -56,8 +56,8 @@ returns-2 c =
     let k = c .before .before .before .before .before .before .before .before .before .before .before .before .before .before .before .before .before .before in
     step-more _ (k .args .met .now) (k .args .map .now) (added-written _ (accepted-wellFormed _ (k .pre .0)) (k .args .met .now) (not-T-of (k .pre .1 .1 .1 .0)) _ _ (k .args .map .now) (c .before .before .before .before .before .before .before .before .before .before .before .before .first-held .ensures) (c .before .before .before .before .before .before .before .before .before .before .separated-into .ensures)) (c .before .before .before .before .before .before .is-identity .ensures) (c .before .before .before .before .before .if1 .left) (c .before .before .meet-with .ensures)
 
-pub add-spec : {M : Type 1} → statement M
-add-spec =
+pub gather-next-spec : {M : Type 1} → statement M
+gather-next-spec =
     tie.close
     (tie.spec
     first-held-requires
