@@ -5,6 +5,7 @@ ghost use lib.ListN.{length};
 ghost use Rattle.bracket.specs.Transcript.{transcript};
 ghost use Rattle.desk.specs.Writing.{Next};
 ghost use Rattle.desk.specs.InnerRoom.{Enough};
+use algebra::MAX_OPERATIONS;
 
 // One byte more than the longest text, so that a longer input shows.
 fn text_space() -> [u8; 65537]
@@ -49,7 +50,7 @@ fn run(text: &[u8], arities: &mut [u8], room: &mut [u8], out: &mut [u8]) -> usiz
 fn main() {
     let mut input = text_space();
     let length = io::read_full(0, &mut input);
-    let mut arities = [0u8; 16];
+    let mut arities = [0u8; MAX_OPERATIONS];
     let mut room = text_space();
     let mut out = out_space();
     run(&input[0..length], &mut arities, &mut room, &mut out);

@@ -11,6 +11,9 @@ ghost use Rattle.equivalence.specs.Lent.{written};
 // No element: stands where a table keeps elements, which are below 64, and none was seen yet.
 pub const NONE: u8 = 64;
 
+// How many pairs of names there are.
+const NAME_PAIRS: usize = MAX_SIZE * MAX_SIZE;
+
 // The one seen, or x where none was.
 fn first_seen(seen: u8, x: usize) -> u8
     requires { ⌜ x < 64 ⌝ }
@@ -20,7 +23,7 @@ fn first_seen(seen: u8, x: usize) -> u8
 }
 
 // Names each element by the first with its two names; `table` keeps that first one, by the two names.
-fn meet_by(n: usize, a: &[u8], b: &[u8], table: &mut [u8; 4096], out: &mut [u8])
+fn meet_by(n: usize, a: &[u8], b: &[u8], table: &mut [u8; NAME_PAIRS], out: &mut [u8])
     requires { ⌜ n ≤ 64 ⌝ }
     requires { do ⌜ n ≤ (← ⟦a.len()⟧) ⌝ }
     requires { do ⌜ n ≤ (← ⟦b.len()⟧) ⌝ }
@@ -51,7 +54,7 @@ pub fn meet_into(n: usize, a: &[u8], b: &[u8], out: &mut [u8])
     requires { ⌜ Canonical n (byte (now b)) ⌝ }
     ensures { λ _. ⌜ now (out .exit) ≡ written (meet n (now (a .entry)) (now (b .entry))) (now (out .entry)) ⌝ }
 {
-    let mut table = [NONE; 4096];
+    let mut table = [NONE; NAME_PAIRS];
     meet_by(n, a, b, &mut table, out);
 }
 

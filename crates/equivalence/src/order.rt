@@ -7,9 +7,10 @@ ghost use Rattle.equivalence.specs.Order.{firstHeld, notLater, rowStart}
 ghost use Rattle.kernel.specs.InnerSearch.{foremost};
 use crate::Pair;
 use crate::blocks;
+use crate::checks::MAX_SIZE;
 
 // The number of pairs of 64 elements in the rows before row x: row i has 63 - i pairs.
-const ROW_STARTS: [usize; 64] = [
+const ROW_STARTS: [usize; MAX_SIZE] = [
     0,
     63,
     125,

@@ -7,6 +7,7 @@ ghost use Rattle.kernel.specs.InnerKernel.{Canonical};
 ghost use Rattle.equivalence.specs.Lent.{written, laid};
 ghost use Rattle.maplist.specs.InnerMapLists.{mapList, MapsListed, SuffixMeets};
 use equivalence::blocks::copy;
+use equivalence::checks::MAX_SIZE;
 use equivalence::lattice::meet_into;
 use equivalence::map::is_identity;
 
@@ -31,7 +32,7 @@ pub fn meet_with(n: usize, map: &[u8], met: &mut [u8])
     requires { ⌜ Canonical n (byte (now met)) ⌝ }
     ensures { λ _. ⌜ now (met .exit) ≡ written (meet n (now (met .entry)) (now (map .entry))) (now (met .entry)) ⌝ }
 {
-    let mut new = [0u8; 64];
+    let mut new = [0u8; MAX_SIZE];
     meet_into(n, met, map, &mut new);
     copy(n, &new, met);
 }
@@ -45,7 +46,7 @@ pub fn meets_in_identity(n: usize, a: &[u8], b: &[u8]) -> bool
     requires { ⌜ Canonical n (byte (now b)) ⌝ }
     ensures { λ r. ⌜ r ≡ isIdentity n (meet n (now (a .entry)) (now (b .entry))) ⌝ }
 {
-    let mut new = [0u8; 64];
+    let mut new = [0u8; MAX_SIZE];
     meet_into(n, a, b, &mut new);
     is_identity(n, &new)
 }

@@ -12,6 +12,9 @@ use image::LENGTH as IMAGE_LENGTH;
 
 mod numbers;
 
+// The answer to an image of another length.
+const OTHER_LENGTH: u32 = 255;
+
 // Meet: the reason.
 #[no_mangle]
 pub extern "C" fn probe_meet(n: usize, a: &[u8], b: &[u8], out: &mut [u8]) -> u32
@@ -77,7 +80,7 @@ pub extern "C" fn probe_bench_start(n: usize, bytes: &mut [u8]) -> u32
     ensures { λ r. ⌜ (r, now (bytes .exit)) ≡ imageCall (λ _. startCall n) (now (bytes .entry)) ⌝ }
 {
     if bytes.len() != IMAGE_LENGTH {
-        return 255;
+        return OTHER_LENGTH;
     }
     let done = bench::start(n);
     let after = done.bench;
@@ -100,7 +103,7 @@ pub extern "C" fn probe_bench_add(
     ensures { λ r. ⌜ (r, now (bytes .exit)) ≡ imageCall (λ b. addCall b (algebraIn n (arities .entry) (cells .entry)) sheet x y) (now (bytes .entry)) ⌝ }
 {
     if bytes.len() != IMAGE_LENGTH {
-        return 255;
+        return OTHER_LENGTH;
     }
     let before = image::read(bytes);
     let done = bench::add(before, n, arities, cells, sheet, x, y);
@@ -116,7 +119,7 @@ pub extern "C" fn probe_bench_clear(bytes: &mut [u8], sheet: usize) -> u32
     ensures { λ r. ⌜ (r, now (bytes .exit)) ≡ imageCall (λ b. clearCall b sheet) (now (bytes .entry)) ⌝ }
 {
     if bytes.len() != IMAGE_LENGTH {
-        return 255;
+        return OTHER_LENGTH;
     }
     let before = image::read(bytes);
     let done = bench::clear(before, sheet);

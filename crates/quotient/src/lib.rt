@@ -8,6 +8,7 @@ ghost use Rattle.equivalence.specs.Lent.{written};
 ghost use Rattle.algebra.specs.Algebra.{algebraIn, cellCount};
 ghost use Rattle.algebra.specs.Accepted.{Accepted};
 ghost use Rattle.quotient.specs.Quotient.{quotientCells};
+use equivalence::checks::MAX_SIZE;
 
 pub mod numbers;
 pub mod tables;
@@ -24,8 +25,8 @@ pub fn divide(n: usize, arities: &[u8], cells: &[u8], map: &[u8], out: &mut [u8]
     ensures { λ r. ⌜ now (out .exit) ≡ written (quotientCells (algebraIn n (arities .entry) (cells .entry)) (now (map .entry))) (now (out .entry)) ⌝ }
     ensures { λ r. ⌜ r ≡ blocks n (now (map .entry)) ⌝ }
 {
-    let mut block_numbers = [0; 64];
-    let mut names = [0; 64];
+    let mut block_numbers = [0; MAX_SIZE];
+    let mut names = [0; MAX_SIZE];
     let b = numbers::number_blocks(n, map, &mut block_numbers, &mut names);
     tables::divide_tables(n, arities, cells, &block_numbers, &names[0..b], out);
     b as u8

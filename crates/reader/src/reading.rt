@@ -7,6 +7,9 @@ ghost use Rattle.reader.specs.Numbers.{digitAt, number};
 ghost use Rattle.reader.specs.Tables.{cell, table, parted, items};
 ghost use Rattle.reader.specs.InnerPromises.{GapRead, NumberRead, RoomFor, RoomForText, StoredBy};
 
+// The largest number in a text.
+const MAX_NUMBER: u16 = 255;
+
 // A number that was read, and the place after it; where `ok` is false, nothing.
 pub struct Number {
     pub ok: bool,
@@ -107,7 +110,7 @@ pub fn read_number(text: &[u8], at: usize) -> Number
         };
     }
     let three = 10 * (two as u16) + c as u16;
-    if 255 < three {
+    if MAX_NUMBER < three {
         return none;
     }
     Number {
