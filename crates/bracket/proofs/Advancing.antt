@@ -38,7 +38,7 @@ choice-ahead at false p q h k = k
 pub step-ahead : (text : List ℕ) (s : State) → Ahead (s .at) (step text s)
 unfolding step operationStep requestStep
 step-ahead text s =
-    choice-ahead (s .at) (not (s .asked) && begins text (s .at) (ascii "[op")) (operationStep text s) (requestStep text s)
+    choice-ahead (s .at) (not (s .requested) && begins text (s .at) (ascii "[op")) (operationStep text s) (requestStep text s)
     (line-ahead (s .at) (operation (s .algebra) text (s .at + 3)) (operation-further (s .algebra) text (s .at + 3)))
     (request-ahead (s .at) (s .algebra) (request text (s .at)) (request-forward text (s .at)))
 
@@ -70,6 +70,6 @@ first-accepted text =
 pub step-accepted : (text : List ℕ) (s : State) → Accepted (s .algebra) → AcceptedAfter (step text s)
 unfolding step operationStep requestStep
 step-accepted text s w =
-    choice-accepted (not (s .asked) && begins text (s .at) (ascii "[op")) (operationStep text s) (requestStep text s)
+    choice-accepted (not (s .requested) && begins text (s .at) (ascii "[op")) (operationStep text s) (requestStep text s)
     (line-accepted (operation (s .algebra) text (s .at + 3)) (operation-accepted (s .algebra) text (s .at + 3) w))
     (request-accepted (s .algebra) (request text (s .at)) w)

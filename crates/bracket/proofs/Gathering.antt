@@ -24,7 +24,7 @@ use Rattle.bracket.proofs.Fills.{after-midway, after-over, distance, st
 
 -- a standing whose run is over
 abbrev stopped : Standing → Standing
-stopped s = record { goes = false; at = s .at; size = s .size; operations = s .operations; cells = s .cells; asked = s .asked }
+stopped s = record { goes = false; at = s .at; size = s .size; operations = s .operations; cells = s .cells; requested = s .requested }
 
 pub closed-open : (s : Standing) (end : ℕ) → s .at < end → s ≡ closedAt s end
 unfolding closedAt

@@ -115,7 +115,7 @@ module _ (text : List ℕ) (s : Standing) (arities room lent arities′ room′ 
 
 -- a run behind a request line
 abbrev behindRequest : Standing → RequestLine → Standing
-behindRequest s l = record { goes = l .ok; at = l .next; size = s .size; operations = s .operations; cells = s .cells; asked = true }
+behindRequest s l = record { goes = l .ok; at = l .next; size = s .size; operations = s .operations; cells = s .cells; requested = true }
 
 -- a request line that was read
 module _ (text : List ℕ) (s : Standing) (arities room lent : List ℕ) (sound : Sound text s) (w : Lent text arities room lent)
@@ -159,11 +159,11 @@ request-keeps text s arities room after l r =
 
 -- which step a line takes
 module _ (text : List ℕ) (s : State) where
-  asked-request : s .asked ≡ true → step text s ≡ requestStep text s
+  requested-step : s .requested ≡ true → step text s ≡ requestStep text s
   unfolding step
-  asked-request e = simp (step, e)
+  requested-step e = simp (step, e)
 
-  module _ (e : s .asked ≡ false) (b : Bool) (eb : b ≡ begins text (s .at) (ascii "[op")) where
+  module _ (e : s .requested ≡ false) (b : Bool) (eb : b ≡ begins text (s .at) (ascii "[op")) where
     word-operation : b ≡ true → step text s ≡ operationStep text s
     unfolding step
     word-operation h = simp (step, e, ← eb, h)
@@ -193,11 +193,11 @@ module _ (text : List ℕ) (s : Standing) (arities room : List ℕ) (g : s .goes
     step-first e q = rw (due-first e, e) (q arities′ room′)
 
     module _ (h : s .at ≡ 0 → ⊥) where
-      pub step-asked : s .asked ≡ true → Stepping text (s .at) (requestStep text (stateOf s arities room)) lent arities′ room′ out r
+      pub step-requested : s .requested ≡ true → Stepping text (s .at) (requestStep text (stateOf s arities room)) lent arities′ room′ out r
           → Stepping text (s .at) (due text (positionOf s arities room)) lent arities′ room′ out r
-      step-asked e q = rw (due-step (omega arith) ∙ asked-request text (stateOf s arities room) e) q
+      step-requested e q = rw (due-step (omega arith) ∙ requested-step text (stateOf s arities room) e) q
 
-      module _ (e : s .asked ≡ false) (b : Bool) (eb : b ≡ begins text (s .at) (ascii "[op")) where
+      module _ (e : s .requested ≡ false) (b : Bool) (eb : b ≡ begins text (s .at) (ascii "[op")) where
         pub step-operation : b ≡ true → Stepping text (s .at) (operationStep text (stateOf s arities room)) lent arities′ room′ out r
             → Stepping text (s .at) (due text (positionOf s arities room)) lent arities′ room′ out r
         step-operation k q = rw (due-step (omega arith) ∙ word-operation text (stateOf s arities room) e b eb k) q

@@ -55,7 +55,7 @@ FirstStepIn text lent out r = (arities room : List ℕ) → Stepping (now text) 
 
 -- where a run stands behind the lines of its algebra, before any request; it goes on, or it is over
 abbrev pub behindLines : Bool → AlgebraSoFar → Standing
-behindLines b a = record { goes = b; at = a .at; size = a .size; operations = a .operations; cells = a .cells; asked = false }
+behindLines b a = record { goes = b; at = a .at; size = a .size; operations = a .operations; cells = a .cells; requested = false }
 
 -- what a line of the algebra writes: nothing, or its refusal
 abbrev pub pieceFor : Check → List ℕ
@@ -70,7 +70,7 @@ pub record AfterLine (l : LineTaken) (lent out : List ℕ) (r : Stepped) : Type 
 -- a standing in a text of so many bytes: at the end of the text the run is over
 unfoldable pub closedAt : Standing → ℕ → Standing
 closedAt s end =
-    elim (ltb (s .at) end) [ true ↦ s | false ↦ record { goes = false; at = s .at; size = s .size; operations = s .operations; cells = s .cells; asked = s .asked } ]
+    elim (ltb (s .at) end) [ true ↦ s | false ↦ record { goes = false; at = s .at; size = s .size; operations = s .operations; cells = s .cells; requested = s .requested } ]
 
 -- one line was taken: what it writes was laid, and nothing after it
 pub record Lined (text : List ℕ) (s : Standing) (arities room lent arities′ room′ out : List ℕ) (r : Stepped) : Type 0 where

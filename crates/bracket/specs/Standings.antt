@@ -16,7 +16,7 @@ use Rattle.bracket.specs.declared.run.Stepped.{Stepped}
 -- the state that a standing and the lent slices make
 abbrev pub stateOf : Standing → List ℕ → List ℕ → State
 stateOf s arities room =
-    record { at = s .at; algebra = algebraOf (s .size) (take (s .operations) arities) (take (s .cells) room); asked = s .asked }
+    record { at = s .at; algebra = algebraOf (s .size) (take (s .operations) arities) (take (s .cells) room); requested = s .requested }
 
 -- the position of a run that goes on or not, with its next line at this byte
 abbrev pub positionBy : Bool → ℕ → State → Position
@@ -56,7 +56,7 @@ pub record Filling (text : List ℕ) (s : Standing) (arities room lent arities�
 
 -- a run of which no line is read; it goes on, or it is over
 abbrev pub unread : Bool → Standing
-unread b = record { goes = b; at = 0; size = 1; operations = 0; cells = 0; asked = false }
+unread b = record { goes = b; at = 0; size = 1; operations = 0; cells = 0; requested = false }
 
 -- the run goes on, from a standing that a run over a text of so many bytes can come to, and slices of these lengths are enough
 unfoldable pub canFill : ℕ → Standing → ℕ → ℕ → ℕ → Bool

@@ -19,7 +19,7 @@ textLimit = 65536
 pub record State : Type 0 where
   pub at : ℕ
   pub algebra : Algebra
-  pub asked : Bool
+  pub requested : Bool
 
 -- what a line comes to: it writes, and the run goes on from a state, or ends
 pub data Step : Type 0 where
@@ -28,12 +28,12 @@ pub data Step : Type 0 where
 
 -- a line of the algebra writes nothing; a refusal of one ends the run
 unfoldable pub afterLine : Progress → Step
-afterLine (defined a at) = goes [] (record { at = at; algebra = a; asked = false })
+afterLine (defined a at) = goes [] (record { at = at; algebra = a; requested = false })
 afterLine (refused r) = ends (refusedLine r)
 
 -- a request is answered, also by a refusal, and the run goes on; a faulty line ends it
 unfoldable pub afterRequest : Algebra → Read Request → Step
-afterRequest a (found q at) = goes (answer a (q .asked) (q .numbers)) (record { at = at; algebra = a; asked = true })
+afterRequest a (found q at) = goes (answer a (q .asked) (q .numbers)) (record { at = at; algebra = a; requested = true })
 afterRequest a fault = ends (refusedLine Text)
 
 -- the first line, which is the size line; a text of more than 65,536 bytes is refused before it is read
@@ -51,7 +51,7 @@ requestStep text s = afterRequest (s .algebra) (request text (s .at))
 -- a line after the first: an operation, while no request has come, or a request
 unfoldable pub step : List ℕ → State → Step
 step text s =
-    elim (not (s .asked) && begins text (s .at) (ascii "[op")) [ true ↦ operationStep text s | false ↦ requestStep text s ]
+    elim (not (s .requested) && begins text (s .at) (ascii "[op")) [ true ↦ operationStep text s | false ↦ requestStep text s ]
 
 -- what a line writes, and what the rest of the run writes after it
 unfoldable pub output : Step → (State → List ℕ) → List ℕ

@@ -18,7 +18,7 @@ pub struct Standing {
     pub size: u8,
     pub operations: usize,
     pub cells: usize,
-    pub asked: bool,
+    pub requested: bool,
 }
 
 // Where the run stands after some lines, and how many bytes they wrote.
@@ -37,7 +37,7 @@ pub fn unread(goes: bool) -> Standing
         size: 1,
         operations: 0,
         cells: 0,
-        asked: false,
+        requested: false,
     }
 }
 
@@ -54,7 +54,7 @@ fn closed(standing: Standing, end: usize) -> Standing
         size: standing.size,
         operations: standing.operations,
         cells: standing.cells,
-        asked: standing.asked,
+        requested: standing.requested,
     }
 }
 

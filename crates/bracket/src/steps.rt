@@ -31,7 +31,7 @@ fn behind_lines(goes: bool, algebra: AlgebraSoFar) -> Standing
         size: algebra.size,
         operations: algebra.operations,
         cells: algebra.cells,
-        asked: false,
+        requested: false,
     }
 }
 
@@ -119,7 +119,7 @@ fn request_step(
         size: standing.size,
         operations,
         cells,
-        asked: true,
+        requested: true,
     };
     if !line.ok {
         let wrote = write_refused(equivalence::Refusal::Text, out);
@@ -159,7 +159,7 @@ pub fn next_step(
     if standing.at == 0 {
         return first_step(text, out);
     }
-    if standing.asked {
+    if standing.requested {
         return request_step(text, standing, arities, room, out);
     }
     if begins_with(text, standing.at, b"[op") {

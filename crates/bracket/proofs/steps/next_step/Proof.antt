@@ -1,6 +1,6 @@
 -- `steps::next_step` meets its contract, by the laws of Stepping.
 use Rattle.reader.specs.Reading.{ascii}
-use Rattle.bracket.proofs.Stepping.{step-first, step-asked, step-operation, step-request, first-keeps, operation-room}
+use Rattle.bracket.proofs.Stepping.{step-first, step-requested, step-operation, step-request, first-keeps, operation-room}
 use borrow.Author.Needs.{needs}
 use Rattle.bracket.proofs.steps.next_step.Statement.{statement}
 use Rattle.bracket.proofs.steps.next_step.Tie as tie
@@ -28,7 +28,7 @@ same-length-4 c = search needs
 
 returns-2 : tie.Need-returns-2
 unfolding ascii
-returns-2 c = (search step-asked, search needs)
+returns-2 c = (search step-requested, search needs)
 
 slice-aggregate-begins-with : tie.Need-slice-aggregate-begins-with
 slice-aggregate-begins-with c = search needs
