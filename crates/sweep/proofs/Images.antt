@@ -1,5 +1,5 @@
 -- The cells of a table against the results of its operation: a pass over the lines and planes of a table joins all images whose other
--- arguments are listed. And images: they are elements, and what joins them keeps joining them.
+-- arguments are listed. And images: what joins them keeps joining them.
 use Prim.Native.Nat.{ℕ, zero, suc, _+_, _*_, _≤_, _<_}
 use mathlib.Core.List.{List, [], _∷_, _++_}
 use mathlib.Core.Path.{_≡_, refl, sym, ap, subst, _∙_, subst₂}
