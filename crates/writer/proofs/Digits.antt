@@ -5,6 +5,7 @@ use mathlib.Core.Path.{_≡_, refl, ap, _∙_}
 use native.Mathlib.Decide.{decLt}
 use native.Mathlib.Omega.{arith}
 use borrow.Author.Tests.{lt-ltb, le-ltb}
+use lib.ListN.{length, length-append}
 use Rattle.writer.specs.Numerals.{digits, decimal}
 
 -- the last digit left
@@ -37,6 +38,15 @@ decimal-three v g h =
     ∙ ap (λ (k : ℕ). digits k (v / 10) ++ ((48 + v % 10) ∷ [])) e
     ∙ ap (λ (l : List ℕ). l ++ ((48 + v % 10) ∷ [])) (digits-two (v - 2) (v / 10) (omega arith) (omega arith))
     ∙ ap (λ (x : ℕ). (48 + x) ∷ (48 + v / 10 % 10) ∷ (48 + v % 10) ∷ []) d
+
+-- a number has a digit at least
+pub decimal-some : (v : ℕ) → 0 < length (decimal v)
+unfolding decimal
+decimal-some v =
+    elim (decLt v 10) [
+      | yes h ↦ rw (digits-last v v h) (omega arith)
+      | no h ↦ rw (digits-more v v (omega arith), length-append (digits v (v / 10)) ((48 + v % 10) ∷ [])) (omega arith)
+    ]
 
 -- the value of bytes that are digits, behind digits of this value
 unfoldable pub valueFrom : ℕ → List ℕ → ℕ

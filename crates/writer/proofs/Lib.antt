@@ -1,3 +1,4 @@
 pub mod Digits
 pub mod Spacing
 pub mod Numerals
+pub mod Lengths

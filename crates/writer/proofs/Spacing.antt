@@ -35,7 +35,7 @@ pub record Spaced (lent : List ℕ) (put : ℕ) (m out : List ℕ) (at i : ℕ) 
   pub short : at ≤ put + 4 * i
   pub laid : Laid lent put (spaced (take i m)) out at
 
-module _ (lent : List ℕ) (put : ℕ) (m : List ℕ) (room : put + 4 * length m ≤ length lent) where
+module _ (lent : List ℕ) (put : ℕ) (m : List ℕ) (room : put + length (spaced m) + 2 ≤ length lent) where
   pub spaced-start : Spaced lent put m lent put 0
   unfolding spaced
   spaced-start = record { passed = omega arith; short = omega arith; laid = laid-none lent put (omega arith) }
@@ -170,7 +170,7 @@ pub record MapsWritten (lent : List ℕ) (put n : ℕ) (maps out : List ℕ) (at
 -- there is a map more to read, and room to write it
 pub record OneMore (n : ℕ) (maps out : List ℕ) (at from : ℕ) : Type 0 where
   pub source : from + n ≤ length maps
-  pub room : at + 4 * n + 2 ≤ length out
+  pub room : at + 4 * n + 3 ≤ length out
 
 module _ (lent : List ℕ) (put n : ℕ) (maps : List ℕ) where
   pub maps-written-none : put ≤ length lent → MapsWritten lent put n maps lent put 0 0
@@ -178,7 +178,7 @@ module _ (lent : List ℕ) (put n : ℕ) (maps : List ℕ) where
   maps-written-none h = record { place = omega (arith, zero-mul n); short = omega arith; laid = laid-none lent put h }
 
   module _ (out : List ℕ) (at from i : ℕ) (p : MapsWritten lent put n maps out at from i) where
-    pub maps-written-room : (count : ℕ) → i < count → put + count * (4 * n + 2) ≤ length lent → count * n ≤ length maps → OneMore n maps out at from
+    pub maps-written-room : (count : ℕ) → i < count → put + count * (4 * n + 2) + 1 ≤ length lent → count * n ≤ length maps → OneMore n maps out at from
     maps-written-room count h r s =
         omega (arith, p .place, p .short, p .laid .long, part-more i count n h, part-more i count (4 * n + 2) h)
 

@@ -11,7 +11,7 @@ ghost use Rattle.reader.specs.Laying.{Laid};
 ghost use Rattle.writer.specs.InnerRoom.{LaidLine, FactorsRoom};
 
 // One byte.
-fn write_byte(b: u8, out: &mut [u8], put: usize) -> usize
+pub fn write_byte(b: u8, out: &mut [u8], put: usize) -> usize
     requires { ⌜ put < length (now out) ⌝ }
     ensures { λ r. ⌜ Laid (now (out .entry)) put (b ∷ []) (now (out .exit)) r ⌝ }
 {
@@ -20,7 +20,7 @@ fn write_byte(b: u8, out: &mut [u8], put: usize) -> usize
 }
 
 // The bytes of a word.
-fn write_word(word: &[u8], out: &mut [u8], put: usize) -> usize
+pub fn write_word(word: &[u8], out: &mut [u8], put: usize) -> usize
     requires { ⌜ put + length (now word) ≤ length (now out) ⌝ }
     ensures { λ r. ⌜ Laid (now (out .entry)) put (now (word .entry)) (now (out .exit)) r ⌝ }
 {
@@ -51,7 +51,7 @@ pub fn write_number(v: u8, out: &mut [u8], put: usize) -> usize
 }
 
 // What stands between two items.
-fn write_gap(out: &mut [u8], put: usize) -> usize
+pub fn write_gap(out: &mut [u8], put: usize) -> usize
     requires { ⌜ put < length (now out) ⌝ }
     ensures { λ r. ⌜ Laid (now (out .entry)) put gapBytes (now (out .exit)) r ⌝ }
     ensures short { λ r. ⌜ r ≤ put + 1 ⌝ }
@@ -60,7 +60,7 @@ fn write_gap(out: &mut [u8], put: usize) -> usize
 }
 
 // A number after a gap.
-fn write_spaced_number(v: u8, out: &mut [u8], put: usize) -> usize
+pub fn write_spaced_number(v: u8, out: &mut [u8], put: usize) -> usize
     requires { ⌜ put + 4 ≤ length (now out) ⌝ }
     ensures { λ r. ⌜ Laid (now (out .entry)) put (spaced (v ∷ [])) (now (out .exit)) r ⌝ }
     ensures short { λ r. ⌜ r ≤ put + 4 ⌝ }
@@ -71,7 +71,7 @@ fn write_spaced_number(v: u8, out: &mut [u8], put: usize) -> usize
 
 // Numbers, each after a space.
 fn write_spaced(m: &[u8], out: &mut [u8], put: usize) -> usize
-    requires { ⌜ put + 4 * length (now m) ≤ length (now out) ⌝ }
+    requires { ⌜ put + length (spaced (now m)) + 2 ≤ length (now out) ⌝ }
     ensures { λ r. ⌜ Laid (now (out .entry)) put (spaced (now (m .entry))) (now (out .exit)) r ⌝ }
     ensures short { λ r. ⌜ r ≤ put + 4 * length (now (m .entry)) ⌝ }
 {
@@ -85,8 +85,8 @@ fn write_spaced(m: &[u8], out: &mut [u8], put: usize) -> usize
 }
 
 // Numbers in a bracket, parted by one space.
-fn write_bracketed(m: &[u8], out: &mut [u8], put: usize) -> usize
-    requires { ⌜ (0 < length (now m)) × (put + 4 * length (now m) + 1 ≤ length (now out)) ⌝ }
+pub fn write_bracketed(m: &[u8], out: &mut [u8], put: usize) -> usize
+    requires { ⌜ (0 < length (now m)) × (put + length (bracketed (now m)) + 1 ≤ length (now out)) ⌝ }
     ensures { λ r. ⌜ Laid (now (out .entry)) put (bracketed (now (m .entry))) (now (out .exit)) r ⌝ }
     ensures short { λ r. ⌜ r ≤ put + 4 * length (now (m .entry)) + 1 ⌝ }
 {
@@ -98,7 +98,7 @@ fn write_bracketed(m: &[u8], out: &mut [u8], put: usize) -> usize
 
 // Numbers in a bracket after a space.
 fn write_spaced_bracket(m: &[u8], out: &mut [u8], put: usize) -> usize
-    requires { ⌜ (0 < length (now m)) × (put + 4 * length (now m) + 2 ≤ length (now out)) ⌝ }
+    requires { ⌜ (0 < length (now m)) × (put + 4 * length (now m) + 3 ≤ length (now out)) ⌝ }
     ensures { λ r. ⌜ Laid (now (out .entry)) put (spacedBrackets (now (m .entry) ∷ [])) (now (out .exit)) r ⌝ }
     ensures short { λ r. ⌜ r ≤ put + 4 * length (now (m .entry)) + 2 ⌝ }
 {
@@ -108,7 +108,7 @@ fn write_spaced_bracket(m: &[u8], out: &mut [u8], put: usize) -> usize
 
 // Lists of n numbers that follow each other, each in a bracket after a space.
 fn write_maps(n: usize, count: usize, maps: &[u8], out: &mut [u8], put: usize) -> usize
-    requires { ⌜ ((0 < n) × (put + count * (4 * n + 2) ≤ length (now out))) × (count * n ≤ length (now maps)) ⌝ }
+    requires { ⌜ ((0 < n) × (put + count * (4 * n + 2) + 1 ≤ length (now out))) × (count * n ≤ length (now maps)) ⌝ }
     ensures { λ r. ⌜ Laid (now (out .entry)) put (spacedBrackets (map (stretch n (now (maps .entry))) (upTo count))) (now (out .exit)) r ⌝ }
     ensures short { λ r. ⌜ r ≤ put + count * (4 * n + 2) ⌝ }
 {
@@ -125,7 +125,7 @@ fn write_maps(n: usize, count: usize, maps: &[u8], out: &mut [u8], put: usize) -
 }
 
 // The end of a line.
-fn write_close(out: &mut [u8], put: usize) -> usize
+pub fn write_close(out: &mut [u8], put: usize) -> usize
     requires { ⌜ put + 2 ≤ length (now out) ⌝ }
     ensures { λ r. ⌜ Laid (now (out .entry)) put (ascii "]\n") (now (out .exit)) r ⌝ }
 {

@@ -1,6 +1,9 @@
 -- `write_map` meets its contract, by the laws of Spacing.
 use Rattle.writer.proofs.Spacing.{line-written}
 use Rattle.reader.specs.Reading.{ascii}
+use denote.Ref.{now}
+use native.Mathlib.Omega.{arith}
+use Rattle.writer.proofs.Lengths.{spaced-short}
 use borrow.Author.Needs.{needs}
 use Rattle.writer.proofs.write_map.Statement.{statement}
 use Rattle.writer.proofs.write_map.Tie as tie
@@ -12,7 +15,9 @@ write-word-requires : tie.Need-write-word-requires
 write-word-requires c κs = search needs
 
 write-spaced-requires : tie.Need-write-spaced-requires
-write-spaced-requires c κs = search needs
+write-spaced-requires c κs =
+    let k = c .before .before .before .before .before .before .before in
+    omega (arith, spaced-short (now (k .before .args .m)) (λ i. omega (arith, k .shared-slice-known .given i)))
 
 write-close-requires : tie.Need-write-close-requires
 write-close-requires c κs = search needs

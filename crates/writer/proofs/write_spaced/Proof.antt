@@ -1,6 +1,7 @@
 -- `write_spaced` meets its contract, by the laws of Spacing.
 use native.Mathlib.Omega.{arith}
 use Rattle.writer.proofs.Spacing.{Spaced, spaced-start, spaced-more, spaced-all}
+use Rattle.writer.proofs.Lengths.{spaced-fits}
 use borrow.Author.Needs.{needs}
 use Prim.Native.Nat.{_-_}
 use lib.ListN.{length}
@@ -21,7 +22,7 @@ shared-slice-read-write-spaced-number :
 shared-slice-read-write-spaced-number c = search needs
 
 write-spaced-number-requires : tie.Need-write-spaced-number-requires Inv-loop μ-loop
-write-spaced-number-requires c κs = search needs
+write-spaced-number-requires c κs = search spaced-fits
 
 add-i : tie.Need-add-i Inv-loop μ-loop
 add-i c = search needs

@@ -1,0 +1,91 @@
+-- How long what is written is: a number has one digit at least, and a byte three at most.
+use Prim.Native.Nat.{ℕ, suc, _+_, _-_, _*_, _≤_, _<_}
+use mathlib.Core.List.{List, [], _∷_, _++_}
+use mathlib.Core.Path.{_≡_, refl, ap, sym, _∙_}
+use native.Mathlib.Decide.{decLt}
+use native.Mathlib.Omega.{arith}
+use lib.ListN.{length, getD, take, drop, length-append, length-drop, take-append-drop}
+use lib.Seq.{drop-cons, take-all}
+use Rattle.reader.specs.Reading.{ascii}
+use Rattle.reader.specs.Laying.{Laid}
+use Rattle.writer.specs.Numerals.{decimal}
+use Rattle.writer.specs.Lines.{gapBytes, spaced, bracketed}
+use Rattle.writer.proofs.Digits.{decimal-one, decimal-two, decimal-three, decimal-some}
+use Rattle.writer.proofs.Spacing.{Spaced, spaced-append, bracketed-parts}
+
+-- one digit below 10, two from there on
+pub one-digit : (v : ℕ) → v < 10 → length (decimal v) ≡ 1
+one-digit v h = ap length (decimal-one v h)
+
+pub two-digits : (v : ℕ) → 10 ≤ v → v < 100 → length (decimal v) ≡ 2
+two-digits v g h = ap length (decimal-two v g h)
+
+-- three digits at most for a byte
+pub decimal-short : (v : ℕ) → v ≤ 255 → length (decimal v) ≤ 3
+decimal-short v h =
+    elim (decLt v 10) [
+      | yes l ↦ omega (arith, one-digit v l)
+      | no l ↦ elim (decLt v 100) [
+        | yes k ↦ omega (arith, two-digits v (omega arith) k)
+        | no k ↦ omega (arith, ap length (decimal-three v (omega arith) (omega arith)))
+      ]
+    ]
+
+pub spaced-length : (x : ℕ) (rest : List ℕ) → length (spaced (x ∷ rest)) ≡ 1 + length (decimal x) + length (spaced rest)
+unfolding spaced gapBytes ascii
+spaced-length x rest = omega (arith, length-append (decimal x) (spaced rest))
+
+-- numbers that are bytes
+abbrev pub Bytes : List ℕ → Type 0
+Bytes m = (i : ℕ) → getD m i 0 ≤ 255
+
+pub spaced-short : (m : List ℕ) → Bytes m → length (spaced m) ≤ 4 * length m
+unfolding spaced
+spaced-short [] b = omega arith
+spaced-short (x ∷ rest) b =
+    omega (arith, spaced-length x rest, decimal-short x (b 0), spaced-short rest (λ i. b (suc i)))
+
+-- a bracket, its numbers as a slice has them
+pub bracketed-length : (m : List ℕ) → 0 < length m
+    → length (bracketed m) ≡ 2 + length (decimal (getD m 0 0)) + length (spaced (take (length m - 1) (drop 1 m)))
+bracketed-length m h =
+    let e : take (length m - 1) (drop 1 m) ≡ drop 1 m = take-all (length m - 1) (drop 1 m) (rw length-drop (omega arith)) in
+    rw (bracketed-parts m h, e)
+    (omega (arith, length-append (decimal (getD m 0 0)) (spaced (drop 1 m) ++ (93 ∷ [])), length-append (spaced (drop 1 m)) (93 ∷ [])))
+
+pub bracketed-short : (m : List ℕ) → 0 < length m → Bytes m → length (bracketed m) ≤ 4 * length m + 1
+unfolding bracketed ascii
+bracketed-short [] h b = absurd (omega arith)
+bracketed-short (x ∷ rest) h b =
+    omega (
+      arith,
+      length-append (decimal x ++ spaced rest) (93 ∷ []),
+      length-append (decimal x) (spaced rest),
+      decimal-short x (b 0),
+      spaced-short rest (λ i. b (suc i)),
+    )
+
+-- behind the first i numbers there is room for another, where there is room for all of them and two bytes more
+spaced-room : (m : List ℕ) (i : ℕ) → i < length m → length (spaced (take i m)) + 2 ≤ length (spaced m)
+spaced-room m i h =
+    let e : spaced m ≡ spaced (take i m) ++ spaced (getD m i 0 ∷ drop (suc i) m) =
+    ap spaced (sym (take-append-drop i m)) ∙ spaced-append (take i m) (drop i m) ∙ ap (λ (l : List ℕ). spaced (take i m) ++ spaced l) (drop-cons m i 0 h) in
+    let x = getD m i 0 in
+    omega (arith, ap length e, length-append (spaced (take i m)) (spaced (x ∷ drop (suc i) m)), spaced-length x (drop (suc i) m), decimal-some x)
+
+pub spaced-fits : (lent : List ℕ) (put : ℕ) (m out : List ℕ) (at i : ℕ) → put + length (spaced m) + 2 ≤ length lent → Spaced lent put m out at i → i < length m
+    → at + 4 ≤ length out
+spaced-fits lent put m out at i room p h = omega (arith, room, p .laid .place, p .laid .long, spaced-room m i h)
+
+-- a bracket, piece by piece: there is room for each
+module _ (m lent : List ℕ) (put : ℕ) (some : 0 < length m) (room : put + length (bracketed m) + 1 ≤ length lent) (mid : List ℕ) (at : ℕ)
+    (p : Laid lent put (91 ∷ []) mid at) where
+  pub bracket-number-fits : at + 3 ≤ length mid
+  bracket-number-fits = omega (arith, room, bracketed-length m some, decimal-some (getD m 0 0), p .place, p .long)
+
+  module _ (mid′ : List ℕ) (at′ : ℕ) (q : Laid mid at (decimal (getD m 0 0)) mid′ at′) where
+    pub bracket-rest-fits : at′ + length (spaced (take (length m - 1) (drop 1 m))) + 2 ≤ length mid′
+    bracket-rest-fits = omega (arith, room, bracketed-length m some, p .place, p .long, q .place, q .long)
+
+    pub bracket-end-fits : (mid″ : List ℕ) (at″ : ℕ) → Laid mid′ at′ (spaced (take (length m - 1) (drop 1 m))) mid″ at″ → at″ < length mid″
+    bracket-end-fits mid″ at″ r = omega (arith, room, bracketed-length m some, p .place, p .long, q .place, q .long, r .place, r .long)
