@@ -1,0 +1,4 @@
+pub mod TextLengths
+pub mod Counting
+pub mod Tabling
+pub mod Lining

@@ -1,1 +1,3 @@
 pub mod Texts
+pub mod InnerFits
+pub mod InnerLengths

@@ -1,1 +1,5 @@
-// Writing the lines of an algebra: tables, operation lines, the whole text and its length.
+// Writing the lines of an algebra: tables, the lines themselves, and how long they are before the first byte is written.
+
+pub mod lengths;
+pub mod lines;
+pub mod tables;

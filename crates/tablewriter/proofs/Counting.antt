@@ -1,0 +1,130 @@
+-- The text's length, summed up: digits of the first numbers, brackets and gaps of the first arities.
+use Prim.Native.Nat.{ℕ, zero, suc, _+_, _*_, _≤_, _<_}
+use mathlib.Core.List.{List, [], _∷_, _++_}
+use mathlib.Core.Path.{_≡_, refl, ap, sym, _∙_}
+use native.Mathlib.Decide.{decLt}
+use native.Mathlib.Nat.{mul-zero, mul-le-mul}
+use native.Mathlib.Numerals.{add-one}
+use native.Mathlib.Omega.{arith}
+use lib.ListN.{length, getD, take}
+use lib.Seq.{take-suc, take-all}
+use Rattle.algebra.specs.Algebra.{algebraOf, cellCount}
+use Rattle.writer.specs.Numerals.{decimal}
+use Rattle.writer.proofs.Lengths.{one-digit, two-digits}
+use Rattle.tablewriter.specs.Texts.{algebraText}
+use Rattle.tablewriter.specs.InnerFits.{Tables}
+use Rattle.tablewriter.specs.InnerLengths.{frame, frames, figures, TwoDigits, Measurable}
+use Rattle.tablewriter.proofs.TextLengths.{figures-append, text-length}
+
+-- two digits at most below 100
+pub digits-few : (v : ℕ) → v < 100 → length (decimal v) ≤ 2
+digits-few v h =
+    elim (decLt v 10) [
+      | yes l ↦ omega (arith, one-digit v l)
+      | no l ↦ omega (arith, two-digits v (omega arith) h)
+    ]
+
+-- the digits of the first i numbers are counted
+pub record Counted (m : List ℕ) (sum i : ℕ) : Type 0 where
+  pub passed : i ≤ length m
+  pub value : sum ≡ figures (take i m)
+  pub few : sum ≤ 2 * i
+
+module _ (m : List ℕ) (short : TwoDigits m) where
+  pub counted-none : Counted m 0 0
+  unfolding figures
+  counted-none = record { passed = omega arith; value = refl; few = omega arith }
+
+  pub counted-more : (sum i d : ℕ) → Counted m sum i → i < length m → d ≡ length (decimal (getD m i 0)) → Counted m (sum + d) (i + 1)
+  unfolding figures
+  counted-more sum i d p h e =
+      record {
+        passed = omega arith;
+        value = rw (add-one i, take-suc m i 0 h, figures-append (take i m) (getD m i 0 ∷ [])) (omega (arith, p .value, e));
+        few = omega (arith, p .few, e, digits-few (getD m i 0) (short i h));
+      }
+
+  pub counted-one : (i : ℕ) → i < length m → getD m i 0 < 100
+  counted-one i h = short i h
+
+  pub counted-all : (sum i : ℕ) → Counted m sum i → length m ≤ i → sum ≡ figures m
+  counted-all sum i p h = p .value ∙ ap figures (take-all i m h)
+
+-- numbers below 100 have two digits each at most
+pub figures-few : (m : List ℕ) → TwoDigits m → figures m ≤ 2 * length m
+unfolding figures
+figures-few [] h = omega arith
+figures-few (x ∷ rest) h = omega (arith, digits-few x (h 0 (omega arith)), figures-few rest (λ i l. h (suc i) (omega arith)))
+
+-- the brackets and gaps of a table stay small
+frame-next : (n s b : ℕ) → n ≤ 64 → frame n s ≤ b → frame n (suc s) ≤ 64 * b + 65
+unfolding frame
+frame-next n s b h l = omega (arith, mul-le-mul {n₂ = 64} {m₂ = b} h l)
+
+pub frame-small : (n s : ℕ) → n ≤ 64 → s ≤ 3 → frame n s ≤ 270465
+unfolding frame
+frame-small n zero h l = omega arith
+frame-small n (suc zero) h l = omega (arith, frame-next n 0 0 h (omega arith))
+frame-small n (suc (suc zero)) h l = omega (arith, frame-next n 1 65 h (frame-next n 0 0 h (omega arith)))
+frame-small n (suc (suc (suc zero))) h l = frame-next n 2 4225 h (frame-next n 1 65 h (frame-next n 0 0 h (omega arith)))
+frame-small n (suc (suc (suc (suc s)))) h l = absurd (omega arith)
+
+-- those of a table of arity s, summed up from the arity below
+pub record Framed (n sum s : ℕ) : Type 0 where
+  pub value : sum ≡ frame n s
+  pub product : n * sum ≤ 64 * 270465
+
+module _ (n : ℕ) (most : n ≤ 64) where
+  pub framed-none : Framed n 0 0
+  unfolding frame
+  framed-none = record { value = refl; product = omega (arith, mul-zero n) }
+
+  pub framed-more : (sum s : ℕ) → Framed n sum s → s < 3 → Framed n (n * sum + (n + 1)) (s + 1)
+  unfolding frame
+  framed-more sum s p h =
+      let e : n * sum + (n + 1) ≡ frame n (s + 1) = rw (add-one s, p .value) in
+      record { value = e; product = mul-le-mul {n₂ = 64} {m₂ = 270465} most (omega (arith, e, frame-small n (s + 1) most (omega arith))) }
+
+  pub framed-all : (sum s arity : ℕ) → Framed n sum s → s ≤ arity → arity ≤ s → sum ≡ frame n arity
+  framed-all sum s arity p l h = let e : s ≡ arity = omega arith in rw e at (p .value)
+
+frames-append : (n : ℕ) (xs ys : List ℕ) → frames n (xs ++ ys) ≡ frames n xs + frames n ys
+unfolding frames
+frames-append n [] ys = omega arith
+frames-append n (x ∷ xs) ys = omega (arith, frames-append n xs ys)
+
+-- the size line, the digits of all cells, and the brackets and gaps of the first j arities
+pub record Summed (n : ℕ) (arities cells : List ℕ) (sum j : ℕ) : Type 0 where
+  pub passed : j ≤ length arities
+  pub value : sum ≡ 8 + length (decimal n) + figures cells + frames n (take j arities)
+  pub small : sum ≤ 10 + 65536 + 270473 * j
+
+module _ (n : ℕ) (arities cells : List ℕ) (m : Measurable n arities cells) where
+  pub summed-none : (d f : ℕ) → d ≡ length (decimal n) → f ≡ figures cells → Summed n arities cells (8 + d + f) 0
+  unfolding frames
+  summed-none d f e g =
+      record {
+        passed = omega arith;
+        value = omega arith;
+        small = omega (arith, digits-few n (omega (arith, m .tables .most)), figures-few cells (m .short), m .few);
+      }
+
+  pub summed-next : (sum j f : ℕ) → Summed n arities cells sum j → j < length arities → f ≡ frame n (getD arities j 0) → Summed n arities cells (sum + 8 + f) (j + 1)
+  unfolding frames
+  summed-next sum j f p h e =
+      record {
+        passed = omega arith;
+        value =
+            rw (add-one j, take-suc arities j 0 h, frames-append n (take j arities) (getD arities j 0 ∷ [])) (omega (arith, p .value, e));
+        small = omega (arith, p .small, e, frame-small n (getD arities j 0) (m .tables .most) (m .tables .arity j h));
+      }
+
+  pub summed-text : (sum j : ℕ) → Summed n arities cells sum j → length arities ≤ j → sum ≡ length (algebraText (algebraOf n arities cells))
+  summed-text sum j p h =
+      omega (
+        arith,
+        p .value,
+        ap (frames n) (take-all j arities h),
+        text-length n (m .tables .some) arities cells (m .tables),
+        ap figures (take-all (cellCount n arities) cells (omega (arith, m .all))),
+      )

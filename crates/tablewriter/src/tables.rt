@@ -1,0 +1,40 @@
+// Writing tables: `reader::reading` reads them back.
+use algebra::power;
+use writer::write_bracketed;
+use writer::write_byte;
+use writer::write_gap;
+use writer::write_number;
+ghost use Prim.Native.Nat.{_^_};
+ghost use Rattle.reader.specs.Laying.{Laid};
+ghost use Rattle.tablewriter.specs.Texts.{partedTexts, tableText};
+ghost use Rattle.tablewriter.specs.InnerFits.{RowsFit, TableFits};
+
+// The table of an arity that the cells begin with: a number, a bracket of numbers, or a bracket of n tables of the arity below.
+pub fn write_table(n: usize, arity: u8, cells: &[u8], out: &mut [u8], put: usize) -> usize
+    requires { ⌜ TableFits n arity (now cells) put (now out) ⌝ }
+    ensures { λ r. ⌜ Laid (now (out .entry)) put (tableText n arity (now (cells .entry))) (now (out .exit)) r ⌝ }
+{
+    if arity == 0 {
+        return write_number(cells[0], out, put);
+    }
+    if arity == 1 {
+        return write_bracketed(&cells[0..n], out, put);
+    }
+    let first = write_byte(b'[', out, put);
+    let end = write_rows(n, arity - 1, n, cells, out, first);
+    write_byte(b']', out, end)
+}
+
+// So many tables of an arity, parted by gaps.
+fn write_rows(n: usize, arity: u8, left: usize, cells: &[u8], out: &mut [u8], put: usize) -> usize
+    requires { ⌜ RowsFit n arity left (now cells) put (now out) ⌝ }
+    ensures { λ r. ⌜ Laid (now (out .entry)) put (partedTexts (tableText n arity) (n ^ arity) left (now (cells .entry))) (now (out .exit)) r ⌝ }
+{
+    let end = write_table(n, arity, cells, out, put);
+    if left == 1 {
+        return end;
+    }
+    let width = power(n, arity as usize);
+    let next = write_gap(out, end);
+    write_rows(n, arity, left - 1, &cells[width..], out, next)
+}
