@@ -94,12 +94,12 @@ byte-digit : (text : List ℕ) (at d : ℕ) → d ≤ 9 → byteAt text at ≡ 4
 byte-digit text at d h e = omega (arith, digit-here text at (omega arith) (omega arith))
 
 -- the first byte of a word that stands there
-first-byte : (text : List ℕ) (at b : ℕ) (rest : List ℕ) → begins text at (b ∷ rest) ≡ true → byteAt text at ≡ b
+pub first-byte : (text : List ℕ) (at b : ℕ) (rest : List ℕ) → begins text at (b ∷ rest) ≡ true → byteAt text at ≡ b
 unfolding begins
 first-byte text at b rest e = eqb-true (byteAt text at) b (and-left (eqb (byteAt text at) b) (begins text (at + 1) rest) e)
 
 -- and the rest of it
-later-bytes : (text : List ℕ) (at b : ℕ) (rest : List ℕ) → begins text at (b ∷ rest) ≡ true → begins text (at + 1) rest ≡ true
+pub later-bytes : (text : List ℕ) (at b : ℕ) (rest : List ℕ) → begins text at (b ∷ rest) ≡ true → begins text (at + 1) rest ≡ true
 unfolding begins
 later-bytes text at b rest e = and-right (eqb (byteAt text at) b) (begins text (at + 1) rest) e
 
