@@ -95,3 +95,7 @@ room-for-item text at lent put w new after so-far next end need l p g =
 -- storage that is as long as the text has room for whatever comes, if no more is stored than is read
 pub room-of-text : (need : ℕ) (text : List ℕ) (at : ℕ) (lent : List ℕ) (put : ℕ) → at ≤ length text → put ≤ at → length text ≤ length lent → RoomFor need text at lent put
 room-of-text need text at lent put w p l = record { within = w; start = omega arith; fits = λ k a b. omega arith }
+
+-- storage for 32,768 cells has room for those of any text
+pub room-of-cells : (text : List ℕ) (at : ℕ) (cells : List ℕ) (put : ℕ) → at ≤ length text → put ≤ 32768 → 32768 ≤ length cells → RoomForCells text at cells put
+room-of-cells text at cells put w p l = record { within = w; start = omega arith; fits = λ k a b. omega arith }
