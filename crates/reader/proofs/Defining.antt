@@ -23,8 +23,10 @@ use Rattle.reader.specs.InnerPromises.{NumberRead, RoomFor, RoomForCells
 use Rattle.reader.specs.declared.lines.OperationLine.{OperationLine}
 use Rattle.reader.specs.declared.reading.Number.{Number}
 use Rattle.reader.specs.declared.reading.Spot.{Spot}
+use Rattle.reader.proofs.Judging.{fitting}
 use Rattle.reader.proofs.Laying.{laid-part, laid-before, laid-front}
 use Rattle.reader.proofs.Readers.{then-found, then-fault}
+use Rattle.reader.proofs.RoomLeft.{table-count}
 use Rattle.reader.proofs.Storing.{stored-found, stored-missing}
 use Rattle.reader.proofs.SpacedNumbers.{close-found, close-fault, found-number, missing-number}
 use Rattle.reader.proofs.Words.{begins-within}
@@ -53,6 +55,7 @@ module _ (text : List ℕ) (at s n : ℕ) (lent : List ℕ) (put : ℕ) (w : Roo
         reached = omega arith;
         paced = omega arith;
         behind = omega arith;
+        counted = omega arith;
         stored = w .start;
         before = laid-front (st .laid);
       }
@@ -93,6 +96,7 @@ module _ (text : List ℕ) (at s n : ℕ) (lent : List ℕ) (put : ℕ) (w : Roo
             reached = omega arith;
             paced = omega arith;
             behind = omega arith;
+            counted = omega arith;
             stored = w .start;
             before = laid-front (st .laid);
           }
@@ -106,6 +110,7 @@ module _ (text : List ℕ) (at s n : ℕ) (lent : List ℕ) (put : ℕ) (w : Roo
             reached = omega (arith, begins-within text (ascii "]\n") (t .at) tt (st .reached .within) (sym eq ∙ not-false q g), st .reached .past);
             paced = omega (arith, st .paced);
             behind = omega (arith, st .laid .place);
+            counted = omega (arith, st .laid .place, table-count n s text at (st .new) (t .at) (t .ok) (st .value) (not-false (t .ok) h));
             stored = st .laid .within;
             before = laid-front (st .laid);
           }
@@ -119,7 +124,7 @@ module _ (text : List ℕ) (at n operations : ℕ) (lent : List ℕ) (put : ℕ)
   pub arity-faulty : not (s .ok) ≡ true → OperationRead text at n operations lent put lent (refusal Text (s .value) at put)
   unfolding operationProgress tableProgress operation afterArity
   arity-faulty h =
-      record { value = λ arities l. rw (missing-number r h); reached = omega arith; paced = omega arith; behind = omega arith; stored = w .start; before = refl }
+      record { value = λ arities l. rw (missing-number r h); reached = omega arith; paced = omega arith; behind = omega arith; fit = λ b. b; stored = w .start; before = refl }
 
   module _ (h : not (s .ok) ≡ false) (c : Check) (ec : c ≡ lowest (operationTests n operations put (s .value))) where
     arity-known : (arities : List ℕ) → length arities ≡ operations
@@ -130,7 +135,7 @@ module _ (text : List ℕ) (at n operations : ℕ) (lent : List ℕ) (put : ℕ)
     pub operation-refused : (x : Refusal) → c ≡ Failed x → OperationRead text at n operations lent put lent (refusal x (s .value) at put)
     unfolding tested
     operation-refused x e =
-        record { value = λ arities l. arity-known arities l ∙ rw e; reached = omega arith; paced = omega arith; behind = omega arith; stored = w .start; before = refl }
+        record { value = λ arities l. arity-known arities l ∙ rw e; reached = omega arith; paced = omega arith; behind = omega arith; fit = λ b. b; stored = w .start; before = refl }
 
     pub operation-read : c ≡ Passed → (after : List ℕ) (o : OperationLine)
         → TableRead text (s .next) (s .value) n lent put after o
@@ -142,6 +147,7 @@ module _ (text : List ℕ) (at n operations : ℕ) (lent : List ℕ) (put : ℕ)
           reached = omega (arith, q .reached, r .past);
           paced = omega (arith, q .paced, r .past);
           behind = q .behind;
+          fit = λ _. omega (arith, q .counted, fitting n operations put (s .value) (sym ec ∙ e) .room);
           stored = q .stored;
           before = q .before;
         }

@@ -52,7 +52,7 @@ room-behind word t {need} {text} {at} b e h w =
     room-less w (at + length word) need (omega arith) (begins-within text word at t (w .within) (sym e ∙ h)) (omega arith)
 
 -- a table that was found has n^s cells
-table-count : (n s : ℕ) (text : List ℕ) (at : ℕ) (new : List ℕ) (next : ℕ) (ok : Bool) → table n s text at ≡ readOf ok new next → ok ≡ true → length new ≡ n ^ s
+pub table-count : (n s : ℕ) (text : List ℕ) (at : ℕ) (new : List ℕ) (next : ℕ) (ok : Bool) → table n s text at ≡ readOf ok new next → ok ≡ true → length new ≡ n ^ s
 table-count n s text at new next ok e h =
     subst (λ r. IfFound (Long (n ^ s)) r) (e ∙ ap (λ (b : Bool). readOf b new next) h) (table-long n s text at)
 

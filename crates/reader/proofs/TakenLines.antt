@@ -120,7 +120,7 @@ module _ (text : List ℕ) (a : AlgebraSoFar) (arities cells : List ℕ) (readab
     operation-taken =
         record {
           value = rw (known, e, add-one (a .operations), take-suc-set arities (a .operations) (l .arity) arity-place);
-          readable = omega (arith, r .reached, fewer);
+          readable = omega (arith, r .reached, fewer, r .fit (readable .fit));
           past = omega (arith, r .reached);
           counted = omega arith;
           paced = omega (arith, r .paced);

@@ -1,5 +1,5 @@
 -- What inner readers promise: what they came to, where they stand, and what they laid in the lent bytes.
-use Prim.Native.Nat.{ℕ, _+_, _-_, _≤_}
+use Prim.Native.Nat.{ℕ, _+_, _-_, _^_, _≤_}
 use mathlib.Core.Bool.{Bool, true, false}
 use mathlib.Core.List.{List, [], _∷_, _++_}
 use mathlib.Core.Path.{_≡_}
@@ -79,12 +79,13 @@ progressOf n arities room s cells next (Failed r) = refused r
 unfoldable pub tableProgress : List ℕ → ℕ → ℕ → ℕ → List ℕ → ℕ → List ℕ → Progress
 tableProgress text at s n lent put arities = afterTable (algebraOf n arities (take put lent)) s (lastTable n s text at)
 
--- the table was read as that says, and stands in the storage behind the cells before, which stay as they are
+-- the table was read as that says, and its n^s cells at most stand in the storage behind the cells before, which stay as they are
 pub record TableRead (text : List ℕ) (at s n : ℕ) (lent : List ℕ) (put : ℕ) (after : List ℕ) (r : OperationLine) : Type 0 where
   pub value : (arities : List ℕ) → tableProgress text at s n lent put arities ≡ progressOf n arities after (r .arity) (r .cells) (r .next) (r .check)
   pub reached : Reached text at (r .next)
   pub paced : r .cells + at ≤ put + r .next
   pub behind : put ≤ r .cells
+  pub counted : r .cells ≤ put + n ^ s
   pub stored : r .cells ≤ length lent
   pub before : take put after ≡ take put lent
 
@@ -92,13 +93,14 @@ pub record TableRead (text : List ℕ) (at s n : ℕ) (lent : List ℕ) (put : �
 unfoldable pub operationProgress : List ℕ → ℕ → ℕ → List ℕ → ℕ → List ℕ → Progress
 operationProgress text at n lent put arities = operation (algebraOf n arities (take put lent)) text at
 
--- the line was read as that says, behind so many operations; the cells before stay as they are
+-- the line was read as that says, behind so many operations; the cells before stay as they are, and there are no more than 32,768 if there were no more before
 pub record OperationRead (text : List ℕ) (at n operations : ℕ) (lent : List ℕ) (put : ℕ) (after : List ℕ) (r : OperationLine) : Type 0 where
   pub value : (arities : List ℕ) → length arities ≡ operations
       → operationProgress text at n lent put arities ≡ progressOf n arities after (r .arity) (r .cells) (r .next) (r .check)
   pub reached : Reached text at (r .next)
   pub paced : r .cells + at ≤ put + r .next
   pub behind : put ≤ r .cells
+  pub fit : put ≤ 32768 → r .cells ≤ 32768
   pub stored : r .cells ≤ length lent
   pub before : take put after ≡ take put lent
 

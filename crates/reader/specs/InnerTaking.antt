@@ -27,6 +27,7 @@ pub record Readable (text : List ℕ) (a : AlgebraSoFar) : Type 0 where
   pub some : 0 < a .size
   pub most : a .size ≤ 64
   pub few : a .operations ≤ 16
+  pub fit : a .cells ≤ 32768
 
 -- a size line was taken: the algebra is what it says, and nothing is stored
 pub record SizeTaken (text : List ℕ) (at : ℕ) (r : LineTaken) : Type 0 where
