@@ -1,33 +1,19 @@
 -- Any count of items, each after a gap, read into storage one by one.
 use Prim.Native.Nat.{ℕ, zero, suc, _+_, _≤_}
 use mathlib.Core.Bool.{true, false}
-use mathlib.Core.List.{List, [], _++_, append-assoc, append-nil}
-use mathlib.Core.Path.{_≡_, refl, ap, sym, _∙_}
+use mathlib.Core.List.{List, [], _++_, append-nil}
+use mathlib.Core.Path.{_≡_, refl, ap, _∙_}
 use native.Mathlib.Omega.{arith}
 use lib.ListN.{length}
-use Rattle.reader.specs.Reading.{Read, found, fault, Reader, onward, _>>=_, done, gap}
+use Rattle.reader.specs.Reading.{found, fault, Reader, onward, _>>=_, done, gap}
 use Rattle.reader.specs.Tables.{itemsUpTo, items}
 use Rattle.reader.specs.InnerPromises.{GapRead, Reached, RoomFor, RoomForText, Stored}
 use Rattle.reader.specs.Laying.{Laid}
 use Rattle.reader.specs.declared.reading.Spot.{Spot}
 use Rattle.reader.proofs.Laying.{laid-none, laid-more}
 use Rattle.reader.proofs.RoomLeft.{room-for-item}
-use Rattle.reader.proofs.Readers.{then-found, then-fault, behind-found, behind-fault}
+use Rattle.reader.proofs.Readers.{before, before-none, before-twice, then-found, then-fault, behind-found, behind-fault}
 use Rattle.reader.proofs.Storing.{spot, stored-found, stored-missing}
-
--- a list in front of what a reader found
-abbrev before : List ℕ → Read (List ℕ) → Read (List ℕ)
-before xs r = onward (λ ys next. found (xs ++ ys) next) r
-
-before-none : (r : Read (List ℕ)) → r ≡ before [] r
-unfolding onward
-before-none (found ys next) = refl
-before-none fault = refl
-
-before-twice : (xs ys : List ℕ) (r : Read (List ℕ)) → before xs (before ys r) ≡ before (xs ++ ys) r
-unfolding onward
-before-twice xs ys (found zs next) = ap (λ (l : List ℕ). found l next) (sym (append-assoc xs ys zs))
-before-twice xs ys fault = refl
 
 module _ (item : Reader (List ℕ)) (text : List ℕ) (at : ℕ) where
   -- no gap, no item more

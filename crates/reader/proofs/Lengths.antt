@@ -41,7 +41,8 @@ after-any Q m f q = then-finds (λ _. Unit {0}) Q m f (λ text at. anything (m t
 abbrev pub Long : ℕ → List ℕ → Type 0
 Long k xs = length xs ≡ k
 
-cell-long : Finds (Long 1) cell
+-- a cell is one number
+pub cell-long : Finds (Long 1) cell
 unfolding cell
 cell-long = after-any (Long 1) number (λ v. done (v ∷ [])) (λ v text at. refl)
 

@@ -6,6 +6,7 @@ pub mod Lengths
 pub mod Judging
 pub mod RoomLeft
 pub mod Storing
+pub mod Rows
 pub mod Items
 pub mod SpacedNumbers
 pub mod Defining

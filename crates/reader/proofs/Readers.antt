@@ -1,15 +1,15 @@
 -- Readers one after another: what the first finds decides what the second is asked.
 use Prim.Native.Nat.{ℕ, _+_, _≤_, _<_}
 use Prim.Native.Char.{Char, code}
-use mathlib.Core.Bool.{true, false}
-use mathlib.Core.List.{List}
-use mathlib.Core.Path.{_≡_, refl, sym, _∙_}
+use mathlib.Core.Bool.{Bool, true, false}
+use mathlib.Core.List.{List, [], _++_, append-assoc}
+use mathlib.Core.Path.{_≡_, refl, ap, sym, _∙_}
 use native.Mathlib.Decide.{decLt}
 use native.Mathlib.Omega.{arith}
 use borrow.Author.Tests.{eq-eqb, ne-eqb}
 use lib.ListN.{length, List·getD-eq-default}
-use Rattle.reader.specs.Reading.{Reader, found, fault, byteAt, onward, _>>=_, _>>_, mark, gap, branch, behind, begins, opened}
-use Rattle.reader.specs.InnerPromises.{GapRead}
+use Rattle.reader.specs.Reading.{Read, Reader, found, fault, byteAt, onward, _>>=_, _>>_, mark, gap, branch, behind, begins, opened}
+use Rattle.reader.specs.InnerPromises.{readOf, GapRead}
 
 -- past the end no byte but 0 stands
 pub within-text : (text : List ℕ) (at : ℕ) → 0 < byteAt text at → at < length text
@@ -27,6 +27,25 @@ module _ {A B : Type 0} (first : Reader A) (next : A → Reader B) (text : List 
   pub then-fault : first text at ≡ fault → _>>=_ first next text at ≡ fault
   unfolding _>>=_ onward
   then-fault e = rw e
+
+-- a list in front of what a reader found
+abbrev pub before : List ℕ → Read (List ℕ) → Read (List ℕ)
+before xs r = onward (λ ys next. found (xs ++ ys) next) r
+
+pub before-none : (r : Read (List ℕ)) → r ≡ before [] r
+unfolding onward
+before-none (found ys next) = refl
+before-none fault = refl
+
+pub before-twice : (xs ys : List ℕ) (r : Read (List ℕ)) → before xs (before ys r) ≡ before (xs ++ ys) r
+unfolding onward
+before-twice xs ys (found zs next) = ap (λ (l : List ℕ). found l next) (sym (append-assoc xs ys zs))
+before-twice xs ys fault = refl
+
+pub before-read : (xs ys : List ℕ) (ok : Bool) (end : ℕ) (r : Read (List ℕ)) → r ≡ readOf ok ys end → before xs r ≡ readOf ok (xs ++ ys) end
+unfolding onward
+before-read xs ys true end r e = rw e
+before-read xs ys false end r e = rw e
 
 module _ (c : Char) (text : List ℕ) (at : ℕ) where
   pub mark-found : byteAt text at ≡ code c → mark c text at ≡ found tt (at + 1)

@@ -3,7 +3,7 @@ use Prim.Native.Nat.{ℕ, zero, suc, _+_, _-_, _*_, _^_, _≤_, _<_}
 use mathlib.Core.Bool.{Bool, true}
 use mathlib.Core.List.{List}
 use mathlib.Core.Path.{_≡_, refl, ap, sym, _∙_, subst}
-use native.Mathlib.Nat.{suc-mul, pow-zero, pow-succ'}
+use native.Mathlib.Nat.{mul-one, suc-mul, pow-zero, pow-succ'}
 use native.Mathlib.Numerals.{sub-one}
 use native.Mathlib.Omega.{arith}
 use lib.Dec.{T, ltb}
@@ -12,19 +12,19 @@ use Rattle.equivalence.specs.Lists.{every}
 use Rattle.equivalence.specs.Refusal.{lowest}
 use Rattle.equivalence.specs.declared.Check.{Check}
 use Rattle.equivalence.specs.declared.Check.the-variants.{Passed}
-use Rattle.reader.specs.Reading.{begins}
-use Rattle.reader.specs.Tables.{table}
+use Rattle.reader.specs.Reading.{Reader, begins}
+use Rattle.reader.specs.Tables.{cell, table}
 use Rattle.reader.specs.Lines.{arity, operationTests}
 use Rattle.reader.specs.Laying.{Laid}
 use Rattle.reader.specs.InnerPromises.{readOf, GapRead, NumberRead, RoomFor, RoomForCells, RoomForText, Stored}
 use Rattle.reader.specs.declared.reading.Number.{Number}
 use Rattle.reader.specs.declared.reading.Spot.{Spot}
 use Rattle.reader.proofs.Judging.{fitting}
-use Rattle.reader.proofs.Lengths.{IfFound, Long, table-long}
+use Rattle.reader.proofs.Lengths.{IfFound, Finds, Long, cell-long, table-long}
 use Rattle.reader.proofs.Words.{begins-within}
 
 -- a part less
-pub part-less : (k w : ℕ) → 0 < k → (k - 1) * w + w ≡ k * w
+part-less : (k w : ℕ) → 0 < k → (k - 1) * w + w ≡ k * w
 part-less zero w h = absurd (omega arith)
 part-less (suc k) w h = rw (sub-one (suc k), suc-mul k w)
 
@@ -51,10 +51,30 @@ pub room-behind : (word : List ℕ) → T (every (ltb 0) word) → {need : ℕ} 
 room-behind word t {need} {text} {at} b e h w =
     room-less w (at + length word) need (omega arith) (begins-within text word at t (w .within) (sym e ∙ h)) (omega arith)
 
+-- an item that was found is as long as its reader finds items
+module _ (item : Reader (List ℕ)) (w : ℕ) (long : Finds (Long w) item) (text : List ℕ) (at : ℕ) where
+  item-count : (new : List ℕ) (next : ℕ) (ok : Bool) → item text at ≡ readOf ok new next → ok ≡ true → length new ≡ w
+  item-count new next ok e h = subst (λ r. IfFound (Long w) r) (e ∙ ap (λ (b : Bool). readOf b new next) h) (long text at)
+
+  -- behind an item and a gap there is room for what is left
+  room-behind-item : (need left : ℕ) (lent : List ℕ) (put : ℕ) → RoomFor need text at lent put → w + left ≤ need → (after : List ℕ) (r : Spot)
+      → Stored text at lent put (item text at) after r → r .ok ≡ true → (end : ℕ) → GapRead text (r .at) end → RoomFor left text end after (r .put)
+  room-behind-item need left lent put room l after r q e end g =
+      room-on room (q .new) after (r .put) (r .at) end left (q .laid) (q .paced) (g .reached .past) (g .reached .within)
+      (λ k a b. omega (arith, item-count (q .new) (r .at) (r .ok) (q .value) e))
+
 -- a table that was found has n^s cells
 pub table-count : (n s : ℕ) (text : List ℕ) (at : ℕ) (new : List ℕ) (next : ℕ) (ok : Bool) → table n s text at ≡ readOf ok new next → ok ≡ true → length new ≡ n ^ s
-table-count n s text at new next ok e h =
-    subst (λ r. IfFound (Long (n ^ s)) r) (e ∙ ap (λ (b : Bool). readOf b new next) h) (table-long n s text at)
+table-count n s = item-count (table n s) (n ^ s) (table-long n s)
+
+-- a row of cells: room for one, and behind it for the others
+module _ (text : List ℕ) (at : ℕ) (lent : List ℕ) (put left : ℕ) (p : 0 < left) (w : RoomFor left text at lent put) where
+  pub room-first : RoomFor 1 text at lent put
+  room-first = room-less w at 1 (omega arith) (w .within) (omega arith)
+
+  pub room-others : (after : List ℕ) (r : Spot) → Stored text at lent put (cell text at) after r → r .ok ≡ true → (end : ℕ) → GapRead text (r .at) end
+      → RoomFor (left - 1) text end after (r .put)
+  room-others = room-behind-item cell 1 cell-long text at left (left - 1) lent put w (omega arith)
 
 module _ (n s : ℕ) (text : List ℕ) (at : ℕ) (lent : List ℕ) (put : ℕ) where
   -- a table of s 0 is one cell
@@ -70,15 +90,22 @@ module _ (n s : ℕ) (text : List ℕ) (at : ℕ) (lent : List ℕ) (put : ℕ) 
       rows (suc k) h = rw (sub-one (suc k)) (pow-succ' n k)
 
   module _ (left : ℕ) (p : 0 < left) (w : RoomFor (left * n ^ (s - 1)) text at lent put) where
+    -- the rows of a table of s 1 are cells
+    pub room-row-cells : s ≡ 1 → RoomFor left text at lent put
+    room-row-cells e = room-less w at left (omega arith) (w .within) (omega (arith, cells))
+      where
+        cells : left * n ^ (s - 1) ≡ left
+        cells = rw (e, pow-zero n) (mul-one left)
+
     pub room-row : RoomFor (n ^ (s - 1)) text at lent put
     room-row = room-less w at (n ^ (s - 1)) (omega arith) (w .within) (omega (arith, part-less left (n ^ (s - 1)) p))
 
     -- behind one row there is room for the others
     pub room-rest : (after : List ℕ) (r : Spot) → Stored text at lent put (table n (s - 1) text at) after r → r .ok ≡ true → (end : ℕ) → GapRead text (r .at) end
         → RoomFor ((left - 1) * n ^ (s - 1)) text end after (r .put)
-    room-rest after r q e end g =
-        room-on w (q .new) after (r .put) (r .at) end ((left - 1) * n ^ (s - 1)) (q .laid) (q .paced) (g .reached .past) (g .reached .within)
-        (λ k a b. omega (arith, table-count n (s - 1) text at (q .new) (r .at) (r .ok) (q .value) e, part-less left (n ^ (s - 1)) p))
+    room-rest =
+        room-behind-item (table n (s - 1)) (n ^ (s - 1)) (table-long n (s - 1)) text at (left * n ^ (s - 1)) ((left - 1) * n ^ (s - 1)) lent put w
+        (omega (arith, part-less left (n ^ (s - 1)) p))
 
 -- where the tests of an operation line pass, there is room for its table
 pub room-for-table : (n operations : ℕ) (text : List ℕ) (at : ℕ) (lent : List ℕ) (put : ℕ) → RoomForCells text at lent put → (s : Number) → NumberRead text at (arity text at) s

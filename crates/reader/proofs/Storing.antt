@@ -1,19 +1,19 @@
 -- Numbers, rows and tables read into storage: each way that the readers of tables come to an end.
 use Prim.Native.Nat.{ℕ, zero, suc, _+_, _-_, _^_, _≤_, _<_}
 use mathlib.Core.Bool.{Bool, true, false}
-use mathlib.Core.List.{List, [], _∷_, _++_}
+use mathlib.Core.List.{List, [], _∷_}
 use mathlib.Core.Path.{_≡_, refl, ap, sym, _∙_}
 use native.Mathlib.Numerals.{sub-one}
 use native.Mathlib.Omega.{arith}
 use lib.ListN.{length, set}
-use Rattle.reader.specs.Reading.{Read, found, fault, Reader, byteAt, onward, _>>=_, _>>_, done, mark, gap}
+use Rattle.reader.specs.Reading.{Read, found, fault, Reader, byteAt, _>>=_, _>>_, done, mark}
 use Rattle.reader.specs.Numbers.{number}
 use Rattle.reader.specs.Tables.{cell, parted, bracket, table}
-use Rattle.reader.specs.InnerPromises.{readOf, GapRead, NumberRead, RoomFor, Stored}
+use Rattle.reader.specs.InnerPromises.{readOf, NumberRead, RoomFor, Stored}
 use Rattle.reader.specs.declared.reading.Number.{Number}
 use Rattle.reader.specs.declared.reading.Spot.{Spot}
-use Rattle.reader.proofs.Laying.{laid-none, laid-one, laid-more}
-use Rattle.reader.proofs.Readers.{within-text, then-found, then-fault, marked, unmarked, gapped, ungapped}
+use Rattle.reader.proofs.Laying.{laid-none, laid-one}
+use Rattle.reader.proofs.Readers.{within-text, then-found, then-fault, marked, unmarked}
 
 -- a place in the text and one in the storage, found well or not
 abbrev pub spot : Bool → ℕ → ℕ → Spot
@@ -62,76 +62,6 @@ module _ (text : List ℕ) (at : ℕ) (lent : List ℕ) (put : ℕ) (w : RoomFor
         paced = omega arith;
       }
 
--- items parted by gaps
-module _ (item : Reader (List ℕ)) (text : List ℕ) (at : ℕ) where
-  parted-one : (left : ℕ) → left ≡ 1 → parted item left text at ≡ item text at
-  unfolding parted
-  parted-one left e = rw e
-
-  -- more than one: an item, a gap, and the others
-  parted-next : (left : ℕ) → 0 < left → (left ≡ 1 → ⊥)
-      → parted item left text at ≡ _>>=_ item (λ xs. _>>_ gap (_>>=_ (parted item (left - 1)) (λ ys. done (xs ++ ys)))) text at
-  unfolding parted
-  parted-next zero p h = absurd (omega arith)
-  parted-next (suc zero) p h = absurd (h refl)
-  parted-next (suc (suc k)) p h = rw (sub-one (suc (suc k)))
-
-  parted-fault : (left : ℕ) → 0 < left → item text at ≡ fault → parted item left text at ≡ fault
-  unfolding parted
-  parted-fault zero p e = absurd (omega arith)
-  parted-fault (suc zero) p e = e
-  parted-fault (suc (suc k)) p e =
-      then-fault item (λ xs. _>>_ gap (_>>=_ (parted item (suc k)) (λ ys. done (xs ++ ys)))) text at e
-
--- what a second list adds to a first
-onto : (xs ys : List ℕ) (ok : Bool) (end : ℕ) (r : Read (List ℕ)) → r ≡ readOf ok ys end → onward (λ zs next. found (xs ++ zs) next) r ≡ readOf ok (xs ++ ys) end
-unfolding onward
-onto xs ys true end r e = rw e
-onto xs ys false end r e = rw e
-
-module _ (text : List ℕ) (at : ℕ) (lent : List ℕ) (put : ℕ) (item : Reader (List ℕ)) (left : ℕ) (after : List ℕ) (r : Spot)
-    (s : Stored text at lent put (item text at) after r) where
-  pub rows-fault : 0 < left → r .ok ≡ false → Stored text at lent put (parted item left text at) after (spot false (r .at) (r .put))
-  rows-fault p e =
-      stored-fault text at at lent put (item text at) (parted item left text at) after r (omega arith) s
-      (parted-fault item text at left p (stored-missing s e))
-
-  pub rows-last : left ≡ 1 → r .ok ≡ true → Stored text at lent put (parted item left text at) after (spot true (r .at) (r .put))
-  rows-last l e =
-      record {
-        new = s .new;
-        value = parted-one item text at left l ∙ stored-found s e;
-        laid = s .laid;
-        reached = s .reached;
-        paced = s .paced;
-      }
-
-  module _ (p : 0 < left) (h : left ≡ 1 → ⊥) (e : r .ok ≡ true) (end : ℕ) (g : GapRead text (r .at) end) where
-    first : parted item left text at ≡ _>>_ gap (_>>=_ (parted item (left - 1)) (λ ys. done (s .new ++ ys))) text (r .at)
-    first =
-        parted-next item text at left p h
-        ∙ then-found item (λ xs. _>>_ gap (_>>=_ (parted item (left - 1)) (λ ys. done (xs ++ ys)))) text at (s .new) (r .at)
-        (stored-found s e)
-
-    pub rows-unparted : end ≡ r .at → Stored text at lent put (parted item left text at) after (spot false (r .at) (r .put))
-    rows-unparted n =
-        stored-fault text at at lent put (item text at) (parted item left text at) after r (omega arith) s
-        (first ∙ ungapped (_>>=_ (parted item (left - 1)) (λ ys. done (s .new ++ ys))) text (r .at) end g n)
-
-    pub rows-more : (end ≡ r .at → ⊥) → (last : List ℕ) (q : Spot) → Stored text end after (r .put) (parted item (left - 1) text end) last q
-        → Stored text at lent put (parted item left text at) last q
-    unfolding _>>=_
-    rows-more y last q z =
-        record {
-          new = s .new ++ z .new;
-          value =
-              first ∙ gapped (_>>=_ (parted item (left - 1)) (λ ys. done (s .new ++ ys))) text (r .at) end g y
-              ∙ onto (s .new) (z .new) (q .ok) (q .at) (parted item (left - 1) text end) (z .value);
-          laid = laid-more lent put (s .new) after (r .put) (z .new) last (q .put) (s .laid) (z .laid);
-          reached = record { within = z .reached .within; past = omega (arith, z .reached .past, s .reached .past, g .reached) };
-          paced = omega (arith, z .paced, s .paced, g .reached);
-        }
-
 -- a bracket: its opening byte, the items, its closing byte
 module _ (item : Reader (List ℕ)) (k : ℕ) (text : List ℕ) (at : ℕ) where
   rest : Reader (List ℕ)
@@ -162,6 +92,12 @@ pub table-cell : (text : List ℕ) (at : ℕ) (lent : List ℕ) (put n arity : �
     → Stored text at lent put (cell text at) after r → Stored text at lent put (table n arity text at) after r
 unfolding table
 table-cell text at lent put n arity after r e s = rw e s
+
+-- the rows of a table of arity 1 are cells
+pub rows-cells : (text : List ℕ) (at : ℕ) (lent : List ℕ) (put n arity left : ℕ) (after : List ℕ) (r : Spot) → arity ≡ 1
+    → Stored text at lent put (parted cell left text at) after r → Stored text at lent put (parted (table n (arity - 1)) left text at) after r
+unfolding table
+rows-cells text at lent put n arity left after r e s = rw e s
 
 -- a table of another arity is a bracket of tables
 table-bracket : (n arity : ℕ) → (arity ≡ 0 → ⊥) → table n arity ≡ bracket (table n (arity - 1)) n

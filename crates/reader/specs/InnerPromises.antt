@@ -1,9 +1,10 @@
 -- What inner readers promise: what they came to, where they stand, and what they laid in the lent bytes.
 use Prim.Native.Nat.{ℕ, _+_, _-_, _^_, _≤_}
-use mathlib.Core.Bool.{Bool, true, false}
+use mathlib.Core.Bool.{Bool, true, false, _&&_}
 use mathlib.Core.List.{List, [], _∷_, _++_}
 use mathlib.Core.Path.{_≡_}
 use denote.Ref.{RefT, now}
+use lib.Dec.{leb}
 use lib.ListN.{length, take}
 use Rattle.kernel.specs.InnerKernel.{bit}
 use Rattle.reader.specs.Reading.{Read, found, fault, Reader, gap}
@@ -16,6 +17,10 @@ use Rattle.reader.specs.declared.lines.OperationLine.{OperationLine}
 use Rattle.reader.specs.declared.reading.Number.{Number}
 use Rattle.reader.specs.declared.reading.Spot.{Spot}
 use Rattle.reader.specs.declared.requests.RequestLine.{RequestLine}
+
+-- whether a byte is a digit
+unfoldable pub isDigit : ℕ → Bool
+isDigit b = leb 48 b && leb b 57
 
 -- a value and the place after it, or a fault, as a flag tells
 abbrev pub readOf : {A : Type 0} → Bool → A → ℕ → Read A

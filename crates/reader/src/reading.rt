@@ -3,9 +3,9 @@ ghost use mathlib.Core.Path.{_≡_};
 ghost use Prim.Native.Nat.{_+_, _-_, _*_, _^_, _≤_, _<_};
 ghost use lib.ListN.{length};
 ghost use Rattle.reader.specs.Reading.{byteAt, begins};
-ghost use Rattle.reader.specs.Numbers.{digitAt, number};
+ghost use Rattle.reader.specs.Numbers.{number};
 ghost use Rattle.reader.specs.Tables.{cell, table, parted, items};
-ghost use Rattle.reader.specs.InnerPromises.{GapRead, NumberRead, RoomFor, RoomForText, StoredBy};
+ghost use Rattle.reader.specs.InnerPromises.{isDigit, GapRead, NumberRead, RoomFor, RoomForText, StoredBy};
 
 // The largest number in a text.
 const MAX_NUMBER: u16 = 255;
@@ -31,18 +31,14 @@ pub fn byte_at(text: &[u8], at: usize) -> u8
     if at < text.len() { text[at] } else { 0 }
 }
 
-// The value of the digit at a place, or 10 where another byte stands.
-fn digit_at(text: &[u8], at: usize) -> u8
-    ensures { λ r. ⌜ r ≡ digitAt (now (text .entry)) at ⌝ }
+// Whether a byte is a digit.
+fn is_digit(b: u8) -> bool
+    ensures { λ r. ⌜ r ≡ isDigit b ⌝ }
 {
-    let b = byte_at(text, at);
-    if b < 48 {
-        return 10;
+    if b < b'0' {
+        return false;
     }
-    if 57 < b {
-        return 10;
-    }
-    b - 48
+    b <= b'9'
 }
 
 // Whether the bytes of a word stand from a place on.
@@ -81,35 +77,35 @@ pub fn read_number(text: &[u8], at: usize) -> Number
         value: 0,
         next: at,
     };
-    let a = digit_at(text, at);
-    if 9 < a {
+    let a = byte_at(text, at);
+    if !is_digit(a) {
         return none;
     }
-    if a == 0 {
+    let b = byte_at(text, at + 1);
+    if !is_digit(b) {
+        return Number {
+            ok: true,
+            value: a - b'0',
+            next: at + 1,
+        };
+    }
+    if a == b'0' {
         return Number {
             ok: true,
             value: 0,
             next: at + 1,
         };
     }
-    let b = digit_at(text, at + 1);
-    if 9 < b {
-        return Number {
-            ok: true,
-            value: a,
-            next: at + 1,
-        };
-    }
-    let c = digit_at(text, at + 2);
-    let two = 10 * a + b;
-    if 9 < c {
+    let c = byte_at(text, at + 2);
+    let two = 10 * (a - b'0') + (b - b'0');
+    if !is_digit(c) {
         return Number {
             ok: true,
             value: two,
             next: at + 2,
         };
     }
-    let three = 10 * (two as u16) + c as u16;
+    let three = 10 * (two as u16) + (c - b'0') as u16;
     if MAX_NUMBER < three {
         return none;
     }
@@ -138,6 +134,40 @@ fn read_cell(text: &[u8], at: usize, cells: &mut [u8], put: usize) -> Spot
     }
 }
 
+// n numbers, parted by gaps: `read_rows` over tables of arity 0, without a call for each.
+fn read_row(n: u8, text: &[u8], at: usize, cells: &mut [u8], put: usize) -> Spot
+    requires { ⌜ RoomFor n (now text) at (now cells) put ⌝ }
+    requires { ⌜ 0 < n ⌝ }
+    ensures { λ r. ⌜ StoredBy (parted cell n) (text .entry) at (cells .entry) put (cells .exit) r ⌝ }
+{
+    let mut more = n;
+    let mut next = at;
+    let mut so_far = put;
+    while 1 < more {
+        let item = read_cell(text, next, cells, so_far);
+        next = item.at;
+        so_far = item.put;
+        if !item.ok {
+            return Spot {
+                ok: false,
+                at: next,
+                put: so_far,
+            };
+        }
+        let after = gap_end(text, next);
+        if after == next {
+            return Spot {
+                ok: false,
+                at: next,
+                put: so_far,
+            };
+        }
+        next = after;
+        more -= 1;
+    }
+    read_cell(text, next, cells, so_far)
+}
+
 // A table of an arity: a number, or a bracket of n tables of the arity below.
 pub fn read_table(n: u8, arity: u8, text: &[u8], at: usize, cells: &mut [u8], put: usize) -> Spot
     requires { ⌜ RoomFor (n ^ arity) (now text) at (now cells) put ⌝ }
@@ -150,7 +180,7 @@ pub fn read_table(n: u8, arity: u8, text: &[u8], at: usize, cells: &mut [u8], pu
     if byte_at(text, at) != b'[' {
         return Spot { ok: false, at, put };
     }
-    let rows = read_rows(n, arity, n, text, at + 1, cells, put);
+    let rows = read_rows(n, arity, text, at + 1, cells, put);
     let next = rows.at;
     let so_far = rows.put;
     if !rows.ok {
@@ -174,46 +204,41 @@ pub fn read_table(n: u8, arity: u8, text: &[u8], at: usize, cells: &mut [u8], pu
     }
 }
 
-// So many tables of the arity below, parted by gaps.
-fn read_rows(
-    n: u8,
-    arity: u8,
-    left: u8,
-    text: &[u8],
-    at: usize,
-    cells: &mut [u8],
-    put: usize,
-) -> Spot
-    requires { ⌜ RoomFor (left * n ^ (arity - 1)) (now text) at (now cells) put ⌝ }
-    requires { ⌜ (0 < n) × ((0 < arity) × (0 < left)) ⌝ }
-    ensures { λ r. ⌜ StoredBy (parted (table n (arity - 1)) left) (text .entry) at (cells .entry) put (cells .exit) r ⌝ }
+// n tables of the arity below, parted by gaps.
+fn read_rows(n: u8, arity: u8, text: &[u8], at: usize, cells: &mut [u8], put: usize) -> Spot
+    requires { ⌜ RoomFor (n * n ^ (arity - 1)) (now text) at (now cells) put ⌝ }
+    requires { ⌜ (0 < n) × (0 < arity) ⌝ }
+    ensures { λ r. ⌜ StoredBy (parted (table n (arity - 1)) n) (text .entry) at (cells .entry) put (cells .exit) r ⌝ }
 {
-    let row = read_table(n, arity - 1, text, at, cells, put);
-    let next = row.at;
-    let so_far = row.put;
-    if !row.ok {
-        return Spot {
-            ok: false,
-            at: next,
-            put: so_far,
-        };
+    if arity == 1 {
+        return read_row(n, text, at, cells, put);
     }
-    if left == 1 {
-        return Spot {
-            ok: true,
-            at: next,
-            put: so_far,
-        };
+    let mut more = n;
+    let mut next = at;
+    let mut so_far = put;
+    while 1 < more {
+        let item = read_table(n, arity - 1, text, next, cells, so_far);
+        next = item.at;
+        so_far = item.put;
+        if !item.ok {
+            return Spot {
+                ok: false,
+                at: next,
+                put: so_far,
+            };
+        }
+        let after = gap_end(text, next);
+        if after == next {
+            return Spot {
+                ok: false,
+                at: next,
+                put: so_far,
+            };
+        }
+        next = after;
+        more -= 1;
     }
-    let after = gap_end(text, next);
-    if after == next {
-        return Spot {
-            ok: false,
-            at: next,
-            put: so_far,
-        };
-    }
-    read_rows(n, arity, left - 1, text, after, cells, so_far)
+    read_table(n, arity - 1, text, next, cells, so_far)
 }
 
 // Any count of tables of an arity, each after a gap.

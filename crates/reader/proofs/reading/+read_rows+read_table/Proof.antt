@@ -1,13 +1,15 @@
--- `reading::read_rows` and `reading::read_table` meet their contracts, by the laws of Readers and Storing.
+-- `reading::read_rows` and `reading::read_table` meet their contracts, by the laws of Rows and Storing.
 use denote.Ref.{now}
 use Rattle.reader.proofs.Readers.{within-text}
 use borrow.Author.Needs.{needs}
 use borrow.Author.Tests.{not-true, not-false}
 use native.Mathlib.Omega.{arith}
-use lib.ListN.{length}
-use Rattle.reader.proofs.Storing.{rows-fault, rows-last, rows-unparted, rows-more, table-cell, table-unopened, table-fault, table-unclosed, table-closed}
-use Rattle.reader.proofs.RoomLeft.{part-less, room-cell, room-rows, room-row, room-rest}
-use Prim.Native.Nat.{ℕ, _+_, _-_, _*_, _<_}
+use Rattle.reader.specs.Tables.{table}
+use Rattle.reader.specs.InnerPromises.{RoomFor}
+use Rattle.reader.proofs.Rows.{RowsRead, rows-read-none, rows-read-fault, rows-read-unparted, rows-read-more, rows-read-last}
+use Rattle.reader.proofs.Storing.{table-cell, rows-cells, table-unopened, table-fault, table-unclosed, table-closed}
+use Rattle.reader.proofs.RoomLeft.{room-cell, room-rows, room-row-cells, room-row, room-rest}
+use Prim.Native.Nat.{ℕ, _+_, _-_, _*_, _^_, _<_}
 use borrow.Fn.Kinds.{In}
 use borrow.Fn.PlainCycle.{Measures, is, falls, and}
 use Rattle.reader.proofs.reading.read_rows.Reads as read-rows
@@ -19,14 +21,15 @@ use Rattle.reader.proofs.reading.+read_rows+read_table.Lts-read_table a
 use Rattle.reader.proofs.reading.byte_at.Reads as byte-at-reads
 use Rattle.reader.proofs.reading.gap_end.Reads as gap-end-reads
 use Rattle.reader.proofs.reading.read_cell.Reads as read-cell-reads
+use Rattle.reader.proofs.reading.read_row.Reads as read-row-reads
 use Rattle.reader.proofs.reading.+read_rows+read_table.{statement}
 use Rattle.reader.proofs.reading.+read_rows+read_table.Tie.{close}
 
 abbrev μ-read-rows : Measures 2 read-rows-kinds.ps ℕ
-μ-read-rows κs a = a .1 .0 * (length (a .1 .1 .1 .0 .now) + 1) + (length (a .1 .1 .1 .0 .now) - a .1 .1 .1 .1 .0)
+μ-read-rows κs a = 2 * a .1 .0
 
 abbrev μ-read-table : Measures 2 read-table-kinds.ps ℕ
-μ-read-table κs a = a .1 .0 * (length (a .1 .1 .0 .now) + 1) + (length (a .1 .1 .0 .now) - a .1 .1 .1 .0)
+μ-read-table κs a = 2 * a .1 .0 + 1
 
 abbrev read-rows-at : ℕ → In 2 read-rows-kinds.ps
 read-rows-at t = and 2 read-rows-kinds.ps (is 2 read-rows-kinds.ps μ-read-rows t) read-rows.Pre
@@ -43,137 +46,192 @@ abbrev read-table-below : ℕ → In 2 read-table-kinds.ps
 read-table-below t =
     and 2 read-table-kinds.ps (falls 2 read-table-kinds.ps _<_ μ-read-table t) read-table.Pre
 
-read-rows-sub-read-table : (t : ℕ) → read-rows-lts.Need-sub-read-table (
-  read-table-below t,
-  read-table.Post,
-  gap-end-reads.Asked,
-  gap-end-reads.Learnt,
-  read-rows-below t,
-  read-rows.Post,
-) (read-rows-at t) read-rows.Post
-read-rows-sub-read-table t c = search needs
+abbrev read-rows-Inv-loop : read-rows-lts.InvT-loop
+read-rows-Inv-loop n arity text at cells₀ put more₀ next₀ so-far₀ cells more next so-far =
+    RowsRead text at cells₀ put (table n (arity - 1)) n cells more next so-far × RoomFor (more * n ^ (arity - 1)) text next cells so-far
 
-read-rows-read-table-requires : (t : ℕ) → read-rows-lts.Need-read-table-requires (
+abbrev read-rows-μ-loop : read-rows-lts.MeasureT-loop
+read-rows-μ-loop n arity text at cells₀ put more₀ next₀ so-far₀ cells more next so-far = more
+
+read-rows-read-row-requires : (t : ℕ) → read-rows-lts.Need-read-row-requires (
+  read-row-reads.Asked,
+  read-row-reads.Learnt,
   read-table-below t,
   read-table.Post,
   gap-end-reads.Asked,
   gap-end-reads.Learnt,
-  read-rows-below t,
-  read-rows.Post,
-) (read-rows-at t) read-rows.Post
-read-rows-read-table-requires t c κs =
-    let a = c .before .before .before .args in
-    (omega (arith, part-less (a .arity) (length (now (a .text)) + 1) (omega arith)), (search room-row, omega arith))
+) (read-rows-at t) read-rows.Post read-rows-Inv-loop read-rows-μ-loop
+read-rows-read-row-requires t c κs = (search room-row-cells, omega arith)
 
 read-rows-same-length : (t : ℕ) → read-rows-lts.Need-same-length (
+  read-row-reads.Asked,
+  read-row-reads.Learnt,
   read-table-below t,
   read-table.Post,
   gap-end-reads.Asked,
   gap-end-reads.Learnt,
-  read-rows-below t,
-  read-rows.Post,
-) (read-rows-at t) read-rows.Post
+) (read-rows-at t) read-rows.Post read-rows-Inv-loop read-rows-μ-loop
 read-rows-same-length t c = search needs
 
 read-rows-returns : (t : ℕ) → read-rows-lts.Need-returns (
+  read-row-reads.Asked,
+  read-row-reads.Learnt,
   read-table-below t,
   read-table.Post,
   gap-end-reads.Asked,
   gap-end-reads.Learnt,
-  read-rows-below t,
-  read-rows.Post,
-) (read-rows-at t) read-rows.Post
-read-rows-returns t c = search (rows-fault, not-true)
+) (read-rows-at t) read-rows.Post read-rows-Inv-loop read-rows-μ-loop
+read-rows-returns t c = search rows-cells
+
+read-rows-loop-holds : (t : ℕ) → read-rows-lts.Need-loop-holds (
+  read-row-reads.Asked,
+  read-row-reads.Learnt,
+  read-table-below t,
+  read-table.Post,
+  gap-end-reads.Asked,
+  gap-end-reads.Learnt,
+) (read-rows-at t) read-rows.Post read-rows-Inv-loop read-rows-μ-loop
+read-rows-loop-holds t c = (search rows-read-none, search needs)
+
+read-rows-sub-read-table : (t : ℕ) → read-rows-lts.Need-sub-read-table (
+  read-row-reads.Asked,
+  read-row-reads.Learnt,
+  read-table-below t,
+  read-table.Post,
+  gap-end-reads.Asked,
+  gap-end-reads.Learnt,
+) (read-rows-at t) read-rows.Post read-rows-Inv-loop read-rows-μ-loop
+read-rows-sub-read-table t c = search needs
+
+read-rows-read-table-requires : (t : ℕ) → read-rows-lts.Need-read-table-requires (
+  read-row-reads.Asked,
+  read-row-reads.Learnt,
+  read-table-below t,
+  read-table.Post,
+  gap-end-reads.Asked,
+  gap-end-reads.Learnt,
+) (read-rows-at t) read-rows.Post read-rows-Inv-loop read-rows-μ-loop
+read-rows-read-table-requires t c κs = (omega arith, (search room-row, omega arith))
 
 read-rows-same-length-2 : (t : ℕ) → read-rows-lts.Need-same-length-2 (
+  read-row-reads.Asked,
+  read-row-reads.Learnt,
   read-table-below t,
   read-table.Post,
   gap-end-reads.Asked,
   gap-end-reads.Learnt,
-  read-rows-below t,
-  read-rows.Post,
-) (read-rows-at t) read-rows.Post
+) (read-rows-at t) read-rows.Post read-rows-Inv-loop read-rows-μ-loop
 read-rows-same-length-2 t c = search needs
 
 read-rows-returns-2 : (t : ℕ) → read-rows-lts.Need-returns-2 (
+  read-row-reads.Asked,
+  read-row-reads.Learnt,
   read-table-below t,
   read-table.Post,
   gap-end-reads.Asked,
   gap-end-reads.Learnt,
-  read-rows-below t,
-  read-rows.Post,
-) (read-rows-at t) read-rows.Post
-read-rows-returns-2 t c = search (rows-last, not-false)
+) (read-rows-at t) read-rows.Post read-rows-Inv-loop read-rows-μ-loop
+read-rows-returns-2 t c = search rows-read-fault
 
 read-rows-gap-end-requires : (t : ℕ) → read-rows-lts.Need-gap-end-requires (
+  read-row-reads.Asked,
+  read-row-reads.Learnt,
   read-table-below t,
   read-table.Post,
   gap-end-reads.Asked,
   gap-end-reads.Learnt,
-  read-rows-below t,
-  read-rows.Post,
-) (read-rows-at t) read-rows.Post
+) (read-rows-at t) read-rows.Post read-rows-Inv-loop read-rows-μ-loop
 read-rows-gap-end-requires t c κs = search needs
 
 read-rows-same-length-3 : (t : ℕ) → read-rows-lts.Need-same-length-3 (
+  read-row-reads.Asked,
+  read-row-reads.Learnt,
   read-table-below t,
   read-table.Post,
   gap-end-reads.Asked,
   gap-end-reads.Learnt,
-  read-rows-below t,
-  read-rows.Post,
-) (read-rows-at t) read-rows.Post
+) (read-rows-at t) read-rows.Post read-rows-Inv-loop read-rows-μ-loop
 read-rows-same-length-3 t c = search needs
 
 read-rows-returns-3 : (t : ℕ) → read-rows-lts.Need-returns-3 (
+  read-row-reads.Asked,
+  read-row-reads.Learnt,
   read-table-below t,
   read-table.Post,
   gap-end-reads.Asked,
   gap-end-reads.Learnt,
-  read-rows-below t,
-  read-rows.Post,
-) (read-rows-at t) read-rows.Post
-read-rows-returns-3 t c = search (rows-unparted, not-false)
+) (read-rows-at t) read-rows.Post read-rows-Inv-loop read-rows-μ-loop
+read-rows-returns-3 t c = search rows-read-unparted
 
-read-rows-sub-read-rows : (t : ℕ) → read-rows-lts.Need-sub-read-rows (
+read-rows-sub-more : (t : ℕ) → read-rows-lts.Need-sub-more (
+  read-row-reads.Asked,
+  read-row-reads.Learnt,
   read-table-below t,
   read-table.Post,
   gap-end-reads.Asked,
   gap-end-reads.Learnt,
-  read-rows-below t,
-  read-rows.Post,
-) (read-rows-at t) read-rows.Post
-read-rows-sub-read-rows t c = search needs
+) (read-rows-at t) read-rows.Post read-rows-Inv-loop read-rows-μ-loop
+read-rows-sub-more t c = search needs
 
-read-rows-read-rows-requires : (t : ℕ) → read-rows-lts.Need-read-rows-requires (
+read-rows-loop-less : (t : ℕ) → read-rows-lts.Need-loop-less (
+  read-row-reads.Asked,
+  read-row-reads.Learnt,
   read-table-below t,
   read-table.Post,
   gap-end-reads.Asked,
   gap-end-reads.Learnt,
-  read-rows-below t,
-  read-rows.Post,
-) (read-rows-at t) read-rows.Post
-read-rows-read-rows-requires t c κs = (omega arith, (search (room-rest, not-false), omega arith))
+) (read-rows-at t) read-rows.Post read-rows-Inv-loop read-rows-μ-loop
+read-rows-loop-less t c = search needs
+
+read-rows-loop-again : (t : ℕ) → read-rows-lts.Need-loop-again (
+  read-row-reads.Asked,
+  read-row-reads.Learnt,
+  read-table-below t,
+  read-table.Post,
+  gap-end-reads.Asked,
+  gap-end-reads.Learnt,
+) (read-rows-at t) read-rows.Post read-rows-Inv-loop read-rows-μ-loop
+read-rows-loop-again t c = (search rows-read-more, search (room-rest, not-false))
+
+read-rows-sub-read-table-2 : (t : ℕ) → read-rows-lts.Need-sub-read-table-2 (
+  read-row-reads.Asked,
+  read-row-reads.Learnt,
+  read-table-below t,
+  read-table.Post,
+  gap-end-reads.Asked,
+  gap-end-reads.Learnt,
+) (read-rows-at t) read-rows.Post read-rows-Inv-loop read-rows-μ-loop
+read-rows-sub-read-table-2 t c = search needs
+
+read-rows-read-table-requires-2 : (t : ℕ) → read-rows-lts.Need-read-table-requires-2 (
+  read-row-reads.Asked,
+  read-row-reads.Learnt,
+  read-table-below t,
+  read-table.Post,
+  gap-end-reads.Asked,
+  gap-end-reads.Learnt,
+) (read-rows-at t) read-rows.Post read-rows-Inv-loop read-rows-μ-loop
+read-rows-read-table-requires-2 t c κs = (omega arith, (search room-row, omega arith))
 
 read-rows-same-length-4 : (t : ℕ) → read-rows-lts.Need-same-length-4 (
+  read-row-reads.Asked,
+  read-row-reads.Learnt,
   read-table-below t,
   read-table.Post,
   gap-end-reads.Asked,
   gap-end-reads.Learnt,
-  read-rows-below t,
-  read-rows.Post,
-) (read-rows-at t) read-rows.Post
+) (read-rows-at t) read-rows.Post read-rows-Inv-loop read-rows-μ-loop
 read-rows-same-length-4 t c = search needs
 
 read-rows-returns-4 : (t : ℕ) → read-rows-lts.Need-returns-4 (
+  read-row-reads.Asked,
+  read-row-reads.Learnt,
   read-table-below t,
   read-table.Post,
   gap-end-reads.Asked,
   gap-end-reads.Learnt,
-  read-rows-below t,
-  read-rows.Post,
-) (read-rows-at t) read-rows.Post
-read-rows-returns-4 t c = search (rows-more, not-false)
+) (read-rows-at t) read-rows.Post read-rows-Inv-loop read-rows-μ-loop
+read-rows-returns-4 t c = search rows-read-last
 
 read-table-read-cell-requires : (t : ℕ) → read-table-lts.Need-read-cell-requires (
   read-cell-reads.Asked,
@@ -330,26 +388,33 @@ read-table-returns-5 t c = search (table-closed, not-false)
 
 pub +read-rows+read-table-spec : {M : Type 1} → statement M
 +read-rows+read-table-spec = close μ-read-rows μ-read-table (λ t. read-rows-lts.spec (
+  read-row-reads.Asked,
+  read-row-reads.Learnt,
   read-table-below t,
   read-table.Post,
   gap-end-reads.Asked,
   gap-end-reads.Learnt,
-  read-rows-below t,
-  read-rows.Post,
 )
     (read-rows-at t)
     read-rows.Post
-    (read-rows-sub-read-table t)
-    (read-rows-read-table-requires t)
+    read-rows-Inv-loop
+    read-rows-μ-loop
+    (read-rows-read-row-requires t)
     (read-rows-same-length t)
     (read-rows-returns t)
+    (read-rows-loop-holds t)
+    (read-rows-sub-read-table t)
+    (read-rows-read-table-requires t)
     (read-rows-same-length-2 t)
     (read-rows-returns-2 t)
     (read-rows-gap-end-requires t)
     (read-rows-same-length-3 t)
     (read-rows-returns-3 t)
-    (read-rows-sub-read-rows t)
-    (read-rows-read-rows-requires t)
+    (read-rows-sub-more t)
+    (read-rows-loop-less t)
+    (read-rows-loop-again t)
+    (read-rows-sub-read-table-2 t)
+    (read-rows-read-table-requires-2 t)
     (read-rows-same-length-4 t)
     (read-rows-returns-4 t))
     λ t. read-table-lts.spec (
