@@ -84,7 +84,7 @@ module _ (item : Reader (List ℕ)) (k : ℕ) (text : List ℕ) (at : ℕ) where
       bracket-unclosed : (byteAt text next ≡ 93 → ⊥) → bracket item k text at ≡ fault
       bracket-unclosed c = bracket-items ∙ unmarked "]" text next (done xs) c
 
-      bracket-closed : byteAt text next ≡ 93 → bracket item k text at ≡ found xs (next + 1)
+      pub bracket-closed : byteAt text next ≡ 93 → bracket item k text at ≡ found xs (next + 1)
       bracket-closed c = bracket-items ∙ marked "]" text next (done xs) c
 
 -- a table of arity 0 is a number
