@@ -5,3 +5,4 @@ pub mod Examples
 pub mod Maximum
 pub mod Powers
 pub mod Tables
+pub mod Tested

@@ -1,2 +1,4 @@
 pub mod RoundTrip
 pub mod Examples
+pub mod Taking
+pub mod Writing

@@ -1,3 +1,4 @@
 pub mod Whole
 pub mod Calls
 pub mod RoundTrip
+pub mod InnerReading

@@ -42,7 +42,8 @@ use Rattle.congruence.specs.Meanings.{WroteMap, quotientIn, WroteQuotien
 use Rattle.congruence.proofs.Calls.{factors-reducible, quotient-algebra, blocks-injective}
 use Rattle.congruence.proofs.Decomposing.{factorBytes-yes}
 use Rattle.congruence.proofs.Demands.{meet-right, join-right, generated-least, contained-greatest, separated-right, quotient-at-members, listed-right, listed-certified-yes}
-use Rattle.congruence.proofs.Testing.{algebra-passes, maps-passed}
+use Rattle.algebra.proofs.Tested.{algebra-passes}
+use Rattle.congruence.proofs.Testing.{maps-passed}
 use Rattle.congruence.proofs.Serving.{of-generateTests, of-containedTests, of-separateTests, of-quotientTests, of-decomposeTests, certify-yes}
 use Rattle.congruence.specs.declared.Generated.the-variants.{Merges, Refused as GenerateRefused}
 use Rattle.congruence.specs.declared.Divided.{Divided}

@@ -34,12 +34,10 @@ use Rattle.congruence.specs.declared.Divided.the-variants.{Blocks, Refus
 use Rattle.congruence.specs.declared.Decomposed.{Decomposed}
 use Rattle.congruence.specs.declared.Decomposed.the-variants.{Refused as DecomposeRefused}
 use Rattle.congruence.specs.declared.Certified.the-variants.{Yes, No, Refused as CertifyRefused}
-use Rattle.congruence.proofs.Testing.{of-checked, of-pairsTest, of-elementsTest, of-equalTest, of-congruenceTest, of-mapsTest}
+use Rattle.algebra.proofs.Tested.{of-checked, tests-passed, declined, granted}
+use Rattle.congruence.proofs.Testing.{of-pairsTest, of-elementsTest, of-equalTest, of-congruenceTest, of-mapsTest}
 
 -- ---- what a call may rely on once its tests have passed
-
-pub tests-passed : {check : Check} (tests : List Test) → check ≡ Passed → check ≡ lowest tests → Passed ≡ lowest tests
-tests-passed tests known e = sym known ∙ e
 
 module _ (a : Algebra) (room : ℕ) where
   pub of-generateTests : (ps : List ℕ) → Passed ≡ lowest (generateTests a ps room) → Accepted a × (Below (a .size) ps × (a .size ≤ room))
@@ -89,15 +87,6 @@ pub certify-some : (n : ℕ) (arities cells bytes : List ℕ) {check : Check} �
 certify-some n arities cells bytes known e = of-certifyTests (algebraOf n arities cells) bytes (tests-passed _ known e) .1 .some
 
 -- ---- the answer, and the lent bytes afterwards
-
-module _ {ℓ} {A : Type ℓ} (refused : Refusal → A) (tests : List Test) (answer : A) (new lent : List ℕ) {check : Check} (e : check ≡ lowest tests) where
-  -- a test declines: nothing is written
-  declined : (r : Refusal) → check ≡ Failed r → (refused r, lent) ≡ serve refused tests answer new lent
-  declined r known = sym (serve-failed refused tests answer new lent r (sym e ∙ known))
-
-  -- all pass, and the new bytes are written
-  granted : check ≡ Passed → {given : A} {after : List ℕ} → given ≡ answer → after ≡ written new lent → (given, after) ≡ serve refused tests answer new lent
-  granted known f g = rw (f, g) (sym (serve-passed refused tests answer new lent (sym e ∙ known)))
 
 module _ (a : Algebra) (ps lent : List ℕ) {check : Check} (e : check ≡ lowest (generateTests a ps (length lent))) where
   pub generate-declined : (r : Refusal) → check ≡ Failed r → (GenerateRefused r, lent) ≡ generateCall a ps lent

@@ -1,5 +1,5 @@
--- The tests of the services: the algebra's and then each other one, where it applies and where it is passed over; and what a check function finds by the flags of its tests
--- in turn. What a call does with that is in `Serving`.
+-- The tests of the services behind the algebra's (`Tested` of `algebra`): each one where it applies and where it is passed over; and what a check function finds by the flags of
+-- its tests in turn. What a call does with that is in `Serving`.
 use Prim.Native.Nat.{ℕ, _-_, _*_, _≤_, _<_, _/_, _%_}
 use mathlib.Core.Bool.{Bool, true, false, not, _||_}
 use mathlib.Core.List.{List, [], _∷_, _++_}
@@ -21,6 +21,7 @@ use Rattle.algebra.specs.Accepted.{algebraTests, Accepted}
 use Rattle.algebra.specs.Algebra.{Algebra, algebraOf}
 use Rattle.algebra.specs.Congruence.{isCongruence}
 use Rattle.algebra.proofs.Accepted.{WellFormed, every-at, accepted-wellFormed}
+use Rattle.algebra.proofs.Tested.{algebra-declines, algebra-passes, passed-accepted, test-declines, test-passes, all-pass}
 use borrow.Author.Tests.{not-false}
 use mir.Syntax.{w64}
 use mir.Val.{Fits}
@@ -32,27 +33,6 @@ use Rattle.equivalence.specs.declared.Refusal.{Refusal}
 use Rattle.equivalence.specs.declared.Refusal.the-variants.{Range, NotMap, Space, Equal, NotCongruence}
 use Rattle.equivalence.specs.declared.Check.{Check}
 use Rattle.equivalence.specs.declared.Check.the-variants.{Passed, Failed}
-
--- ---- the algebra's tests, and those behind them
-
-module _ (a : Algebra) (rest : List Test) where
-  -- a reason of the algebra's is the call's
-  pub algebra-declines : {check : Check} (r : Refusal) → check ≡ Failed r → check ≡ lowest (algebraTests a) → Failed r ≡ lowest (algebraTests a ++ rest)
-  algebra-declines r known e = sym (lowest-failed (algebraTests a) rest r (sym e ∙ known))
-
-  -- an accepted algebra's tests are passed over
-  pub algebra-passes : {check found : Check} → check ≡ Passed → check ≡ lowest (algebraTests a) → found ≡ lowest rest → found ≡ lowest (algebraTests a ++ rest)
-  algebra-passes known e f = f ∙ sym (lowest-append (algebraTests a) rest (sym e ∙ known))
-
-  -- where all pass, the algebra is accepted and the rest passes
-  pub of-checked : Passed ≡ lowest (algebraTests a ++ rest) → Accepted a × (lowest rest ≡ Passed)
-  unfolding Accepted
-  of-checked e = passed-append (algebraTests a) rest (sym e)
-
--- where the algebra's tests found nothing, it is accepted
-pub passed-accepted : (a : Algebra) {check : Check} → check ≡ Passed → check ≡ lowest (algebraTests a) → Accepted a
-unfolding Accepted
-passed-accepted a known e = sym e ∙ known
 
 -- where `is_map` says so, it is a map
 pub flag-map : (n : ℕ) (m : Map) {r : Bool} → r ≡ isMap n m → not r ≡ false → T (isMap n m)
@@ -83,16 +63,6 @@ module _ (n : ℕ) (arities cells : List ℕ) {check : Check} (known : check ≡
 
   pub passed-arity : (i : ℕ) → i < length arities → getD arities i 0 ≤ 3
   passed-arity = passed-wellFormed .arity
-
--- a test that applies is what is found; one that is passed over leaves it to the rest
-pub test-declines : (t : Test) (rest : List Test) (r : Refusal) → lowest (t ∷ rest) ≡ Failed r → Failed r ≡ lowest (t ∷ rest)
-test-declines t rest r e = sym e
-
-pub test-passes : (t : Test) (rest : List Test) {found : Check} → lowest (t ∷ rest) ≡ lowest rest → found ≡ lowest rest → found ≡ lowest (t ∷ rest)
-test-passes t rest e f = f ∙ sym e
-
-pub all-pass : Passed ≡ lowest []
-all-pass = sym lowest-none
 
 -- ---- 7, of a list of pairs
 

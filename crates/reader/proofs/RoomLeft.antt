@@ -24,7 +24,7 @@ use Rattle.reader.proofs.Lengths.{IfFound, Finds, Long, cell-long, tabl
 use Rattle.reader.proofs.Words.{begins-within}
 
 -- a part less
-part-less : (k w : ℕ) → 0 < k → (k - 1) * w + w ≡ k * w
+pub part-less : (k w : ℕ) → 0 < k → (k - 1) * w + w ≡ k * w
 part-less zero w h = absurd (omega arith)
 part-less (suc k) w h = rw (sub-one (suc k), suc-mul k w)
 

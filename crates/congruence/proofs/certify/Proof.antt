@@ -1,5 +1,6 @@
 -- `certify`: a test declines, or the four conditions are decided.
-use Rattle.congruence.proofs.Serving.{of-certifyTests, certify-some, tests-passed, certify-declined, certify-yes, certify-no}
+use Rattle.algebra.proofs.Tested.{tests-passed}
+use Rattle.congruence.proofs.Serving.{of-certifyTests, certify-some, certify-declined, certify-yes, certify-no}
 use borrow.Author.Needs.{needs}
 use Rattle.congruence.proofs.certify.Statement.{statement}
 use Rattle.congruence.proofs.certify.Tie as tie

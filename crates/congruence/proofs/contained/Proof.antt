@@ -1,5 +1,6 @@
 -- `contained`: a test declines, or the greatest congruence is written.
-use Rattle.congruence.proofs.Serving.{of-containedTests, tests-passed, contained-declined, contained-granted}
+use Rattle.algebra.proofs.Tested.{tests-passed}
+use Rattle.congruence.proofs.Serving.{of-containedTests, contained-declined, contained-granted}
 use borrow.Author.Needs.{needs}
 use Rattle.congruence.proofs.contained.Statement.{statement}
 use Rattle.congruence.proofs.contained.Tie as tie

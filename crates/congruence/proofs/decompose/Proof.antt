@@ -1,7 +1,8 @@
 -- `decompose`: a test declines, or the answer and the bytes are what was found.
 use borrow.Author.Needs.{needs}
 use Rattle.congruence.proofs.Decomposing.{decompose-factors, decompose-irreducible}
-use Rattle.congruence.proofs.Serving.{of-decomposeTests, tests-passed, decompose-declined}
+use Rattle.algebra.proofs.Tested.{tests-passed}
+use Rattle.congruence.proofs.Serving.{of-decomposeTests, decompose-declined}
 use Rattle.congruence.proofs.decompose.Statement.{statement}
 use Rattle.congruence.proofs.decompose.Tie as tie
 

@@ -1,5 +1,6 @@
 -- `generate`: a test declines, or the least congruence is written, with its merges.
-use Rattle.congruence.proofs.Serving.{of-generateTests, tests-passed, generate-declined, generate-granted}
+use Rattle.algebra.proofs.Tested.{tests-passed}
+use Rattle.congruence.proofs.Serving.{of-generateTests, generate-declined, generate-granted}
 use borrow.Author.Needs.{needs}
 use Rattle.congruence.proofs.generate.Statement.{statement}
 use Rattle.congruence.proofs.generate.Tie as tie

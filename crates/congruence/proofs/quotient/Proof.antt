@@ -1,5 +1,6 @@
 -- `quotient`: a test declines, or the tables over blocks are written.
-use Rattle.congruence.proofs.Serving.{of-quotientTests, tests-passed, quotient-declined, quotient-granted}
+use Rattle.algebra.proofs.Tested.{tests-passed}
+use Rattle.congruence.proofs.Serving.{of-quotientTests, quotient-declined, quotient-granted}
 use borrow.Author.Needs.{needs}
 use Rattle.congruence.proofs.quotient.Statement.{statement}
 use Rattle.congruence.proofs.quotient.Tie as tie

@@ -1,5 +1,6 @@
 -- `separate`: a test declines, or the earliest congruence is written.
-use Rattle.congruence.proofs.Serving.{of-separateTests, tests-passed, separate-declined, separate-granted}
+use Rattle.algebra.proofs.Tested.{tests-passed}
+use Rattle.congruence.proofs.Serving.{of-separateTests, separate-declined, separate-granted}
 use borrow.Author.Needs.{needs}
 use Rattle.congruence.proofs.separate.Statement.{statement}
 use Rattle.congruence.proofs.separate.Tie as tie
