@@ -51,7 +51,7 @@ pub room-behind : (word : List ℕ) → T (every (ltb 0) word) → {need : ℕ} 
 room-behind word t {need} {text} {at} b e h w =
     room-less w (at + length word) need (omega arith) (begins-within text word at t (w .within) (sym e ∙ h)) (omega arith)
 
--- an item that was found is as long as its reader finds items
+-- an item that was found is as long as all that its reader finds
 module _ (item : Reader (List ℕ)) (w : ℕ) (long : Finds (Long w) item) (text : List ℕ) (at : ℕ) where
   item-count : (new : List ℕ) (next : ℕ) (ok : Bool) → item text at ≡ readOf ok new next → ok ≡ true → length new ≡ w
   item-count new next ok e h = subst (λ r. IfFound (Long w) r) (e ∙ ap (λ (b : Bool). readOf b new next) h) (long text at)

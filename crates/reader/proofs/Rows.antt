@@ -15,6 +15,7 @@ use Rattle.reader.proofs.Laying.{laid-none, laid-more}
 use Rattle.reader.proofs.Readers.{before, before-none, before-twice, before-read, then-found, then-fault, gapped, ungapped}
 use Rattle.reader.proofs.Storing.{spot, stored-found, stored-missing}
 
+-- what the first item decides: it is the only one, or a fault, or what comes next has to be a gap
 module _ (item : Reader (List ℕ)) (text : List ℕ) (at : ℕ) where
   parted-one : (left : ℕ) → 0 < left → left ≤ 1 → parted item left text at ≡ item text at
   unfolding parted

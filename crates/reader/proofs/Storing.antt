@@ -1,4 +1,4 @@
--- Numbers, rows and tables read into storage: each way that the readers of tables come to an end.
+-- Numbers and tables read into storage: each way that their readers come to an end.
 use Prim.Native.Nat.{ℕ, zero, suc, _+_, _-_, _^_, _≤_, _<_}
 use mathlib.Core.Bool.{Bool, true, false}
 use mathlib.Core.List.{List, [], _∷_}
