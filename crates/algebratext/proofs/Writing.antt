@@ -3,7 +3,8 @@ use Prim.Native.Nat.{ℕ, _≤_, _<_}
 use mathlib.Core.List.{List, [], _∷_, _++_}
 use mathlib.Core.Path.{_≡_, sym, ap, _∙_}
 use native.Mathlib.Omega.{arith}
-use lib.ListN.{length}
+use lib.ListN.{length, take}
+use lib.Seq.{take-all}
 use Rattle.equivalence.specs.Lent.{written, laid}
 use Rattle.equivalence.specs.Refusal.{lowest, spaceTest}
 use Rattle.equivalence.specs.declared.Refusal.{Refusal}
@@ -11,7 +12,7 @@ use Rattle.equivalence.specs.declared.Refusal.the-variants.{Space}
 use Rattle.equivalence.specs.declared.Check.{Check}
 use Rattle.equivalence.specs.declared.Check.the-variants.{Passed, Failed}
 use Rattle.equivalence.proofs.Refusals.{of-passed, of-spaceTest, space-refused, space-passed}
-use Rattle.algebra.specs.Algebra.{Algebra, algebraOf}
+use Rattle.algebra.specs.Algebra.{Algebra, algebraOf, cellCount}
 use Rattle.algebra.specs.Accepted.{algebraTests, Accepted}
 use Rattle.algebra.proofs.Accepted.{accepted-wellFormed}
 use Rattle.algebra.proofs.Tested.{algebra-declines, algebra-passes, of-checked, passed-accepted, test-declines, test-passes, all-pass, tests-passed, declined, granted}
@@ -19,6 +20,8 @@ use Rattle.reader.specs.Laying.{Laid}
 use Rattle.tablewriter.specs.Texts.{algebraText}
 use Rattle.tablewriter.specs.InnerFits.{Tables, LinesFit}
 use Rattle.tablewriter.specs.InnerLengths.{Measurable}
+use Rattle.tablewriter.proofs.Bounds.{text-bound}
+use Rattle.algebratext.specs.Bounds.{TextBounded}
 use Rattle.algebratext.specs.Calls.{writeTests, writeCall}
 use Rattle.algebratext.specs.declared.TextWritten.the-variants.{Length, Refused}
 
@@ -67,3 +70,19 @@ module _ (a : Algebra) (lent : List ℕ) {check : Check} (e : check ≡ lowest (
   unfolding writeCall
   write-granted after end known l =
       granted Refused _ _ _ lent e known (ap Length (omega (arith, l .place))) (laid-at-start lent (algebraText a) after end l)
+
+-- no text is longer than its cells let it be
+module _ (n : ℕ) (arities cells lent : List ℕ) {check : Check} (known : check ≡ Passed) (e : check ≡ lowest (writeTests (algebraOf n arities cells) (length lent))) where
+  text-bounded : length (algebraText (algebraOf n arities cells)) ≤ 131290
+  text-bounded =
+      let a = algebraOf n arities cells in
+      let accepted = of-checked a (spaceTest (length (algebraText a)) (length lent) ∷ []) (tests-passed (writeTests a (length lent)) known e) .0 in
+      let w = accepted-wellFormed a accepted in
+      let all : take (cellCount n arities) cells ≡ cells = take-all (cellCount n arities) cells (omega (arith, w .filled)) in
+      omega (arith, w .room, text-bound n arities cells (accepted-tables n arities cells accepted) (rw all (λ i h. omega (arith, w .below i h, w .most))))
+
+  pub length-bounded : (after : List ℕ) (end : ℕ) → Laid lent 0 (algebraText (algebraOf n arities cells)) after end → TextBounded (Length end)
+  length-bounded after end l k f = let g : end ≡ k = cc in omega (arith, text-bounded, l .place)
+
+pub refusal-unbounded : (r : Refusal) → TextBounded (Refused r)
+refusal-unbounded r k f = let z : _≡_ {A = ℕ} 0 1 = cc in absurd (omega arith)

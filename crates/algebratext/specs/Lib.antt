@@ -1,4 +1,5 @@
 pub mod Whole
 pub mod Calls
 pub mod RoundTrip
+pub mod Bounds
 pub mod InnerReading

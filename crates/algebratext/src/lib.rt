@@ -3,6 +3,7 @@ ghost use mathlib.Core.Path.{_≡_};
 ghost use Rattle.equivalence.specs.Refusal.{lowest};
 ghost use Rattle.algebra.specs.Algebra.{algebraIn};
 ghost use Rattle.algebratext.specs.Calls.{writeTests, writeCall, readCall};
+ghost use Rattle.algebratext.specs.Bounds.{TextBounded, ReadBounded};
 use algebra::MAX_CELLS;
 use algebra::MAX_OPERATIONS;
 use equivalence::Check;
@@ -39,10 +40,11 @@ fn write_check(n: usize, arities: &[u8], cells: &[u8], room: usize) -> Check
     Check::Passed
 }
 
-// The text of an algebra, a size line and an operation line for each table, goes to the start of out; the answer is how long it is, at most 102,738 bytes.
+// The text of an algebra, a size line and an operation line for each table, goes to the start of out; the answer is how long it is.
 // Bytes behind it keep their value. Reasons to decline: 1 to 6, and 9 where fewer bytes are lent than the text has; then nothing is written.
 pub fn write_algebra(n: usize, arities: &[u8], cells: &[u8], out: &mut [u8]) -> TextWritten
     ensures { λ r. ⌜ (r, now (out .exit)) ≡ writeCall (algebraIn n (arities .entry) (cells .entry)) (now (out .entry)) ⌝ }
+    ensures bounded { λ r. ⌜ TextBounded r ⌝ }
 {
     let check = write_check(n, arities, cells, out.len());
     if let Check::Failed(reason) = check {
@@ -56,6 +58,7 @@ pub fn write_algebra(n: usize, arities: &[u8], cells: &[u8], out: &mut [u8]) -> 
 // any other line and for an empty text. A text may be of any length. A refusal writes nothing.
 pub fn read_algebra(text: &[u8], cells: &mut [u8]) -> AlgebraRead
     ensures { λ r. ⌜ (r, now (cells .exit)) ≡ readCall (now (text .entry)) (now (cells .entry)) ⌝ }
+    ensures bounded { λ r. ⌜ ReadBounded r ⌝ }
 {
     if cells.len() < MAX_CELLS {
         return reading::refused(Refusal::Space);

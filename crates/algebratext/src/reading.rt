@@ -13,11 +13,13 @@ ghost use Prim.Native.Nat.{_≤_};
 ghost use lib.ListN.{length};
 ghost use Rattle.reader.specs.Lines.{refused as refusedBy};
 ghost use Rattle.algebratext.specs.Calls.{algebraRead};
+ghost use Rattle.algebratext.specs.Bounds.{ReadBounded};
 ghost use Rattle.algebratext.specs.InnerReading.{LinesTaken, wholeCall};
 
 // A refusal, with zeros beside it.
 pub fn refused(reason: Refusal) -> AlgebraRead
     ensures { λ r. ⌜ r ≡ algebraRead (refusedBy reason) ⌝ }
+    ensures bounded { λ r. ⌜ ReadBounded r ⌝ }
 {
     AlgebraRead {
         check: Check::Failed(reason),
@@ -71,6 +73,7 @@ pub fn read_whole(text: &[u8], room: &mut [u8], cells: &mut [u8]) -> AlgebraRead
     requires { ⌜ 32768 ≤ length (now room) ⌝ }
     requires { ⌜ 32768 ≤ length (now cells) ⌝ }
     ensures { λ r. ⌜ (r, now (cells .exit)) ≡ wholeCall (now (text .entry)) (now (cells .entry)) ⌝ }
+    ensures bounded { λ r. ⌜ ReadBounded r ⌝ }
 {
     let mut arities = [0u8; MAX_OPERATIONS];
     let lines = take_lines(text, &mut arities, room);

@@ -33,7 +33,7 @@ use Rattle.writer.specs.InnerRoom.{FactorsRoom}
 use Rattle.writer.proofs.Spacing.{outcome-refused}
 use Rattle.bracket.specs.Answers.{mapLine, generatedLine, factorsLine, answer}
 use Rattle.reader.specs.Laying.{Laid}
-use Rattle.bracket.specs.InnerPromises.{MapFits, FactorsFit, Zeros}
+use Rattle.bracket.specs.InnerPromises.{LineFits, MapFits, FactorsFit, Zeros}
 use Rattle.reader.specs.declared.requests.Asked.{Asked}
 use Rattle.reader.specs.declared.requests.Asked.the-variants.{Generate, Contained, Separate, Decompose}
 
@@ -47,30 +47,41 @@ take-zeros zero m h = refl
 take-zeros (suc k) zero h = absurd (omega arith)
 take-zeros (suc k) (suc m) h = ap (λ (l : List ℕ). 0 ∷ l) (take-zeros k m (le-of-suc-le-suc h))
 
-module _ (n : ℕ) (space out : List ℕ) (z : Zeros 4032 n space out) where
-  part-zeros : (k : ℕ) → k ≤ 4032 → take (k - 0) space ≡ replicate k 0
-  part-zeros k h = rw (sub-zero k, z .zeros) (take-zeros k 4032 h)
+module _ (k n cells : ℕ) (space out : List ℕ) (z : Zeros k n cells space out) where
+  space-long : length space ≡ k
+  space-long = ap length (z .zeros) ∙ length-replicate {A = ℕ} k 0
 
-  space-long : length space ≡ 4032
-  space-long = ap length (z .zeros) ∙ length-replicate {A = ℕ} 4032 0
+  part-zeros : (i : ℕ) → i ≤ k → Zeros i n cells (take (i - 0) space) out
+  part-zeros i h = record { zeros = rw (sub-zero i, z .zeros) (take-zeros i k h); fits = z .fits }
 
+module _ (n cells : ℕ) (space out : List ℕ) (z : Zeros 4032 n cells space out) where
   pub map-part : n ≤ length space
-  map-part = omega (arith, space-long, z .fits .most)
+  map-part = omega (arith, space-long 4032 n cells space out z, z .fits .most)
 
   pub factors-part : factorSpace n ≤ length space
-  factors-part = omega (arith, space-long, factors-short n (z .fits .most))
+  factors-part = omega (arith, space-long 4032 n cells space out z, factors-short n (z .fits .most))
 
-  pub map-zeros : Zeros n n (take (n - 0) space) out
-  map-zeros = record { zeros = part-zeros n (omega (arith, z .fits .most)); fits = z .fits }
+  pub map-zeros : Zeros n n cells (take (n - 0) space) out
+  map-zeros = part-zeros 4032 n cells space out z n (omega (arith, z .fits .most))
 
-  pub factors-zeros : Zeros (factorSpace n) n (take (factorSpace n - 0) space) out
-  factors-zeros = record { zeros = part-zeros (factorSpace n) (factors-short n (z .fits .most)); fits = z .fits }
+  pub factors-zeros : Zeros (factorSpace n) n cells (take (factorSpace n - 0) space) out
+  factors-zeros = part-zeros 4032 n cells space out z (factorSpace n) (factors-short n (z .fits .most))
+
+  pub fits-alone : LineFits n cells out
+  fits-alone = z .fits
+
+module _ (n cells : ℕ) (space out : List ℕ) (z : Zeros 32768 n cells space out) where
+  pub cells-part : cells ≤ length space
+  cells-part = omega (arith, space-long 32768 n cells space out z, z .fits .fit)
+
+  pub cells-zeros : Zeros cells n cells (take (cells - 0) space) out
+  cells-zeros = part-zeros 32768 n cells space out z cells (z .fits .fit)
 
 -- a service that was lent n bytes gives n bytes back
-pub map-fits : (n : ℕ) (lent map out : List ℕ) → Zeros n n lent out → length map ≡ length lent → MapFits map out
-map-fits n lent map out z e =
+pub map-fits : (n cells : ℕ) (lent map out : List ℕ) → Zeros n n cells lent out → length map ≡ length lent → MapFits map out
+map-fits n cells lent map out z e =
     let l : length map ≡ n = e ∙ ap length (z .zeros) ∙ length-replicate n 0 in
-    record { some = omega arith; most = omega arith; line = z .fits .line }
+    record { some = omega (arith, z .fits .some); line = omega (arith, z .fits .line) }
 
 module _ (lent map out : List ℕ) (end : ℕ) where
   pub line-of-merges : (g : Generated) (k : ℕ) → g ≡ Merges k
@@ -95,9 +106,9 @@ module _ (answer : Decomposed) (n : ℕ) (factors lent : List ℕ) (f : FactorsF
   pub factors-room : (k : ℕ) → answer ≡ Factors k → FactorsRoom n k factors lent
   factors-room k e =
       let l : k < n = f .few k e in
-      let p : k * (4 * n + 2) ≤ 63 * 258 = mul-le-mul {n₂ = 63} {m₂ = 258} (omega (arith, f .fits)) (omega (arith, f .fits)) in
+      let p : k * (4 * n + 2) ≤ n * 258 = mul-le-mul {n₂ = n} {m₂ = 258} (omega arith) (omega (arith, f .most)) in
       let q : k * n ≤ factorSpace n = mul-le-mul-right {m = k} {n = n - 1} n (omega arith) in
-      record { some = f .fits .some; line = omega (arith, f .fits .line); list = rw (f .list) q }
+      record { some = f .some; line = omega (arith, f .line); list = rw (f .list) q }
 
   module _ (out : List ℕ) (end : ℕ) where
     pub line-of-factors : (k : ℕ) → answer ≡ Factors k → Laid lent 0 (line (ascii "[factors") (spacedBrackets (map (stretch n factors) (upTo k)))) out end
@@ -131,7 +142,7 @@ factors-few a lent map d e k g =
     (sym (ap (λ (p : Decomposed × List ℕ). p .0) e) ∙ g)
 
 -- the calls, lent zeros
-module _ (n : ℕ) (arities cells before map lent out : List ℕ) (end : ℕ) (z : Zeros n n before lent) where
+module _ (n : ℕ) (arities cells before map lent out : List ℕ) (end : ℕ) (z : Zeros n n (length cells) before lent) where
   pub generate-answered : (ps : List ℕ) (g : Generated) → (g, map) ≡ generateCall (algebraOf n arities cells) ps before
       → Laid lent 0 (generatedLine g map) out end → Laid lent 0 (answer (algebraOf n arities cells) Generate ps) out end
   unfolding answer
@@ -148,16 +159,18 @@ module _ (n : ℕ) (arities cells before map lent out : List ℕ) (end : ℕ) (z
   separate-answered v w g e l = rw (← z .zeros, ← e) l
 
 -- Decompose, lent zeros
-pub factors-fit : (n : ℕ) (arities cells before factors out : List ℕ) (d : Decomposed) → Zeros (factorSpace n) n before out → length factors ≡ length before
+pub factors-fit : (n : ℕ) (arities cells before factors out : List ℕ) (d : Decomposed) → Zeros (factorSpace n) n (length cells) before out → length factors ≡ length before
     → (d, factors) ≡ decomposeCall (algebraOf n arities cells) before → FactorsFit d n factors out
 factors-fit n arities cells before factors out d z e g =
     record {
-      fits = z .fits;
+      some = z .fits .some;
+      most = z .fits .most;
+      line = omega (arith, z .fits .line);
       list = e ∙ ap length (z .zeros) ∙ length-replicate (factorSpace n) 0;
       few = λ k h. factors-few (algebraOf n arities cells) before factors d g k h;
     }
 
-pub decompose-answered : (n : ℕ) (arities cells before factors lent out : List ℕ) (end : ℕ) (d : Decomposed) → Zeros (factorSpace n) n before lent
+pub decompose-answered : (n : ℕ) (arities cells before factors lent out : List ℕ) (end : ℕ) (d : Decomposed) → Zeros (factorSpace n) n (length cells) before lent
     → (d, factors) ≡ decomposeCall (algebraOf n arities cells) before → Laid lent 0 (factorsLine n d factors) out end
     → Laid lent 0 (answer (algebraOf n arities cells) Decompose []) out end
 unfolding answer

@@ -10,7 +10,7 @@ use Rattle.equivalence.specs.Lists.{concat}
 use Rattle.equivalence.specs.declared.Refusal.the-variants.{Text}
 use Rattle.writer.specs.Lines.{refusedLine}
 use Rattle.bracket.specs.Transcript.{State, Step, goes, ends, textLimit, firstStep, step, output, run, transcript}
-use Rattle.bracket.specs.Fills.{lineRoom, Position, fresh, midway, over, due, pieceOf, positionAfter, Fill, ended, short, takes, Fills, finished, onwards}
+use Rattle.bracket.specs.Fills.{roomAt, Position, fresh, midway, over, due, pieceOf, positionAfter, Fill, ended, short, takes, Fills, finished, onwards}
 use Rattle.bracket.proofs.Advancing.{Ahead, step-ahead}
 
 module _ (text : List ℕ) where
@@ -122,7 +122,7 @@ module _ (text : List ℕ) where
   fill-no-more (takes {p = p} h f) = omega (arith, fill-no-more f, step-no-more p)
 
   -- and so does each fill
-  pub fill-less : {room : ℕ} {p q : Position} {bytes : List ℕ} → lineRoom ≤ room → 0 < distance p → Fill text room p bytes q → distance q < distance p
+  pub fill-less : {room : ℕ} {p q : Position} {bytes : List ℕ} → roomAt p ≤ room → 0 < distance p → Fill text room p bytes q → distance q < distance p
   fill-less r h ended = absurd (omega arith)
   fill-less r h (short l) = absurd (omega arith)
   fill-less r h (takes {p = p} l f) = omega (arith, fill-no-more f, step-less p h)

@@ -15,8 +15,8 @@ use Rattle.equivalence.specs.Lent.{written, laid}
 use Rattle.reader.specs.Laying.{Laid}
 use Rattle.reader.proofs.Laying.{laid-none, laid-more}
 use Rattle.bracket.specs.Transcript.{State, goes}
-use Rattle.bracket.specs.Fills.{lineRoom, Position, over, due, pieceOf, positionAfter, Fill, ended, short, takes}
-use Rattle.bracket.specs.Standings.{stateOf, positionBy, positionOf, Sound, Kept, Filling}
+use Rattle.bracket.specs.Fills.{roomAt, Position, over, due, pieceOf, positionAfter, Fill, ended, short, takes}
+use Rattle.bracket.specs.Standings.{stateOf, positionBy, positionOf, roomFrom, standingRoom, Sound, Kept, Filling}
 use Rattle.bracket.specs.InnerSteps.{stepOf, Lent, Stepping, closedAt, Lined}
 use Rattle.bracket.specs.declared.run.Standing.{Standing}
 use Rattle.bracket.specs.declared.run.Stepped.{Stepped}
@@ -113,6 +113,17 @@ kept-more {s} {arities} {room} {s′} {arities′} {room′} {s″} {arities″}
       used-cells = first (s .cells) (s′ .cells) room room′ room″ (p .cells) (p .used-cells) (q .used-cells);
     }
 
+-- the room at a standing is that at its position
+room-by : (b : Bool) (at : ℕ) (x : State) → b ≡ true → roomFrom at (x .algebra .size) (length (x .algebra .cells)) ≡ roomAt (positionBy b at x)
+unfolding roomAt
+room-by true zero x e = refl
+room-by true (suc at) x e = refl
+room-by false at x e = let z : _≡_ {A = ℕ} 0 1 = cc in absurd (omega arith)
+
+pub room-known : (s : Standing) (arities room : List ℕ) → s .goes ≡ true → s .cells ≤ length room → standingRoom s ≡ roomAt (positionOf s arities room)
+room-known s arities room e h =
+    ap (roomFrom (s .at) (s .size)) (sym (length-take-le (s .cells) room h)) ∙ room-by (s .goes) (s .at) (stateOf s arities room) e
+
 -- lines were taken from a standing on, and `put` bytes laid; any fill from there on makes a fill from that standing
 pub record LinesGathered (text : List ℕ) (s : Standing) (arities room lent : List ℕ) (s′ : Standing) (arities′ room′ out : List ℕ) (put : ℕ) : Type 0 where
   pub bytes : List ℕ
@@ -136,8 +147,12 @@ lines-gathered-none text s arities room lent w =
     }
 
 module _ (text : List ℕ) (s : Standing) (arities room lent : List ℕ) (s′ : Standing) (arities′ room′ out : List ℕ) (put : ℕ)
-    (g : LinesGathered text s arities room lent s′ arities′ room′ out put) where
-  pub lines-gathered-more : lineRoom ≤ length out - put → (arities″ room″ part : List ℕ) (r : Stepped)
+    (g : LinesGathered text s arities room lent s′ arities′ room′ out put) (w : Lent text s arities room lent) (goes : s′ .goes ≡ true) (k : ℕ) (ek : k ≡ standingRoom s′) where
+  -- the room that the next line may want
+  wanted : k ≡ roomAt (positionOf s′ arities′ room′)
+  wanted = ek ∙ room-known s′ arities′ room′ goes (omega (arith, g .sound .paced, g .sound .within, w .storage, g .same-room))
+
+  pub lines-gathered-more : k ≤ length out - put → (arities″ room″ part : List ℕ) (r : Stepped)
       → Lined text s′ arities′ room′ (take (length out - put) (drop put out)) arities″ room″ part r → length arities″ ≡ length arities′ → length room″ ≡ length room′
       → LinesGathered text s arities room lent (r .standing) arities″ room″ (putMid put (length out - put) out part) (put + r .wrote)
   lines-gathered-more h arities″ room″ part r l ea er =
@@ -151,13 +166,34 @@ module _ (text : List ℕ) (s : Standing) (arities room lent : List ℕ) (s′ :
             (laid-within out put piece part (r .wrote) (omega (arith, g .laid .within, g .laid .long)) (l .laid));
         joins =
             λ more q f.
-            rw append-assoc (g .joins (piece ++ more) q (takes (omega (arith, g .laid .long)) (rw (e, l .position) at f)));
+            rw append-assoc (g .joins (piece ++ more) q (takes (omega (arith, g .laid .long, wanted)) (rw (e, l .position) at f)));
         sound = l .sound;
         kept = kept-more (g .kept) (l .kept);
         same-arities = ea ∙ g .same-arities;
         same-room = er ∙ g .same-room;
       }
 
+  pub lines-gathered-short : length out - put < k → Filling text s arities room lent arities′ room′ out (record { standing = s′; wrote = put })
+  lines-gathered-short h =
+      record {
+        bytes = g .bytes;
+        fill = rw append-nil at (g .joins [] (positionOf s′ arities′ room′) (short (omega (arith, g .laid .long, wanted))));
+        laid = g .laid;
+        sound = g .sound;
+        kept = g .kept;
+      }
+
+  -- the next line has what it wants
+  pub lines-gathered-lent : k ≤ length out - put → Lent text s′ arities′ room′ (take (length out - put) (drop put out))
+  lines-gathered-lent h =
+      record {
+        sixteen = omega (arith, w .sixteen, g .same-arities);
+        storage = omega (arith, w .storage, g .same-room);
+        line = simp (length-take, length-drop) (omega arith);
+      }
+
+module _ (text : List ℕ) (s : Standing) (arities room lent : List ℕ) (s′ : Standing) (arities′ room′ out : List ℕ) (put : ℕ)
+    (g : LinesGathered text s arities room lent s′ arities′ room′ out put) where
   -- what it lays fits
   pub lines-gathered-fits : (arities″ room″ part : List ℕ) (r : Stepped) → Lined text s′ arities′ room′ (take (length out - put) (drop put out)) arities″ room″ part r
       → put + r .wrote ≤ length out
@@ -171,25 +207,6 @@ module _ (text : List ℕ) (s : Standing) (arities room lent : List ℕ) (s′ :
         laid = g .laid;
         sound = g .sound;
         kept = g .kept;
-      }
-
-  pub lines-gathered-short : length out - put < lineRoom → Filling text s arities room lent arities′ room′ out (record { standing = s′; wrote = put })
-  lines-gathered-short h =
-      record {
-        bytes = g .bytes;
-        fill = rw append-nil at (g .joins [] (positionOf s′ arities′ room′) (short (omega (arith, g .laid .long))));
-        laid = g .laid;
-        sound = g .sound;
-        kept = g .kept;
-      }
-
-  -- the next line has what it wants
-  pub lines-gathered-lent : Lent text arities room lent → lineRoom ≤ length out - put → Lent text arities′ room′ (take (length out - put) (drop put out))
-  lines-gathered-lent w h =
-      record {
-        sixteen = omega (arith, w .sixteen, g .same-arities);
-        storage = omega (arith, w .storage, g .same-room);
-        line = simp (length-take, length-drop) (omega arith);
       }
 
 -- a run that goes on is not at its end

@@ -1,6 +1,7 @@
 pub mod Advancing
 pub mod Answering
 pub mod Calling
+pub mod Dividing
 pub mod Examples
 pub mod Fills
 pub mod Gathering

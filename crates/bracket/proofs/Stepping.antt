@@ -1,5 +1,5 @@
 -- Steps of a run: what each line comes to.
-use Prim.Native.Nat.{ℕ, zero, suc, _+_, _-_, _≤_, _<_}
+use Prim.Native.Nat.{ℕ, zero, suc, _+_, _-_, _*_, _≤_, _<_}
 use mathlib.Core.Bool.{Bool, true, false, not}
 use mathlib.Core.List.{List}
 use mathlib.Core.Path.{_≡_, refl, ap, sym, _∙_}
@@ -7,6 +7,7 @@ use native.Mathlib.Nat.{sub-zero}
 use native.Mathlib.Omega.{arith}
 use borrow.Author.Tests.{not-true, not-false, lt-ltb, le-ltb}
 use lib.ListN.{length, take, drop}
+use lib.Seq.{length-take-le}
 use Rattle.kernel.specs.InnerKernel.{bit}
 use Rattle.equivalence.specs.Lists.{every}
 use Rattle.equivalence.specs.declared.Refusal.{Refusal}
@@ -28,9 +29,10 @@ use Rattle.reader.proofs.RoomLeft.{room-of-text}
 use Rattle.reader.proofs.Words.{begins-within}
 use Rattle.writer.specs.Lines.{refusedLine}
 use Rattle.bracket.specs.Transcript.{State, textLimit, afterLine, afterRequest, firstStep, operationStep, requestStep, step}
-use Rattle.bracket.specs.Fills.{due}
-use Rattle.bracket.specs.Standings.{stateOf, positionBy, positionOf, unread, Sound, Kept}
+use Rattle.bracket.specs.Fills.{lineRoom, due}
+use Rattle.bracket.specs.Standings.{stateOf, positionBy, positionOf, unread, roomFrom, standingRoom, Sound, Kept}
 use Rattle.bracket.specs.Answers.{answer}
+use Rattle.bracket.specs.InnerPromises.{LineFits}
 use Rattle.bracket.specs.InnerSteps.{stepOf, Lent, Stepping, behindLines, pieceFor, AfterLine}
 use Rattle.bracket.specs.declared.run.Standing.{Standing}
 use Rattle.bracket.specs.declared.run.Stepped.{Stepped}
@@ -90,8 +92,39 @@ first-taken text lent out l r h t q arities room =
 abbrev pub soFar : Standing → AlgebraSoFar
 soFar s = record { at = s .at; size = s .size; operations = s .operations; cells = s .cells }
 
+-- no line wants less than a refusal has
+least-room : (at n cells : ℕ) → 14 ≤ roomFrom at n cells
+least-room zero n cells = omega arith
+least-room (suc at) n cells = omega arith
+
+-- behind the first byte a line wants room for its algebra
+later-room : (at n cells : ℕ) → 0 < at → lineRoom n cells ≡ roomFrom at n cells
+later-room zero n cells h = absurd (omega arith)
+later-room (suc at) n cells h = refl
+
+pub first-line-room : (s : Standing) → s .at ≡ 0 → 514 ≡ standingRoom s
+first-line-room s e = rw e
+
+pub later-line-room : (s : Standing) → (s .at ≡ 0 → ⊥) → 258 * s .size + 4 * s .cells + 256 ≡ standingRoom s
+later-line-room s h = later-room (s .at) (s .size) (s .cells) (omega arith)
+
 -- the storage of a run, which is as long as the text, has room for what comes
-module _ (text : List ℕ) (s : Standing) (arities room lent : List ℕ) (sound : Sound text s) (w : Lent text arities room lent) where
+module _ (text : List ℕ) (s : Standing) (arities room lent : List ℕ) (sound : Sound text s) (w : Lent text s arities room lent) where
+  -- every line has room for a refusal
+  pub room-for-refusal : 14 ≤ length lent
+  room-for-refusal = omega (arith, w .line, least-room (s .at) (s .size) (s .cells))
+
+  -- and a request, which comes behind the size line, has room for its answer
+  pub room-for-answer : 0 < s .at → (after : List ℕ) → length after ≡ length room → LineFits (s .size) (length (take (s .cells - 0) after)) lent
+  room-for-answer h after e =
+      let k : length (take (s .cells - 0) after) ≡ s .cells = rw sub-zero (length-take-le (s .cells) after (omega (arith, sound .paced, sound .within, w .storage))) in
+      record {
+        some = sound .some;
+        most = sound .most;
+        fit = omega (arith, sound .fit);
+        line = omega (arith, w .line, later-room (s .at) (s .size) (s .cells) h);
+      }
+
   pub room-for-operation : s .at + 3 ≤ length text → RoomForCells text (s .at + 3) room (s .cells)
   room-for-operation h = room-of-text (32768 - s .cells) text (s .at + 3) room (s .cells) h (omega arith) (w .storage)
 
@@ -118,7 +151,7 @@ abbrev behindRequest : Standing → RequestLine → Standing
 behindRequest s l = record { goes = l .ok; at = l .next; size = s .size; operations = s .operations; cells = s .cells; requested = true }
 
 -- a request line that was read
-module _ (text : List ℕ) (s : Standing) (arities room lent : List ℕ) (sound : Sound text s) (w : Lent text arities room lent)
+module _ (text : List ℕ) (s : Standing) (arities room lent : List ℕ) (sound : Sound text s) (w : Lent text s arities room lent)
     (after : List ℕ) (l : RequestLine) (r : Requested text (s .at) room (s .cells) (request text (s .at)) after l) (out : List ℕ) (wrote : ℕ) where
   past : s .at + bit (l .ok) ≤ l .next
   past = requested-past text (s .at) room (s .cells) after l r

@@ -1,20 +1,26 @@
 -- A run in fills: lines are taken, and what they write is laid, until the run is over or the room gets short.
-use Prim.Native.Nat.{ℕ, _-_, _≤_, _<_}
+use Prim.Native.Nat.{ℕ, _+_, _-_, _*_, _≤_, _<_}
 use mathlib.Core.Bool.{true, false}
 use mathlib.Core.List.{List, [], _∷_, _++_}
 use lib.Dec.{leb}
 use lib.ListN.{length}
 use Rattle.bracket.specs.Transcript.{State, Step, goes, ends, firstStep, step}
 
--- the room that a line may want
-abbrev pub lineRoom : ℕ
-lineRoom = 16384
+-- the room that a line may want over n elements and so many cells: n maps of 64 numbers at most, or the lines of as many cells
+abbrev pub lineRoom : ℕ → ℕ → ℕ
+lineRoom n cells = 258 * n + 4 * cells + 256
 
 -- where a run stands: before its first line, before another, or at its end
 pub data Position : Type 0 where
   fresh : Position
   midway : State → Position
   over : Position
+
+-- the room that the line at a position may want
+unfoldable pub roomAt : Position → ℕ
+roomAt fresh = lineRoom 1 0
+roomAt (midway s) = lineRoom (s .algebra .size) (length (s .algebra .cells))
+roomAt over = 0
 
 -- the step that is due at a position
 unfoldable pub due : List ℕ → Position → Step
@@ -32,12 +38,12 @@ unfoldable pub positionAfter : List ℕ → Step → Position
 positionAfter text (goes piece s) = elim (leb (length text) (s .at)) [ true ↦ over | false ↦ midway s ]
 positionAfter text (ends piece) = over
 
--- a fill of so much room, from a position to a position: its bytes are what the steps between them write, in order; it ends where the run is over, or where a line may want more
--- than the room that is left
+-- a fill of so much room, from a position to a position: its bytes are what the steps between them write, in order; it ends where the run is over, or where the next line may
+-- want more than the room that is left
 pub data Fill (text : List ℕ) : ℕ → Position → List ℕ → Position → Type 0 where
   ended : {room : ℕ} → Fill text room over [] over
-  short : {room : ℕ} {p : Position} → room < lineRoom → Fill text room p [] p
-  takes : {room : ℕ} {p q : Position} {more : List ℕ} → lineRoom ≤ room → Fill text (room - length (pieceOf (due text p))) (positionAfter text (due text p)) more q
+  short : {room : ℕ} {p : Position} → room < roomAt p → Fill text room p [] p
+  takes : {room : ℕ} {p q : Position} {more : List ℕ} → roomAt p ≤ room → Fill text (room - length (pieceOf (due text p))) (positionAfter text (due text p)) more q
       → Fill text room p (pieceOf (due text p) ++ more) q
 
 -- the bytes of the fills of a run from a position on, each fill from where the one before it ended, to the end of the run

@@ -9,8 +9,8 @@ use lib.ListN.{length}
 use Rattle.equivalence.specs.declared.Check.{Check}
 use Rattle.equivalence.specs.declared.Check.the-variants.{Passed, Failed}
 use Rattle.bracket.specs.Transcript.{State, Step, goes, ends, firstStep}
-use Rattle.bracket.specs.Fills.{lineRoom, due, pieceOf, positionAfter}
-use Rattle.bracket.specs.Standings.{stateOf, positionOf, Sound, Kept, Filling}
+use Rattle.bracket.specs.Fills.{due, pieceOf, positionAfter}
+use Rattle.bracket.specs.Standings.{stateOf, positionOf, standingRoom, Sound, Kept, Filling}
 use Rattle.kernel.specs.InnerKernel.{bit}
 use Rattle.reader.specs.InnerPromises.{passes}
 use Rattle.reader.specs.Laying.{Laid}
@@ -25,11 +25,11 @@ abbrev pub stepOf : Bool → List ℕ → State → Step
 stepOf true piece s = goes piece s
 stepOf false piece s = ends piece
 
--- the lent slices are long enough
-pub record Lent (text arities room out : List ℕ) : Type 0 where
+-- the lent slices are long enough for the line at a standing
+pub record Lent (text : List ℕ) (s : Standing) (arities room out : List ℕ) : Type 0 where
   pub sixteen : 16 ≤ length arities
   pub storage : length text ≤ length room
-  pub line : lineRoom ≤ length out
+  pub line : standingRoom s ≤ length out
 
 -- a step came to what `d` says: it wrote the piece, and nothing after it; the lent slices hold the arities and the cells
 pub record Stepping (text : List ℕ) (at : ℕ) (d : Step) (lent arities room out : List ℕ) (r : Stepped) : Type 0 where

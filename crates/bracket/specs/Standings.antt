@@ -35,6 +35,7 @@ pub record Sound (text : List ℕ) (s : Standing) : Type 0 where
   pub most : s .size ≤ 64
   pub few : s .operations ≤ 16
   pub counted : s .operations ≤ s .at
+  pub fit : s .cells ≤ 32768
   pub paced : s .cells ≤ s .at
 
 -- what lines leave of the lent slices: the arities and the cells that were in use stay as they are, and so do the arities behind those that are in use afterwards; the
@@ -58,6 +59,15 @@ pub record Filling (text : List ℕ) (s : Standing) (arities room lent arities�
 abbrev pub unread : Bool → Standing
 unread b = record { goes = b; at = 0; size = 1; operations = 0; cells = 0; requested = false }
 
+-- the room that a line at this byte may want over n elements and so many cells: at the first byte there is no algebra yet
+abbrev pub roomFrom : ℕ → ℕ → ℕ → ℕ
+roomFrom zero n cells = lineRoom 1 0
+roomFrom (suc at) n cells = lineRoom n cells
+
+-- the room that the line at a standing may want
+abbrev pub standingRoom : Standing → ℕ
+standingRoom s = roomFrom (s .at) (s .size) (s .cells)
+
 -- the run goes on, from a standing that a run over a text of so many bytes can come to, and slices of these lengths are enough
 unfoldable pub canFill : ℕ → Standing → ℕ → ℕ → ℕ → Bool
 canFill text s arities room out =
@@ -66,7 +76,8 @@ canFill text s arities room out =
     && (leb 1 (s .size)
     && (leb (s .size) 64
     && (leb (s .operations) 16
-    && (leb (s .operations) (s .at) && (leb (s .cells) (s .at) && (leb 16 arities && (leb text room && leb lineRoom out))))))))
+    && (leb (s .operations) (s .at)
+    && (leb (s .cells) 32768 && (leb (s .cells) (s .at) && (leb 16 arities && (leb text room && leb (standingRoom s) out)))))))))
 
 -- what `fill` does: a fill from where the run stands, or nothing, and the run is over
 pub record FillPromise (text : List ℕ) (s : Standing) (arities room lent arities′ room′ out : List ℕ) (r : Stepped) : Type 0 where

@@ -1,22 +1,26 @@
-// The answers to requests: what a service answers, written as a line.
+// The answers to requests: what a service answers, written as a line, and a quotient as the lines of an algebra.
+use algebra::MAX_CELLS;
 use congruence::Decomposed;
+use congruence::Divided;
 use congruence::Generated;
 use equivalence::Written;
 use reader::requests::Asked;
+use tablewriter::lines::write_lines;
 use writer::write_factors;
 use writer::write_generated;
 use writer::write_irreducible;
 use writer::write_map;
 use writer::write_refused;
 ghost use mathlib.Core.List.{[]};
+ghost use lib.ListN.{length};
 ghost use Rattle.algebra.specs.Algebra.{algebraIn};
 ghost use Rattle.theory.specs.Decompose.{factorSpace};
-ghost use Rattle.reader.specs.declared.requests.Asked.the-variants.{Generate, Contained, Separate, Decompose};
-ghost use Rattle.bracket.specs.Answers.{generatedLine, mapLine, factorsLine};
+ghost use Rattle.reader.specs.declared.requests.Asked.the-variants.{Generate, Contained, Separate, Decompose, Quotient};
+ghost use Rattle.bracket.specs.Answers.{generatedLine, mapLine, factorsLine, quotientLines};
 ghost use Rattle.reader.specs.Laying.{Laid};
-ghost use Rattle.bracket.specs.InnerPromises.{Answered, LineFits, MapFits, FactorsFit, Zeros};
+ghost use Rattle.bracket.specs.InnerPromises.{Answered, LineFits, MapFits, FactorsFit, QuotientFits, Zeros};
 
-// The most bytes that a service wants: 63 maps of 64 elements.
+// The most bytes that maps want: 63 of 64 elements.
 const MOST_SPACE: usize = 4032;
 
 // The line for Generate's answer, which wrote the map.
@@ -53,6 +57,17 @@ fn write_decompose(n: usize, answer: Decomposed, factors: &[u8], out: &mut [u8])
     }
 }
 
+// The lines for Quotient's answer, which wrote the cells of the algebra of blocks first.
+fn write_quotient(answer: Divided, arities: &[u8], cells: &[u8], out: &mut [u8]) -> usize
+    requires { ⌜ QuotientFits answer (now arities) (now cells) (now out) ⌝ }
+    ensures { λ r. ⌜ Laid (now (out .entry)) 0 (quotientLines (now (arities .entry)) answer (now (cells .entry))) (now (out .exit)) r ⌝ }
+{
+    match answer {
+        Divided::Blocks(count) => write_lines(count as usize, arities, cells, out),
+        Divided::Refused(reason) => write_refused(reason, out),
+    }
+}
+
 // Generate, lent n zero bytes for the map.
 fn answer_generate(
     n: usize,
@@ -62,7 +77,7 @@ fn answer_generate(
     map: &mut [u8],
     out: &mut [u8],
 ) -> usize
-    requires { ⌜ Zeros n n (now map) (now out) ⌝ }
+    requires { ⌜ Zeros n n (length (now cells)) (now map) (now out) ⌝ }
     ensures { λ r. ⌜ Answered (algebraIn n (arities .entry) (cells .entry)) Generate (now (pairs .entry)) (out .entry) (out .exit) r ⌝ }
 {
     let answer = congruence::generate(n, arities, cells, pairs, map);
@@ -78,7 +93,7 @@ fn answer_contained(
     map: &mut [u8],
     out: &mut [u8],
 ) -> usize
-    requires { ⌜ Zeros n n (now map) (now out) ⌝ }
+    requires { ⌜ Zeros n n (length (now cells)) (now map) (now out) ⌝ }
     ensures { λ r. ⌜ Answered (algebraIn n (arities .entry) (cells .entry)) Contained (now (given .entry)) (out .entry) (out .exit) r ⌝ }
 {
     let answer = congruence::contained(n, arities, cells, given, map);
@@ -95,7 +110,7 @@ fn answer_separate(
     map: &mut [u8],
     out: &mut [u8],
 ) -> usize
-    requires { ⌜ Zeros n n (now map) (now out) ⌝ }
+    requires { ⌜ Zeros n n (length (now cells)) (now map) (now out) ⌝ }
     ensures { λ r. ⌜ Answered (algebraIn n (arities .entry) (cells .entry)) (Separate v w) [] (out .entry) (out .exit) r ⌝ }
 {
     let answer = congruence::separate(n, arities, cells, v as usize, w as usize, map);
@@ -110,11 +125,51 @@ fn answer_decompose(
     factors: &mut [u8],
     out: &mut [u8],
 ) -> usize
-    requires { ⌜ Zeros (factorSpace n) n (now factors) (now out) ⌝ }
+    requires { ⌜ Zeros (factorSpace n) n (length (now cells)) (now factors) (now out) ⌝ }
     ensures { λ r. ⌜ Answered (algebraIn n (arities .entry) (cells .entry)) Decompose [] (out .entry) (out .exit) r ⌝ }
 {
     let answer = congruence::decompose(n, arities, cells, factors);
     write_decompose(n, answer, factors, out)
+}
+
+// Quotient, lent as many zero bytes as the algebra has cells.
+fn answer_quotient(
+    n: usize,
+    arities: &[u8],
+    cells: &[u8],
+    map: &[u8],
+    blocks: &mut [u8],
+    out: &mut [u8],
+) -> usize
+    requires { ⌜ Zeros (length (now cells)) n (length (now cells)) (now blocks) (now out) ⌝ }
+    ensures { λ r. ⌜ Answered (algebraIn n (arities .entry) (cells .entry)) Quotient (now (map .entry)) (out .entry) (out .exit) r ⌝ }
+{
+    let answer = congruence::quotient(n, arities, cells, map, blocks);
+    write_quotient(answer, arities, blocks, out)
+}
+
+// The same, lent the bytes from more of them.
+fn answer_quotient_into(
+    n: usize,
+    arities: &[u8],
+    cells: &[u8],
+    map: &[u8],
+    space: &mut [u8],
+    out: &mut [u8],
+) -> usize
+    requires { ⌜ Zeros 32768 n (length (now cells)) (now space) (now out) ⌝ }
+    ensures { λ r. ⌜ Answered (algebraIn n (arities .entry) (cells .entry)) Quotient (now (map .entry)) (out .entry) (out .exit) r ⌝ }
+{
+    answer_quotient(n, arities, cells, map, &mut space[0..cells.len()], out)
+}
+
+// The answer to a request for a quotient, which alone wants room for cells.
+fn answer_cells(n: usize, arities: &[u8], cells: &[u8], map: &[u8], out: &mut [u8]) -> usize
+    requires { ⌜ LineFits n (length (now cells)) (now out) ⌝ }
+    ensures { λ r. ⌜ Answered (algebraIn n (arities .entry) (cells .entry)) Quotient (now (map .entry)) (out .entry) (out .exit) r ⌝ }
+{
+    let mut space = [0u8; MAX_CELLS];
+    answer_quotient_into(n, arities, cells, map, &mut space, out)
 }
 
 // The answer to what a request asks, with the numbers that were stored for it; each service is lent just the bytes that it wants.
@@ -127,7 +182,7 @@ fn answer_into(
     space: &mut [u8],
     out: &mut [u8],
 ) -> usize
-    requires { ⌜ Zeros 4032 n (now space) (now out) ⌝ }
+    requires { ⌜ Zeros 4032 n (length (now cells)) (now space) (now out) ⌝ }
     ensures { λ r. ⌜ Answered (algebraIn n (arities .entry) (cells .entry)) asked (now (numbers .entry)) (out .entry) (out .exit) r ⌝ }
 {
     match asked {
@@ -135,6 +190,7 @@ fn answer_into(
         Asked::Contained => answer_contained(n, arities, cells, numbers, &mut space[0..n], out),
         Asked::Separate(v, w) => answer_separate(n, arities, cells, v, w, &mut space[0..n], out),
         Asked::Decompose => answer_decompose(n, arities, cells, &mut space[0..(n - 1) * n], out),
+        Asked::Quotient => answer_cells(n, arities, cells, numbers, out),
     }
 }
 
@@ -147,7 +203,7 @@ pub fn answer(
     numbers: &[u8],
     out: &mut [u8],
 ) -> usize
-    requires { ⌜ LineFits n (now out) ⌝ }
+    requires { ⌜ LineFits n (length (now cells)) (now out) ⌝ }
     ensures { λ r. ⌜ Answered (algebraIn n (arities .entry) (cells .entry)) asked (now (numbers .entry)) (out .entry) (out .exit) r ⌝ }
 {
     let mut space = [0u8; MOST_SPACE];

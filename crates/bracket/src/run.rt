@@ -1,14 +1,20 @@
 // A run over a text, in fills: lines are taken, and what they write is laid in a lent slice, until the run is over or the slice gets short.
 use crate::steps::next_step;
+use algebra::MAX_CELLS;
 use algebra::MAX_OPERATIONS;
 use equivalence::checks::MAX_SIZE;
 ghost use mathlib.Core.Bool.{true};
 ghost use mathlib.Core.Path.{_≡_};
-ghost use Rattle.bracket.specs.Standings.{Sound, FillPromiseIn, unread as unreadAs, canFill};
+ghost use Prim.Native.Nat.{_≤_};
+ghost use Rattle.bracket.specs.Standings.{Sound, FillPromiseIn, unread as unreadAs, standingRoom, canFill};
 ghost use Rattle.bracket.specs.InnerSteps.{Lent, LinedIn, FillingIn, closedAt};
 
-// The room that a line may want.
-const LINE_ROOM: usize = 16384;
+// What a line may want of room: for each element, a map of 64 numbers in a bracket; for each cell, three bytes and a share of the brackets around it; and what is left of a line.
+const MAP_ROOM: usize = 258;
+
+const CELL_ROOM: usize = 4;
+
+const WORD_ROOM: usize = 256;
 
 // Where a run stands: whether it goes on, the start of the next line, the algebra's size, how many operations and cells it has, and whether a request has
 // come. The arities of the operations, and the cells, stand first in two slices that the caller lends to every fill.
@@ -58,6 +64,17 @@ fn closed(standing: Standing, end: usize) -> Standing
     }
 }
 
+// The room that the line at a standing may want.
+fn line_room(standing: Standing) -> usize
+    requires { ⌜ (standing .size ≤ 64) × (standing .cells ≤ 32768) ⌝ }
+    ensures { λ r. ⌜ r ≡ standingRoom standing ⌝ }
+{
+    if standing.at == 0 {
+        return MAP_ROOM + WORD_ROOM;
+    }
+    MAP_ROOM * (standing.size as usize) + CELL_ROOM * standing.cells + WORD_ROOM
+}
+
 // Takes the line at which a run stands.
 fn take_line(
     text: &[u8],
@@ -67,7 +84,7 @@ fn take_line(
     out: &mut [u8],
 ) -> Stepped
     requires { ⌜ Sound (now text) standing ⌝ }
-    requires { ⌜ Lent (now text) (now arities) (now room) (now out) ⌝ }
+    requires { ⌜ Lent (now text) standing (now arities) (now room) (now out) ⌝ }
     requires { ⌜ standing .goes ≡ true ⌝ }
     ensures { λ r. ⌜ LinedIn (text .entry) standing (arities .entry) (room .entry) (out .entry) (arities .exit) (room .exit) (out .exit) r ⌝ }
 {
@@ -90,13 +107,13 @@ fn take_lines(
     out: &mut [u8],
 ) -> Stepped
     requires { ⌜ Sound (now text) start ⌝ }
-    requires { ⌜ Lent (now text) (now arities) (now room) (now out) ⌝ }
+    requires { ⌜ Lent (now text) start (now arities) (now room) (now out) ⌝ }
     ensures { λ r. ⌜ FillingIn (text .entry) start (arities .entry) (room .entry) (out .entry) (arities .exit) (room .exit) (out .exit) r ⌝ }
 {
     let mut standing = start;
     let mut put: usize = 0;
     while standing.goes {
-        if out.len() - put < LINE_ROOM {
+        if out.len() - put < line_room(standing) {
             return Stepped {
                 standing,
                 wrote: put,
@@ -134,6 +151,9 @@ fn can_fill(text: usize, standing: Standing, arities: usize, room: usize, out: u
     if standing.at < standing.operations {
         return false;
     }
+    if MAX_CELLS < standing.cells {
+        return false;
+    }
     if standing.at < standing.cells {
         return false;
     }
@@ -143,11 +163,11 @@ fn can_fill(text: usize, standing: Standing, arities: usize, room: usize, out: u
     if room < text {
         return false;
     }
-    LINE_ROOM <= out
+    line_room(standing) <= out
 }
 
-// Fills `out`, which wants 16,384 bytes, from its start with what the lines from a standing on write: whole lines, until the run is over or a line may want
-// more room than is left. A run begins at `unread(true)`, and is over where `goes` is false. `arities`, of 16 bytes, and `room`, as long as the text, are lent to
+// Fills `out` from its start with what the lines from a standing on write: whole lines, until the run is over or the next line may want more room than is left.
+// For the line at the standing it wants 258 bytes for each element, 4 for each cell and 256 more, so 147,840 are always enough. A run begins at `unread(true)`, and is over where `goes` is false. `arities`, of 16 bytes, and `room`, as long as the text, are lent to
 // every fill of a run and left as they are between fills: the arities and the cells of the algebra stand first in them, and the cells behind those in use are
 // left open. With less lent, or from a standing that no run comes to, nothing is done and the run is over.
 pub fn fill(

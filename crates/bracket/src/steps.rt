@@ -12,7 +12,7 @@ use reader::taking::take_size_line;
 use writer::write_refused;
 ghost use mathlib.Core.Bool.{true};
 ghost use mathlib.Core.Path.{_≡_};
-ghost use Prim.Native.Nat.{_+_, _≤_};
+ghost use Prim.Native.Nat.{_+_, _≤_, _<_};
 ghost use lib.ListN.{length};
 ghost use Rattle.bracket.specs.Transcript.{operationStep, requestStep};
 ghost use Rattle.bracket.specs.Standings.{Sound, Kept};
@@ -80,7 +80,7 @@ fn operation_step(
     out: &mut [u8],
 ) -> Stepped
     requires { ⌜ Sound (now text) standing ⌝ }
-    requires { ⌜ Lent (now text) (now arities) (now room) (now out) ⌝ }
+    requires { ⌜ Lent (now text) standing (now arities) (now room) (now out) ⌝ }
     requires { ⌜ standing .at + 3 ≤ length (now text) ⌝ }
     ensures { λ r. ⌜ StepIn operationStep (text .entry) standing (arities .entry) (room .entry) (out .entry) (arities .exit) (room .exit) (out .exit) r ⌝ }
     ensures kept { λ r. ⌜ Kept standing (now (arities .entry)) (now (room .entry)) (r .standing) (now (arities .exit)) (now (room .exit)) ⌝ }
@@ -104,7 +104,8 @@ fn request_step(
     out: &mut [u8],
 ) -> Stepped
     requires { ⌜ Sound (now text) standing ⌝ }
-    requires { ⌜ Lent (now text) (now arities) (now room) (now out) ⌝ }
+    requires { ⌜ Lent (now text) standing (now arities) (now room) (now out) ⌝ }
+    requires { ⌜ 0 < standing .at ⌝ }
     ensures { λ r. ⌜ StepIn requestStep (text .entry) standing (arities .entry) (room .entry) (out .entry) (arities .entry) (room .exit) (out .exit) r ⌝ }
     ensures kept { λ r. ⌜ Kept standing (now (arities .entry)) (now (room .entry)) (r .standing) (now (arities .entry)) (now (room .exit)) ⌝ }
 {
@@ -151,7 +152,7 @@ pub fn next_step(
     out: &mut [u8],
 ) -> Stepped
     requires { ⌜ Sound (now text) standing ⌝ }
-    requires { ⌜ Lent (now text) (now arities) (now room) (now out) ⌝ }
+    requires { ⌜ Lent (now text) standing (now arities) (now room) (now out) ⌝ }
     requires { ⌜ standing .goes ≡ true ⌝ }
     ensures { λ r. ⌜ DueIn (text .entry) standing (arities .entry) (room .entry) (out .entry) (arities .exit) (room .exit) (out .exit) r ⌝ }
     ensures kept { λ r. ⌜ Kept standing (now (arities .entry)) (now (room .entry)) (r .standing) (now (arities .exit)) (now (room .exit)) ⌝ }

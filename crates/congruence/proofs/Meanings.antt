@@ -1,5 +1,5 @@
 -- Demand 2 over the calls: an answer that is no refusal shows that the tests passed and what was written; and Certify says yes to Decompose's list.
-use Prim.Native.Nat.{ℕ, _+_, _-_, _*_, _/_, _%_, _<_}
+use Prim.Native.Nat.{ℕ, _+_, _-_, _*_, _/_, _%_, _<_, _≤_}
 use mathlib.Core.List.{List, [], append-nil}
 use mathlib.Core.Path.{_≡_, refl, sym, ap, subst, _∙_}
 use native.Mathlib.Nat.{mul-div-cancel}
@@ -35,7 +35,7 @@ use Rattle.theory.specs.Decompose.{reducible, listed}
 use Rattle.theory.specs.Extremal.{generated, contained, separated}
 use Rattle.theory.proofs.Factors.{listed-long}
 use Rattle.theory.proofs.Quotients.{quotientCells-length}
-use Rattle.congruence.specs.Calls.{generateTests, generateCall, containedTests, containedCall, separateTests, separateCall, quotientTests}
+use Rattle.congruence.specs.Calls.{generateTests, generateCall, containedTests, containedCall, separateTests, separateCall, quotientSpace, quotientTests}
 use Rattle.congruence.specs.Calls.{quotientCall, decomposed, factorBytes, decomposeTests, decomposeCall, certifyTests, certifyCall}
 use Rattle.congruence.specs.Demands.{LeastCongruence, GreatestCongruence, EarliestCongruence, MeetRight, JoinRight, QuotientAtMembers}
 use Rattle.congruence.specs.Meanings.{WroteMap, quotientIn, WroteQuotient, Meanings}
@@ -154,19 +154,25 @@ module _ (a : Algebra) (m : Map) (lent out : List ℕ) (b : ℕ) (e : quotientCa
   unfolding quotientCall
   quotient-given = serve-given DivideRefused _ (quotientCells a m) lent (refused-blocks b) (quotientTests a m (length lent)) e
 
+  -- it had passed its tests, and wrote the cells of the algebra of b blocks
+  pub quotient-gave : Accepted a × (Congruence a m × ((blocks (a .size) m ≡ b) × ((quotientSpace a m ≤ length lent) × (written (quotientCells a m) lent ≡ out))))
+  quotient-gave =
+      let t = of-quotientTests a (length lent) m (sym (quotient-given .0)) in
+      (t .1 .0, (record { map = t .1 .1 .0; respects = t .0 }, (blocks-injective (blocks (a .size) m) b (quotient-given .1), (t .1 .1 .1, quotient-given .2))))
+
   quotient-means : WroteQuotient a m b lent out
   quotient-means =
-      let t = of-quotientTests a (length lent) m (sym (quotient-given .0)) in
-      let p : Congruence a m = record { map = t .1 .1 .0; respects = t .0 } in
-      let is : blocks (a .size) m ≡ b = blocks-injective (blocks (a .size) m) b (quotient-given .1) in
+      let g = quotient-gave in
+      let p = g .1 .0 in
+      let is = g .1 .1 .0 in
       let bytes : quotientCall a m lent .1 ≡ out = ap (λ (r : Divided × List ℕ). r .1) e in
       let q : quotientIn a b out ≡ quotient a m =
       subst (λ (c : ℕ). quotientIn a c out ≡ quotient a m) is
-      (subst (λ (o : List ℕ). quotientIn a (blocks (a .size) m) o ≡ quotient a m) bytes (quotient-algebra a (t .1 .0) m p lent (t .1 .1 .1))) in
+      (subst (λ (o : List ℕ). quotientIn a (blocks (a .size) m) o ≡ quotient a m) bytes (quotient-algebra a (g .0) m p lent (g .1 .1 .1 .0))) in
       record {
         congruence = p;
-        means = subst (QuotientAtMembers a m) (sym q) (quotient-at-members a (t .1 .0) m p);
-        kept = wrote-past (cellCount b (a .arities)) (quotientCells a m) lent (quotientCells-length a m ∙ ap (λ (c : ℕ). cellCount c (a .arities)) is) (quotient-given .2);
+        means = subst (QuotientAtMembers a m) (sym q) (quotient-at-members a (g .0) m p);
+        kept = wrote-past (cellCount b (a .arities)) (quotientCells a m) lent (quotientCells-length a m ∙ ap (λ (c : ℕ). cellCount c (a .arities)) is) (g .1 .1 .1 .1);
       }
 
 -- ---- Certify over Decompose's list

@@ -129,6 +129,13 @@ module _ (text : List ℕ) (at : ℕ) (lent : List ℕ) (put : ℕ) (word : List
     pub word-missing : b ≡ false → Requested text at lent put (other text at) after r → Requested text at lent put (opened word body other text at) after r
     word-missing h q = record { new = q .new; value = opened-other word body other text at (sym e ∙ h) ∙ q .value; laid = q .laid; reached = q .reached }
 
+-- where neither of two words stands
+pub words-missing : (text : List ℕ) (at : ℕ) (lent : List ℕ) (put : ℕ) (word : List ℕ) (body : Reader Request) (word′ : List ℕ) (body′ other : Reader Request) (b b′ : Bool)
+    → b ≡ begins text at word → b′ ≡ begins text at word′ → b ≡ false → b′ ≡ false → (after : List ℕ) (r : RequestLine)
+    → Requested text at lent put (other text at) after r → Requested text at lent put (opened word body (opened word′ body′ other) text at) after r
+words-missing text at lent put word body word′ body′ other b b′ e e′ h h′ after r q =
+    word-missing text at lent put word body (opened word′ body′ other) b e after r h (word-missing text at lent put word′ body′ other b′ e′ after r h′ q)
+
 -- a request that stores nothing
 pub request-unstored : (text : List ℕ) (at : ℕ) (lent : List ℕ) (put : ℕ) (d : Read Request) (r : RequestLine) → put ≤ length lent → RequestRead text at put d r
     → Requested text at lent put d lent r

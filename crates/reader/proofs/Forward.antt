@@ -20,7 +20,7 @@ use Rattle.reader.specs.Lines.{afterTable, afterArity, operation, reques
 use Rattle.kernel.specs.InnerKernel.{bit}
 use Rattle.reader.specs.InnerPromises.{readOf, Requested}
 use Rattle.reader.specs.declared.requests.Asked.{Asked}
-use Rattle.reader.specs.declared.requests.Asked.the-variants.{Generate, Contained, Decompose}
+use Rattle.reader.specs.declared.requests.Asked.the-variants.{Generate, Contained, Decompose, Quotient}
 use Rattle.reader.specs.declared.requests.RequestLine.{RequestLine}
 
 -- where something is found, it is found k bytes further at least
@@ -184,7 +184,8 @@ request-forward =
     opened-forward (ascii "[generate") (asksWith Generate pair) _ 1 (omega arith) (asks-forward Generate pair pair-forward)
     (opened-forward (ascii "[contained") (asksWith Contained cell) _ 1 (omega arith) (asks-forward Contained cell cell-forward)
     (opened-forward (ascii "[separate") twoNumbers _ 1 (omega arith) two-numbers-forward
-    (opened-forward (ascii "[decompose]\n") (done (requestOf Decompose [])) failed 1 (omega arith) (done-forward (requestOf Decompose [])) (λ text at. tt))))
+    (opened-forward (ascii "[decompose]\n") (done (requestOf Decompose [])) _ 1 (omega arith) (done-forward (requestOf Decompose []))
+    (opened-forward (ascii "[quotient") (asksWith Quotient cell) failed 1 (omega arith) (asks-forward Quotient cell cell-forward) (λ text at. tt)))))
 
 -- so a request line that was read takes a byte at least
 read-past : {A : Type 0} (b : Bool) (a : A) (at next : ℕ) → at ≤ next → Past 1 at (readOf b a next) → at + bit b ≤ next

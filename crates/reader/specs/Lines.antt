@@ -1,4 +1,4 @@
--- Lines: the size line, operation lines and the four requests, each ended by `]` and byte 10.
+-- Lines: the size line, operation lines and the five requests, each ended by `]` and byte 10.
 use Prim.Native.Nat.{ℕ, _+_, _^_}
 use mathlib.Core.Bool.{not}
 use mathlib.Core.List.{List, [], _∷_, _++_}
@@ -15,7 +15,7 @@ use Rattle.reader.specs.Reading.{ascii, Read, found, fault, Reader, _>>=
 use Rattle.reader.specs.Numbers.{number}
 use Rattle.reader.specs.Tables.{cell, table, pair, items}
 use Rattle.reader.specs.declared.requests.Asked.{Asked}
-use Rattle.reader.specs.declared.requests.Asked.the-variants.{Generate, Contained, Separate, Decompose}
+use Rattle.reader.specs.declared.requests.Asked.the-variants.{Generate, Contained, Separate, Decompose, Quotient}
 
 -- the end of a line
 unfoldable pub close : Reader (Unit {0})
@@ -134,10 +134,11 @@ twoNumbers = do
   close
   done (separating v w)
 
--- a request line: `[generate [0 2]]`, `[contained 0 0 0 3]`, `[separate 0 2]` or `[decompose]`
+-- a request line: `[generate [0 2]]`, `[contained 0 0 0 3]`, `[separate 0 2]`, `[decompose]` or `[quotient 0 1 0 1]`
 unfoldable pub request : Reader Request
 request =
     opened (ascii "[generate") (asksWith Generate pair)
     (opened (ascii "[contained") (asksWith Contained cell)
     (opened (ascii "[separate") twoNumbers
-    (opened (ascii "[decompose]\n") (done (requestOf Decompose [])) failed)))
+    (opened (ascii "[decompose]\n") (done (requestOf Decompose []))
+    (opened (ascii "[quotient") (asksWith Quotient cell) failed))))

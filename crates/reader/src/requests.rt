@@ -9,12 +9,13 @@ ghost use Rattle.reader.specs.Tables.{table};
 ghost use Rattle.reader.specs.Lines.{itemsToEnd, asksWith, twoNumbers, request};
 ghost use Rattle.reader.specs.InnerPromises.{RoomForText, StoredBy, RequestedBy, RequestRead};
 
-// What a request asks: Generate or Contained with the numbers that were stored, Separate with two elements, Decompose.
+// What a request asks: Generate, Contained or Quotient with the numbers that were stored, Separate with two elements, Decompose.
 pub enum Asked {
     Generate,
     Contained,
     Separate(u8, u8),
     Decompose,
+    Quotient,
 }
 
 // What is asked, the place after it in the text, and the place after its numbers in the storage; where `ok` is false, the line is faulty and nothing is asked.
@@ -131,6 +132,9 @@ pub fn read_request(text: &[u8], at: usize, room: &mut [u8], put: usize) -> Requ
             next: at + 12,
             end: put,
         };
+    }
+    if begins_with(text, at, b"[quotient") {
+        return read_asking(1, 0, Asked::Quotient, text, at + 9, room, put);
     }
     RequestLine {
         ok: false,

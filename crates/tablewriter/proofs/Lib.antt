@@ -5,3 +5,4 @@ pub mod Lining
 pub mod ReadBack
 pub mod LinesBack
 pub mod AlgebraBack
+pub mod Bounds

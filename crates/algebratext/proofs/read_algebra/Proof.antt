@@ -8,7 +8,7 @@ refused-requires : tie.Need-refused-requires
 refused-requires c κs = search needs
 
 returns : tie.Need-returns
-returns c = search read-short
+returns c = (search read-short, search needs)
 
 slice-aggregate-read-whole : tie.Need-slice-aggregate-read-whole
 slice-aggregate-read-whole c = search needs
@@ -20,7 +20,7 @@ same-length : tie.Need-same-length
 same-length c = search needs
 
 returns-2 : tie.Need-returns-2
-returns-2 c = search read-enough
+returns-2 c = (search read-enough, search needs)
 
 pub read-algebra-spec : {M : Type 1} → statement M
 read-algebra-spec =

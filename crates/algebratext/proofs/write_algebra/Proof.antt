@@ -1,6 +1,6 @@
 -- `write_algebra`: a test declines, or the text is written.
 use borrow.Author.Needs.{needs}
-use Rattle.algebratext.proofs.Writing.{text-fits, write-declined, write-granted}
+use Rattle.algebratext.proofs.Writing.{text-fits, write-declined, write-granted, length-bounded, refusal-unbounded}
 use Rattle.algebratext.proofs.write_algebra.Statement.{statement}
 use Rattle.algebratext.proofs.write_algebra.Tie as tie
 
@@ -11,7 +11,7 @@ enum-known-check : tie.Need-enum-known-check
 enum-known-check c = search needs
 
 returns : tie.Need-returns
-returns c = search write-declined
+returns c = (search write-declined, search refusal-unbounded)
 
 enum-told : tie.Need-enum-told
 enum-told c = search needs
@@ -23,7 +23,7 @@ same-length : tie.Need-same-length
 same-length c = search needs
 
 returns-2 : tie.Need-returns-2
-returns-2 c = search write-granted
+returns-2 c = (search write-granted, search length-bounded)
 
 pub write-algebra-spec : {M : Type 1} → statement M
 write-algebra-spec =

@@ -21,7 +21,7 @@ same-length : tie.Need-same-length
 same-length c = search needs
 
 returns : tie.Need-returns
-returns c = search whole-refused
+returns c = (search whole-refused, search needs)
 
 enum-told : tie.Need-enum-told
 enum-told c = search needs
@@ -48,7 +48,7 @@ returns-2 : tie.Need-returns-2
 returns-2 c =
     let k = c .before .before .before .before .before .before in
     let t = k .before .before .before .before .before .before in
-    whole-read _ _ _ _ (t .take-lines .ensures) _ (k .enum-told .given .1) (omega arith) (omega arith) _ _ (c .before .before .write-word .ensures)
+    (whole-read _ _ _ _ (t .take-lines .ensures) _ (k .enum-told .given .1) (omega arith) (omega arith) _ _ (c .before .before .write-word .ensures), omega arith)
 
 pub read-whole-spec : {M : Type 1} → statement M
 read-whole-spec =

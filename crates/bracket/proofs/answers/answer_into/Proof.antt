@@ -1,6 +1,6 @@
 -- `answers::answer_into` meets its contract, by the laws of Answering.
 use native.Mathlib.Omega.{arith}
-use Rattle.bracket.proofs.Answering.{map-part, map-zeros, factors-part, factors-zeros, factors-short, answered-as}
+use Rattle.bracket.proofs.Answering.{map-part, map-zeros, factors-part, factors-zeros, factors-short, fits-alone, answered-as}
 use Rattle.bracket.specs.Answers.{answer}
 use borrow.Author.Needs.{needs}
 use Rattle.bracket.proofs.answers.answer_into.Statement.{statement}
@@ -72,6 +72,12 @@ part-answer-decompose-end c = search factors-part
 answer-decompose-requires : tie.Need-answer-decompose-requires
 answer-decompose-requires c κs = search factors-zeros
 
+enum-told-4 : tie.Need-enum-told-4
+enum-told-4 c = search needs
+
+answer-cells-requires : tie.Need-answer-cells-requires
+answer-cells-requires c κs = search fits-alone
+
 same-length : tie.Need-same-length
 same-length c = search needs
 
@@ -110,6 +116,12 @@ returns-4 : tie.Need-returns-4
 unfolding answer
 returns-4 c = search answered-as
 
+same-length-9 : tie.Need-same-length-9
+same-length-9 c = search needs
+
+returns-5 : tie.Need-returns-5
+returns-5 c = search answered-as
+
 pub answer-into-spec : {M : Type 1} → statement M
 answer-into-spec =
     tie.close
@@ -136,6 +148,8 @@ answer-into-spec =
     part-answer-decompose-start
     part-answer-decompose-end
     answer-decompose-requires
+    enum-told-4
+    answer-cells-requires
     same-length
     same-length-2
     returns
@@ -147,4 +161,6 @@ answer-into-spec =
     returns-3
     same-length-7
     same-length-8
-    returns-4)
+    returns-4
+    same-length-9
+    returns-5)

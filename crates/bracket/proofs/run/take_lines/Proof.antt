@@ -22,6 +22,9 @@ loop-holds c = search lines-gathered-none
 sub-if1 : tie.Need-sub-if1 Inv-loop μ-loop
 sub-if1 c = search needs
 
+line-room-requires : tie.Need-line-room-requires Inv-loop μ-loop
+line-room-requires c κs = omega arith
+
 same-length : tie.Need-same-length Inv-loop μ-loop
 same-length c = search needs
 
@@ -44,12 +47,16 @@ part-take-line-end : tie.Need-part-take-line-end Inv-loop μ-loop
 part-take-line-end c = search needs
 
 take-line-requires : tie.Need-take-line-requires Inv-loop μ-loop
-take-line-requires c κs = (search needs, (search lines-gathered-lent, search needs))
+take-line-requires c κs =
+    let k = c .before .before .before in
+    let l = k .before .before .before in
+    let p = l .before .before .before .before .before .pre in
+    (search needs, (lines-gathered-lent _ _ _ _ _ _ _ _ _ _ (l .loop .inv) (p .1) (k .before .before .loop-test .taken) _ (k .before .line-room .ensures) (k .if1 .left), search needs))
 
 add-put : tie.Need-add-put Inv-loop μ-loop
 add-put c =
     let k = c .before .before .before .before .before .before .before .before in
-    let l = k .before .before .before .before .before .before in
+    let l = k .before .before .before .before .before .before .before in
     let h : l .loop .put + k .take-line .result .wrote ≤ length (l .loop .out) = search lines-gathered-fits in
     omega (arith, l .loop .inv .laid .long, l .before .before .before .before .before .good)
 
@@ -79,6 +86,7 @@ take-lines-spec =
     μ-loop
     loop-holds
     sub-if1
+    line-room-requires
     same-length
     same-length-2
     same-length-3

@@ -1,12 +1,13 @@
 -- `steps::next_step` meets its contract, by the laws of Stepping.
 use Rattle.reader.specs.Reading.{ascii}
-use Rattle.bracket.proofs.Stepping.{step-first, step-requested, step-operation, step-request, first-keeps, operation-room}
+use Rattle.bracket.proofs.Stepping.{room-for-refusal, step-first, step-requested, step-operation, step-request, first-keeps, operation-room}
+use native.Mathlib.Omega.{arith}
 use borrow.Author.Needs.{needs}
 use Rattle.bracket.proofs.steps.next_step.Statement.{statement}
 use Rattle.bracket.proofs.steps.next_step.Tie as tie
 
 first-step-requires : tie.Need-first-step-requires
-first-step-requires c κs = search needs
+first-step-requires c κs = search room-for-refusal
 
 same-length : tie.Need-same-length
 same-length c = search needs
@@ -15,7 +16,7 @@ returns : tie.Need-returns
 returns c = (search step-first, search first-keeps)
 
 request-step-requires : tie.Need-request-step-requires
-request-step-requires c κs = search needs
+request-step-requires c κs = (search needs, (search needs, omega arith))
 
 same-length-2 : tie.Need-same-length-2
 same-length-2 c = search needs
@@ -54,7 +55,7 @@ unfolding ascii
 returns-3 c = (search step-operation, search needs)
 
 request-step-requires-2 : tie.Need-request-step-requires-2
-request-step-requires-2 c κs = search needs
+request-step-requires-2 c κs = (search needs, (search needs, omega arith))
 
 same-length-8 : tie.Need-same-length-8
 same-length-8 c = search needs

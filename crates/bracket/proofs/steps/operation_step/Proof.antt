@@ -1,5 +1,5 @@
 -- `steps::operation_step` meets its contract, by the laws of Stepping.
-use Rattle.bracket.proofs.Stepping.{room-for-operation, operation-stepped, operation-keeps}
+use Rattle.bracket.proofs.Stepping.{room-for-refusal, room-for-operation, operation-stepped, operation-keeps}
 use borrow.Author.Needs.{needs}
 use Rattle.bracket.proofs.steps.operation_step.Statement.{statement}
 use Rattle.bracket.proofs.steps.operation_step.Tie as tie
@@ -8,7 +8,7 @@ take-operation-line-requires : tie.Need-take-operation-line-requires
 take-operation-line-requires c κs = (search needs, (search needs, search room-for-operation))
 
 after-line-requires : tie.Need-after-line-requires
-after-line-requires c κs = search needs
+after-line-requires c κs = search room-for-refusal
 
 same-length : tie.Need-same-length
 same-length c = search needs

@@ -1,5 +1,5 @@
 -- `steps::request_step` meets its contract, by the laws of Stepping.
-use Rattle.bracket.proofs.Stepping.{room-for-request, request-faulty, request-answered, request-keeps}
+use Rattle.bracket.proofs.Stepping.{room-for-refusal, room-for-answer, room-for-request, request-faulty, request-answered, request-keeps}
 use borrow.Author.Needs.{needs}
 use Rattle.bracket.proofs.steps.request_step.Statement.{statement}
 use Rattle.bracket.proofs.steps.request_step.Tie as tie
@@ -8,7 +8,7 @@ read-request-requires : tie.Need-read-request-requires
 read-request-requires c κs = search room-for-request
 
 write-refused-requires : tie.Need-write-refused-requires
-write-refused-requires c κs = search needs
+write-refused-requires c κs = search room-for-refusal
 
 same-length : tie.Need-same-length
 same-length c = search needs
@@ -50,7 +50,7 @@ part-answer-end-3 : tie.Need-part-answer-end-3
 part-answer-end-3 c = search needs
 
 answer-requires : tie.Need-answer-requires
-answer-requires c κs = search needs
+answer-requires c κs = search room-for-answer
 
 same-length-3 : tie.Need-same-length-3
 same-length-3 c = search needs

@@ -5,7 +5,7 @@ use Rattle.reader.specs.Reading.{ascii}
 use Rattle.reader.specs.Tables.{table, pair}
 use Rattle.reader.specs.Lines.{request}
 use Rattle.reader.specs.declared.requests.Asked.the-variants.{Decompose}
-use Rattle.reader.proofs.Asking.{word-stands, word-missing, word-alone, request-unstored, request-none}
+use Rattle.reader.proofs.Asking.{word-stands, word-missing, words-missing, word-alone, request-unstored, request-none}
 use Rattle.reader.proofs.RoomLeft.{room-behind}
 use Rattle.reader.proofs.Words.{begins-within}
 use borrow.Author.Needs.{needs}
@@ -79,16 +79,38 @@ slice-aggregate-begins-with-4 c = search needs
 begins-with-requires-4 : tie.Need-begins-with-requires-4
 begins-with-requires-4 c κs = search needs
 
-add-t31 : tie.Need-add-t31
-add-t31 c = search needs
+add-t32 : tie.Need-add-t32
+add-t32 c = search needs
 
 returns-4 : tie.Need-returns-4
 unfolding request ascii every
 returns-4 c = search (word-stands, word-missing, word-alone (ascii "[decompose]\n") tt Decompose)
 
+slice-aggregate-begins-with-5 : tie.Need-slice-aggregate-begins-with-5
+slice-aggregate-begins-with-5 c = search needs
+
+begins-with-requires-5 : tie.Need-begins-with-requires-5
+begins-with-requires-5 c κs = search needs
+
+add-read-asking-3 : tie.Need-add-read-asking-3
+add-read-asking-3 c = search needs
+
+read-asking-requires-3 : tie.Need-read-asking-requires-3
+unfolding ascii every
+read-asking-requires-3 c κs =
+    let k = c .before .before .begins-with5 in
+    (room-behind (ascii "[quotient") tt (k .result) (k .ensures) (c .before .if5 .taken) (search needs), search needs)
+
+same-length-3 : tie.Need-same-length-3
+same-length-3 c = search needs
+
 returns-5 : tie.Need-returns-5
+unfolding request ascii pair table
+returns-5 c = search (word-stands, word-missing)
+
+returns-6 : tie.Need-returns-6
 unfolding request ascii
-returns-5 c = search (word-missing, request-none)
+returns-6 c = search (word-missing, words-missing, request-none)
 
 pub read-request-spec : {M : Type 1} → statement M
 read-request-spec =
@@ -113,6 +135,12 @@ read-request-spec =
     returns-3
     slice-aggregate-begins-with-4
     begins-with-requires-4
-    add-t31
+    add-t32
     returns-4
-    returns-5)
+    slice-aggregate-begins-with-5
+    begins-with-requires-5
+    add-read-asking-3
+    read-asking-requires-3
+    same-length-3
+    returns-5
+    returns-6)
