@@ -1,5 +1,5 @@
 -- The program's loop: what is written is the front of the transcript, and what the run still writes is the rest.
-use Prim.Native.Nat.{ℕ, _+_, _-_, _*_, _^_, _≤_, _<_}
+use Prim.Native.Nat.{ℕ, zero, suc, _+_, _-_, _*_, _^_, _≤_, _<_}
 use mathlib.Core.Bool.{true, false}
 use mathlib.Core.List.{List, [], _++_}
 use mathlib.Core.Path.{_≡_, refl, ap, sym, _∙_, subst}
@@ -9,10 +9,10 @@ use lib.Seq.{drop-drop, drop-append-seam}
 use Rattle.reader.proofs.Laying.{laid-part}
 use Rattle.bracket.specs.Transcript.{output, transcript}
 use Rattle.bracket.specs.Fills.{due}
-use Rattle.bracket.specs.Standings.{positionOf, unread, Sound, Filling, FillPromise}
+use Rattle.bracket.specs.Standings.{positionOf, unread, roomFrom, Sound, Filling, FillPromise}
 use Rattle.bracket.proofs.Calling.{sound-able}
 use Rattle.bracket.proofs.Fills.{remaining, fill-remaining, distance, fill-less}
-use Rattle.bracket.proofs.Gathering.{goes-far}
+use Rattle.bracket.proofs.Gathering.{goes-far, room-known}
 use Rattle.bracket.specs.declared.run.Standing.{Standing}
 use Rattle.bracket.specs.declared.run.Stepped.{Stepped}
 use Rattle.desk.specs.Writing.{Next}
@@ -24,7 +24,12 @@ pub record RunWritten (text : List ℕ) (s : Standing) (arities room out : List 
   pub enough : Enough text arities room out
   pub within : written ≤ length (transcript text)
   pub rest : drop written (transcript text) ≡ remaining text (positionOf s arities room)
-  pub bounded : written + 32768 * distance text (positionOf s arities room) ≤ 32768 * (length text + 2)
+  pub bounded : written + 163840 * distance text (positionOf s arities room) ≤ 163840 * (length text + 2)
+
+-- no line wants more than the program lends
+room-enough : (at n cells : ℕ) → n ≤ 64 → cells ≤ 32768 → roomFrom at n cells ≤ 163840
+room-enough zero n cells h l = omega arith
+room-enough (suc at) n cells h l = omega arith
 
 -- what follows a part
 drop-part : (whole part rest : List ℕ) (written : ℕ) → drop written whole ≡ part ++ rest → drop (written + length part) whole ≡ rest
@@ -42,7 +47,7 @@ module _ (text : List ℕ) (s : Standing) (arities room out : List ℕ) (written
   filling =
       f .fills
       (sound-able text s arities room out g (w .sound)
-      (record { sixteen = w .enough .sixteen; storage = w .enough .storage; line = omega (arith, w .enough .long) }))
+      (record { sixteen = w .enough .sixteen; storage = w .enough .storage; line = omega (arith, w .enough .long, room-enough (s .at) (s .size) (s .cells) (w .sound .most) (w .sound .fit)) }))
 
   part-laid : take (r .wrote - 0) (drop 0 out′) ≡ filling .bytes
   part-laid = laid-part (filling .laid)
@@ -64,9 +69,18 @@ module _ (text : List ℕ) (s : Standing) (arities room out : List ℕ) (written
 
   -- each fill gets nearer to the end of the run
   pub fill-nearer : distance text (positionOf (r .standing) arities′ room′) < distance text (positionOf s arities room)
-  fill-nearer = fill-less text (omega (arith, w .enough .long)) (goes-far text s arities room g) (filling .fill)
+  fill-nearer =
+      fill-less text
+      (omega (
+        arith,
+        w .enough .long,
+        room-enough (s .at) (s .size) (s .cells) (w .sound .most) (w .sound .fit),
+        room-known s arities room g (omega (arith, w .sound .paced, w .sound .within, w .enough .storage)),
+      ))
+      (goes-far text s arities room g)
+      (filling .fill)
 
-  few : length (filling .bytes) ≤ 32768
+  few : length (filling .bytes) ≤ 163840
   few = omega (arith, filling .laid .place, filling .laid .within, w .enough .long)
 
   -- so that the count stays small

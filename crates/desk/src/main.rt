@@ -14,11 +14,11 @@ fn text_space() -> [u8; 65537]
     [0; 65537]
 }
 
-// Twice the room that a line may want.
-fn out_space() -> [u8; 32768]
-    ensures { λ r. ⌜ 32768 ≡ length r ⌝ }
+// More than a line may want over 64 elements and 32,768 cells, which is 147,840.
+fn out_space() -> [u8; 163840]
+    ensures { λ r. ⌜ 163840 ≡ length r ⌝ }
 {
-    [0; 32768]
+    [0; 163840]
 }
 
 // Writes out the part that comes next, behind the `written` bytes before it; how many are written then.
