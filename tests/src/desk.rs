@@ -7,6 +7,7 @@ use std::time::Duration;
 
 use outside_tests::algebras;
 use outside_tests::reference::desk::transcript;
+use outside_tests::reference::text::algebra_text;
 use outside_tests::report::{Run, Suite};
 
 use crate::texts;
@@ -105,7 +106,7 @@ pub fn suites(run: &mut Run, program: &str) {
     run.suite("desk: long texts", |s| {
         let many = "[decompose]\n".repeat(5000);
         for algebra in [algebras::bare(2), algebras::bare(3), algebras::chain(12), algebras::boolean(3)] {
-            compare(s, program, format!("{}{many}", texts::head(&algebra)).as_bytes());
+            compare(s, program, format!("{}{many}", algebra_text(&algebra)).as_bytes());
         }
         let faults = "[separate 1 1]\n".repeat(4000);
         compare(s, program, format!("[size 3]\n{faults}").as_bytes());
@@ -159,6 +160,6 @@ pub fn suites(run: &mut Run, program: &str) {
         let mut chain = algebras::chain(64);
         chain.arities.pop();
         chain.cells.truncate(4096);
-        compare(s, program, format!("{}{many}", texts::head(&chain)).as_bytes());
+        compare(s, program, format!("{}{many}", algebra_text(&chain)).as_bytes());
     });
 }

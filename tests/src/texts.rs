@@ -4,11 +4,21 @@
 use outside_tests::algebras;
 use outside_tests::random::Rng;
 use outside_tests::reference::algebra::Algebra;
+use outside_tests::reference::map;
+use outside_tests::reference::plain::Plain;
+use outside_tests::reference::text::algebra_text;
+use outside_tests::reference::Engine;
 
 const WORKED: &str =
     "[size 4]\n[op 1 [1 0 3 2]]\n[generate [0 2]]\n[contained 0 0 0 3]\n[separate 0 2]\n[decompose]\n";
 const WORKED_ANSWER: &str =
     "[generated 2 [0 1 0 1]]\n[map 0 0 2 3]\n[map 0 0 2 2]\n[factors [0 1 0 1] [0 0 2 2]]\n";
+
+/// U of document 01, over four elements.
+pub const U: &str = "[size 4]\n[op 1 [1 0 3 2]]\n";
+
+/// The binary minimum on three elements.
+const MINIMUM: &str = "[size 3]\n[op 2 [[0 0 0] [0 1 1] [0 1 2]]]\n";
 
 /// The worked text of document 01.
 pub fn worked() -> Vec<u8> {
@@ -19,7 +29,77 @@ fn repeated(line: &str, times: usize) -> String {
     line.repeat(times)
 }
 
-/// Texts whose answers document 01 and its readings give, line by line.
+/// Texts that ask for quotients, with their answers.
+fn quotients() -> Vec<(String, String)> {
+    let mut list: Vec<(String, String)> = Vec::new();
+    let mut add = |head: &str, rest: &str, output: &str| list.push((format!("{head}{rest}"), output.into()));
+    add(U, "[quotient 0 1 0 1]\n", "[size 2]\n[op 1 [1 0]]\n");
+    add(U, "[quotient 0 1 2 3]\n", U);
+    add(U, "[quotient 0 0 0 0]\n", "[size 1]\n[op 1 [0]]\n");
+    add(U, "[quotient 0 0 2 2]\n", "[size 2]\n[op 1 [0 1]]\n");
+    add(U, "[quotient 0 1 0 3]\n[quotient 0 0 2 2]\n", "[refused 12]\n[size 2]\n[op 1 [0 1]]\n");
+    for none in ["[quotient 0 2 2 3]", "[quotient 0 1 0]", "[quotient 0 0 0 255]", "[quotient]"] {
+        add(U, &format!("{none}\n"), "[refused 8]\n");
+        add(U, &format!("{none}\n[separate 0 1]\n"), "[refused 8]\n[map 0 1 0 1]\n");
+    }
+    add(U, "[quotient 0 1 2 3 4]\n[quotient 0 0 0 0 0]\n", "[refused 8]\n[refused 8]\n");
+    add(U, "[quotient 4 1 2 3]\n[quotient 1 1 2 3]\n", "[refused 8]\n[refused 8]\n");
+    for bad in [
+        "[quotient 0 0 0 256]",
+        "[quotient ]",
+        "[quotient 0 1 0 1 ]",
+        "[quotient  0 1 0 1]",
+        "[quotient 0  1 0 1]",
+        "[quotient [0 1 0 1]]",
+        "[quotient 0 1 0 01]",
+        "[quotient 0 1 0 1",
+        "[quotient 0 1 0 1]]",
+        "[quotient 0,1,0,1]",
+        "[quotient -1]",
+        "[quotient 1000]",
+        "[quotient0 1 0 1]",
+        "[quotients 0 1 0 1]",
+        "[Quotient 0 1 0 1]",
+        "[quot 0 1 0 1]",
+        "[quotient 0 1 0 1] [quotient 0 1 0 1]",
+        "[quotient 300 0]",
+    ] {
+        add(U, &format!("{bad}\n[decompose]\n"), "[refused 14]\n");
+        add(U, &format!("[quotient 0 0 2 2]\n{bad}\n"), "[size 2]\n[op 1 [0 1]]\n[refused 14]\n");
+    }
+    add(U, "[quotient 0 1 0 1]", "[refused 14]\n");
+    // The algebra stays what it was; a quotient is a request like the others.
+    add(U, "[quotient 0 0 0 0]\n[quotient 0 1 0 1]\n[decompose]\n", "[size 1]\n[op 1 [0]]\n[size 2]\n[op 1 [1 0]]\n[factors [0 1 0 1] [0 0 2 2]]\n");
+    add(U, "[quotient 0 1 0 3]\n[op 0 0]\n[decompose]\n", "[refused 12]\n[refused 14]\n");
+    add(U, "[quotient 0 1]\n[op 0 0]\n[decompose]\n", "[refused 8]\n[refused 14]\n");
+    add("[size 1]\n", "[quotient 0]\n[op 0 0]\n", "[size 1]\n[refused 14]\n");
+    add("[size 1]\n", "[quotient 0]\n[size 1]\n", "[size 1]\n[refused 14]\n");
+    add("[quotient 0]\n", "", "[refused 14]\n");
+    add("[size 3]\n", "[quotient 0 0 2]\n", "[size 2]\n");
+    add("[size 3]\n", "[op 0 2]\n[quotient 0 0 2]\n", "[size 2]\n[op 0 1]\n");
+    add("[size 3]\n", "[op 0 2]\n[op 0 1]\n[quotient 0 1 0]\n", "[size 2]\n[op 0 0]\n[op 0 1]\n");
+    add(MINIMUM, "[quotient 0 1 1]\n", "[size 2]\n[op 2 [[0 0] [0 1]]]\n");
+    add(MINIMUM, "[quotient 0 1 0]\n", "[refused 12]\n");
+    add("[size 1]\n", "[op 3 [[[0]]]]\n[op 2 [[0]]]\n[quotient 0]\n", "[size 1]\n[op 3 [[[0]]]]\n[op 2 [[0]]]\n");
+    let long = repeated(" 0", 300);
+    add("[size 4]\n", &format!("[quotient{long}]\n[quotient 0 0 0 0]\n"), "[refused 8]\n[size 1]\n");
+    list
+}
+
+/// The longest answer to one request: sixteen ternary tables over eleven elements,
+/// by the identity, in a text of 65,536 bytes. Its cells are chosen so.
+pub fn longest_answer() -> (Vec<u8>, Vec<u8>) {
+    let n = 11;
+    let mut algebra = Algebra { n, arities: vec![3; 16], cells: vec![0; 16 * n * n * n] };
+    let request = format!("[quotient {}]\n", words(&map::identity(n)));
+    let wide = 65_536 - request.len() - algebra_text(&algebra).len();
+    algebra.cells[..wide].fill(10);
+    let answer = algebra_text(&algebra);
+    assert_eq!((answer.len(), answer.len() + request.len()), (65_502, 65_536));
+    (format!("{answer}{request}").into_bytes(), answer.into_bytes())
+}
+
+/// Texts whose answers documents 01 and 02 and their readings give, line by line.
 pub fn known() -> Vec<(Vec<u8>, Vec<u8>)> {
     let seventeen = repeated("[op 0 0]\n", 17);
     let sixteen_and = |last: &str| format!("[size 2]\n{}{last}", repeated("[op 0 0]\n", 16));
@@ -213,8 +293,10 @@ pub fn known() -> Vec<(Vec<u8>, Vec<u8>)> {
     add(&format!("[size 4]\n{long}[contained 0 0 0 0]\n"), "[refused 8]\n[map 0 0 0 0]\n");
     add(&format!("[size 4]\n[generate{}]\n", repeated(" [1 1]", 300)), "[generated 0 [0 1 2 3]]\n");
     add(&format!("[size 4]\n{}\n", repeated("[", 60_000)), "[refused 14]\n");
+    list.extend(quotients());
     let mut known: Vec<(Vec<u8>, Vec<u8>)> =
         list.into_iter().map(|(i, o)| (i.into_bytes(), o.into_bytes())).collect();
+    known.push(longest_answer());
     // Bytes from 128 on.
     known.push((b"[size 4]\n[decompos\xE9]\n".to_vec(), b"[refused 14]\n".to_vec()));
     known.push((b"[size \xB2]\n".to_vec(), b"[refused 14]\n".to_vec()));
@@ -295,26 +377,38 @@ fn words(bytes: &[u8]) -> String {
     list.join(" ")
 }
 
-/// A table as text.
-fn table(cells: &[u8], arity: u8, n: usize) -> String {
-    if arity == 0 {
-        return cells[0].to_string();
+/// A map as numbers: any one, or a congruence; sometimes none, or too many or too
+/// few numbers, or one that is no byte.
+pub fn map_words(algebra: &Algebra, congruence: bool, rng: &mut Rng) -> String {
+    let n = algebra.n;
+    let most = rng.within(1, n);
+    let mut map = if congruence {
+        let pairs: Vec<(usize, usize)> = (0..rng.below(3)).map(|_| (rng.below(n), rng.below(n))).collect();
+        Plain::new(algebra).least(&pairs)
+    } else {
+        rng.map(n, most)
+    };
+    match rng.below(24) {
+        0 => map.push(0),
+        1 => {
+            map.pop();
+        }
+        2 => map[n - 1] = rng.byte(),
+        3 => {
+            let at = rng.below(n);
+            map[at] = rng.below(n) as u8;
+        }
+        4 => map.clear(),
+        5 => return format!(" {} {}", words(&map), rng.within(256, 1000)),
+        _ => {}
     }
-    let rows: Vec<String> = cells.chunks(cells.len() / n).map(|part| table(part, arity - 1, n)).collect();
-    format!("[{}]", rows.join(" "))
-}
-
-/// The size line and the operation lines of an algebra.
-pub fn head(algebra: &Algebra) -> String {
-    let mut text = format!("[size {}]\n", algebra.n);
-    for (s, cells) in algebra.operations() {
-        text += &format!("[op {s} {}]\n", table(cells, s as u8, algebra.n));
-    }
-    text
+    let space = if map.is_empty() { "" } else { " " };
+    format!("{space}{}", words(&map))
 }
 
 /// One request line, mostly one that is answered.
-pub fn request(n: usize, rng: &mut Rng) -> String {
+pub fn request(algebra: &Algebra, rng: &mut Rng) -> String {
+    let n = algebra.n;
     let element = |rng: &mut Rng| {
         if rng.once_in(40) {
             rng.below(256)
@@ -322,27 +416,18 @@ pub fn request(n: usize, rng: &mut Rng) -> String {
             rng.below(n)
         }
     };
-    match rng.below(4) {
+    match rng.below(5) {
         0 => {
             let count = if rng.once_in(20) { rng.below(200) } else { rng.below(4) };
             let pairs: String = (0..count).map(|_| format!(" [{} {}]", element(rng), element(rng))).collect();
             format!("[generate{pairs}]\n")
         }
-        1 => {
-            let most = rng.within(1, n);
-            let mut map = rng.map(n, most);
-            match rng.below(20) {
-                0 => map.push(0),
-                1 => {
-                    map.pop();
-                }
-                2 => map[n - 1] = rng.byte(),
-                _ => {}
-            }
-            let space = if map.is_empty() { "" } else { " " };
-            format!("[contained{space}{}]\n", words(&map))
-        }
+        1 => format!("[contained{}]\n", map_words(algebra, false, rng)),
         2 => format!("[separate {} {}]\n", element(rng), element(rng)),
+        3 => {
+            let congruence = !rng.once_in(4);
+            format!("[quotient{}]\n", map_words(algebra, congruence, rng))
+        }
         _ => "[decompose]\n".to_string(),
     }
 }
@@ -350,9 +435,9 @@ pub fn request(n: usize, rng: &mut Rng) -> String {
 /// A valid text about a random algebra.
 pub fn valid(limit: usize, cells: usize, rng: &mut Rng) -> Vec<u8> {
     let algebra = algebras::any(limit, cells, rng).algebra;
-    let mut text = head(&algebra);
+    let mut text = algebra_text(&algebra);
     for _ in 0..rng.below(7) {
-        text += &request(algebra.n, rng);
+        text += &request(&algebra, rng);
     }
     text.into_bytes()
 }

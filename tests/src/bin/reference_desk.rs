@@ -3,12 +3,13 @@
 
 use std::io::{Read, Write};
 
-use outside_tests::reference::desk::transcript;
+use outside_tests::reference::desk::{transcript_with, Fault};
 
 fn main() {
     let mut input = Vec::new();
     let _ = std::io::stdin().read_to_end(&mut input);
     let fault = std::env::var("STANDIN_FAULT").unwrap_or_default();
+    let mut within = Fault::None;
     match fault.as_str() {
         "" => {}
         // A last line without its newline is taken.
@@ -26,9 +27,13 @@ fn main() {
             input = input.split_inclusive(|&b| b == 10).filter(|l| *l != b"\n").collect::<Vec<_>>().concat()
         }
         "desk-last-answer" => {}
+        "desk-elements" => within = Fault::Elements,
+        "desk-size" => within = Fault::Size,
+        "desk-ends" => within = Fault::Ends,
+        "desk-uncounted" => within = Fault::Uncounted,
         _ => panic!("unknown fault {fault}"),
     }
-    let mut output = transcript(&input);
+    let mut output = transcript_with(within, &input);
     if fault == "desk-last-answer" {
         output.pop();
     }

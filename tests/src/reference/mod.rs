@@ -1,5 +1,6 @@
-//! A reference implementation of document 01, written from that document alone
-//! and for plainness: every service, twice where a definition can be searched.
+//! A reference implementation of document 01 and of document 02's first request,
+//! written from these alone and for plainness: every service, twice where a
+//! definition can be searched.
 //!
 //! - `map`: maps, pairs and their order
 //! - `algebra`: tables, reasons 1 to 6, "is a congruence"
@@ -7,6 +8,7 @@
 //! - `plain`: the same notions in polynomial time, for n up to 64
 //! - `service`: the services with their refusals and lent bytes
 //! - `bench`: the eight sheets
+//! - `text`: algebra texts, their reader and their writer
 //! - `desk`: the text of the desk program
 
 pub mod algebra;
@@ -16,6 +18,7 @@ pub mod desk;
 pub mod map;
 pub mod plain;
 pub mod service;
+pub mod text;
 
 use algebra::Algebra;
 use map::Map;
