@@ -2,7 +2,7 @@
  * that the comparisons can fail.
  *
  * The four services of include/congruence.h go to the optimized baseline; the
- * nine functions of tests/PROBE.md are written out plainly here. The environment
+ * eleven functions of tests/PROBE.md are written out plainly here. The environment
  * variable STANDIN_FAULT names one fault of the list below; without it there is
  * none. */
 #include <stdlib.h>
@@ -38,6 +38,29 @@ static const char *const faults[] = {
     "prefix",               /* the first n bytes of a longer map count */
     "separate-turned",      /* separate takes the latest congruence's pairs first */
     "meet", "join", "prefer", "place", "quotient", "certify", "start", "tally", "other-sheet", "clear-tally",
+    "write-length",         /* the length is one too high */
+    "write-nine-early",     /* a byte more is wanted than the text has */
+    "write-nine-late",      /* a byte less is enough */
+    "write-first",          /* a byte is written before 9 is said */
+    "write-behind",         /* the text is ended by a byte 0 */
+    "write-round",          /* 9 by a round figure and not by the text's length */
+    "write-order",          /* 9 is tested before 6 */
+    "read-nine-early",      /* 32,768 bytes are too few */
+    "read-nine-late",       /* 32,767 bytes are enough */
+    "read-exact",           /* as many bytes as there are cells are enough */
+    "read-text-first",      /* the text is looked at before the lent length */
+    "read-early-cells",     /* cells are written while the text is judged */
+    "read-skips-request",   /* a request line is passed over */
+    "read-limit",           /* above 65,536 bytes are 14 */
+    "read-behind",          /* zeros are written behind the cells */
+    "read-arities",         /* the arities behind the count are not 0 */
+    "read-head",            /* a refusal leaves the size read so far */
+    "read-second-size",     /* a second size line is passed over */
+    "read-late-six",        /* 6 is tested at the end of the text */
+    "read-early-six",       /* 6 is tested before the form of the whole line */
+    "read-late-four",       /* 2, 3 and 4 are tested behind the line's form */
+    "read-unended",         /* the last line may lack its end */
+    "read-zeros",           /* numbers may begin with 0 */
 };
 
 static int fault(const char *name)
@@ -555,4 +578,282 @@ uint32_t probe_bench_clear(uint8_t *image, size_t image_len, size_t sheet)
         image[SHEETS * STRIDE + 1] = 0;
     }
     return 0;
+}
+
+/* ---- texts of algebras ------------------------------------------------------ */
+
+enum { MAX_CELLS = 32768, HEAD = 18, NO_HEAD = 255 };
+
+/* A text on its way out; without bytes it is only counted. */
+struct output {
+    uint8_t *bytes;
+    size_t len;
+};
+
+static void put(struct output *o, char byte)
+{
+    if (o->bytes) {
+        o->bytes[o->len] = (uint8_t)byte;
+    }
+    o->len++;
+}
+
+static void put_word(struct output *o, const char *word)
+{
+    while (*word) {
+        put(o, *word++);
+    }
+}
+
+static void put_number(struct output *o, size_t value)
+{
+    if (value >= 10) {
+        put_number(o, value / 10);
+    }
+    put(o, (char)('0' + value % 10));
+}
+
+static void put_table(struct output *o, size_t n, unsigned arity, const uint8_t *cells)
+{
+    if (arity == 0) {
+        put_number(o, *cells);
+        return;
+    }
+    put(o, '[');
+    for (size_t i = 0; i < n; i++) {
+        if (i > 0) {
+            put(o, ' ');
+        }
+        put_table(o, n, arity - 1, cells + i * power(n, arity - 1));
+    }
+    put(o, ']');
+}
+
+/* Gives the text's length. */
+static size_t put_algebra(uint8_t *bytes, size_t n, const uint8_t *arities, size_t arities_len, const uint8_t *cells)
+{
+    struct output o = {bytes, 0};
+    put_word(&o, "[size ");
+    put_number(&o, n);
+    put_word(&o, "]\n");
+    for (size_t i = 0; i < arities_len; i++) {
+        put_word(&o, "[op ");
+        put_number(&o, arities[i]);
+        put(&o, ' ');
+        put_table(&o, n, arities[i], cells);
+        put_word(&o, "]\n");
+        cells += power(n, arities[i]);
+    }
+    return o.len;
+}
+
+uint64_t probe_write(size_t n, const uint8_t *arities, size_t arities_len,
+                     const uint8_t *cells, size_t cells_len, uint8_t *out, size_t out_len)
+{
+    const uint32_t reason = algebra_reason(n, arities, arities_len, cells, cells_len);
+    if (reason == 6 && out_len < 8 + cells_len && fault("write-order")) {
+        return 9;
+    }
+    if (reason) {
+        return reason;
+    }
+    const size_t length = put_algebra(NULL, n, arities, arities_len, cells);
+    size_t wanted = length;
+    if (fault("write-nine-early") || fault("write-nine-late")) {
+        wanted = fault("write-nine-early") ? length + 1 : length - 1;
+    }
+    if (fault("write-round")) {
+        wanted = 10 + 6 * arities_len + 4 * cells_len;
+    }
+    if (out_len < wanted) {
+        if (out_len > 0 && fault("write-first")) {
+            out[0] = '[';
+        }
+        return 9;
+    }
+    put_algebra(out, n, arities, arities_len, cells);
+    if (out_len > length && fault("write-behind")) {
+        out[length] = 0;
+    }
+    return 256 * (uint64_t)(length + fault("write-length"));
+}
+
+/* A text on its way in, and the cells that were read. */
+struct input {
+    const uint8_t *at, *end;
+    size_t n, count;
+    uint8_t *cells;
+};
+
+static int take(struct input *t, const char *word)
+{
+    const size_t len = strlen(word);
+    if ((size_t)(t->end - t->at) < len || memcmp(t->at, word, len) != 0) {
+        return 0;
+    }
+    t->at += len;
+    return 1;
+}
+
+/* The end of a line. */
+static int take_end(struct input *t)
+{
+    return take(t, "]\n") || (fault("read-unended") && t->end - t->at == 1 && take(t, "]"));
+}
+
+static int take_number(struct input *t, unsigned *value)
+{
+    const uint8_t *first = t->at;
+    *value = 0;
+    while (t->at < t->end && *t->at >= '0' && *t->at <= '9' && *value <= 255) {
+        *value = 10 * *value + *t->at++ - '0';
+    }
+    if (t->at == first || *value > 255) {
+        return 0;
+    }
+    return *first != '0' || t->at == first + 1 || fault("read-zeros");
+}
+
+static int take_table(struct input *t, unsigned arity)
+{
+    if (arity == 0) {
+        unsigned value;
+        if (!take_number(t, &value)) {
+            return 0;
+        }
+        t->cells[t->count++] = (uint8_t)value;
+        return 1;
+    }
+    for (size_t i = 0; i < t->n; i++) {
+        if (!take(t, i == 0 ? "[" : " ") || !take_table(t, arity - 1)) {
+            return 0;
+        }
+    }
+    return take(t, "]");
+}
+
+static int all_below(const uint8_t *cells, size_t count, size_t n)
+{
+    for (size_t i = 0; i < count; i++) {
+        if (cells[i] >= n) {
+            return 0;
+        }
+    }
+    return 1;
+}
+
+static uint32_t line_reason(const struct input *t, size_t operations, unsigned arity)
+{
+    if (operations == 16) {
+        return 2;
+    }
+    if (arity > 3) {
+        return 3;
+    }
+    return t->count + power(t->n, arity) > MAX_CELLS ? 4 : 0;
+}
+
+/* Whether the line from here on, up to its end, has the form of some table. */
+static int passes_over_table(struct input *t)
+{
+    while (t->at < t->end && *t->at != '\n') {
+        t->at++;
+    }
+    return t->at < t->end && t->at[-1] == ']';
+}
+
+static uint32_t take_operation(struct input *t, uint8_t *head)
+{
+    unsigned arity;
+    const size_t first = t->count;
+    if (!take(t, "[op ") || !take_number(t, &arity) || !take(t, " ")) {
+        return 14;
+    }
+    const uint32_t reason = line_reason(t, head[1], arity);
+    if (reason && fault("read-late-four") && !passes_over_table(t)) {
+        return 14;
+    }
+    if (reason) {
+        return reason;
+    }
+    const int formed = take_table(t, arity) && take_end(t);
+    const int below = all_below(t->cells + first, t->count - first, t->n);
+    if (!formed) {
+        return !below && fault("read-early-six") ? 6 : 14;
+    }
+    head[2 + head[1]++] = (uint8_t)arity;
+    return below || fault("read-late-six") ? 0 : 6;
+}
+
+/* The faults that pass over a line. */
+static int passes_over_line(struct input *t)
+{
+    static const char *const words[] = {"[generate", "[contained", "[separate", "[decompose", "[quotient"};
+    int skipped = fault("read-second-size") && t->end - t->at > 6 && memcmp(t->at, "[size ", 6) == 0;
+    for (size_t i = 0; i < 5 && fault("read-skips-request"); i++) {
+        const size_t len = strlen(words[i]);
+        skipped |= (size_t)(t->end - t->at) > len && memcmp(t->at, words[i], len) == 0;
+    }
+    while (skipped && t->at < t->end && *t->at++ != '\n') {
+    }
+    return skipped;
+}
+
+static uint32_t take_algebra(struct input *t, uint8_t *head)
+{
+    unsigned n;
+    if (!take(t, "[size ") || !take_number(t, &n) || !take_end(t)) {
+        return 14;
+    }
+    if (n == 0 || n > STRIDE) {
+        return 1;
+    }
+    t->n = n;
+    head[0] = (uint8_t)n;
+    while (t->at < t->end) {
+        const uint32_t reason = passes_over_line(t) ? 0 : take_operation(t, head);
+        if (reason) {
+            return reason;
+        }
+    }
+    return all_below(t->cells, t->count, n) ? 0 : 6;
+}
+
+uint64_t probe_read(const uint8_t *text, size_t text_len, uint8_t *cells, size_t cells_len, uint8_t *head,
+                    size_t head_len)
+{
+    static uint8_t own[MAX_CELLS];
+    uint8_t found[HEAD] = {0};
+    struct input t = {text, text + text_len, 0, 0, own};
+    if (head_len != HEAD) {
+        return NO_HEAD;
+    }
+    memset(head, 0, HEAD);
+    const size_t wanted = MAX_CELLS + fault("read-nine-early") - fault("read-nine-late");
+    const int is_short = cells_len < wanted && !fault("read-exact");
+    if (is_short && !fault("read-text-first")) {
+        return 9;
+    }
+    if (fault("read-early-cells")) {
+        t.cells = cells;
+    }
+    const uint32_t reason = text_len > 65536 && fault("read-limit") ? 14 : take_algebra(&t, found);
+    if (reason && fault("read-head")) {
+        head[0] = found[0];
+    }
+    if (reason) {
+        return reason;
+    }
+    if (is_short || cells_len < t.count) {
+        return 9;
+    }
+    memcpy(cells, t.cells, t.count);
+    memcpy(head, found, HEAD);
+    if (fault("read-arities")) {
+        memset(head + 2 + found[1], 255, (size_t)(16 - found[1]));
+    }
+    if (fault("read-behind")) {
+        memset(cells + t.count, 0, MAX_CELLS - t.count);
+    }
+    return 256 * (uint64_t)t.count;
 }

@@ -129,7 +129,82 @@ pub fn worksheet() -> Option<Library> {
     None
 }
 
-/// What tests/PROBE.md describes.
+/// The writer of algebra texts: the algebra, the output.
+pub type Write = unsafe extern "C" fn(
+    n: usize,
+    arities: *const u8,
+    arities_len: usize,
+    cells: *const u8,
+    cells_len: usize,
+    out: *mut u8,
+    out_len: usize,
+) -> u64;
+
+/// The reader of algebra texts: the text, the cells, the head.
+pub type Read = unsafe extern "C" fn(
+    text: *const u8,
+    text_len: usize,
+    cells: *mut u8,
+    cells_len: usize,
+    head: *mut u8,
+    head_len: usize,
+) -> u64;
+
+/// The writer and the reader of one static library.
+#[derive(Clone, Copy)]
+pub struct Texts {
+    pub name: &'static str,
+    pub write: Write,
+    pub read: Read,
+}
+
+#[cfg(any(have_baseline, have_probe))]
+macro_rules! texts {
+    ($name:literal, $write:ident, $read:ident) => {{
+        extern "C" {
+            fn $write(
+                n: usize,
+                arities: *const u8,
+                arities_len: usize,
+                cells: *const u8,
+                cells_len: usize,
+                out: *mut u8,
+                out_len: usize,
+            ) -> u64;
+            fn $read(
+                text: *const u8,
+                text_len: usize,
+                cells: *mut u8,
+                cells_len: usize,
+                head: *mut u8,
+                head_len: usize,
+            ) -> u64;
+        }
+        Texts { name: $name, write: $write, read: $read }
+    }};
+}
+
+#[cfg(have_baseline)]
+pub fn baseline_texts() -> Option<Texts> {
+    Some(texts!("baseline", text_baseline_write, text_baseline_read))
+}
+
+#[cfg(not(have_baseline))]
+pub fn baseline_texts() -> Option<Texts> {
+    None
+}
+
+#[cfg(have_probe)]
+pub fn probe_texts() -> Option<Texts> {
+    Some(texts!("probe", probe_write, probe_read))
+}
+
+#[cfg(not(have_probe))]
+pub fn probe_texts() -> Option<Texts> {
+    None
+}
+
+/// What else tests/PROBE.md describes.
 #[cfg(have_probe)]
 pub mod probe {
     extern "C" {

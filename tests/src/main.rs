@@ -6,6 +6,7 @@
 //! `probe`, `desk`. With --require a part that is left out is a failure. With
 //! --stop the first suite that fails is the last one.
 
+mod algebra_texts;
 mod compare;
 mod desk;
 mod ffi;
@@ -59,6 +60,9 @@ fn main() {
     }
     if !probe::suites(&mut run) {
         run.left_out("probe", "not linked", required("probe"));
+    }
+    for library in [ffi::baseline_texts(), ffi::probe_texts()].into_iter().flatten() {
+        algebra_texts::suites(&mut run, library);
     }
     match &options.desk {
         Some(program) => desk::suites(&mut run, program),

@@ -69,7 +69,11 @@ fn quotients() -> Vec<(String, String)> {
     }
     add(U, "[quotient 0 1 0 1]", "[refused 14]\n");
     // The algebra stays what it was; a quotient is a request like the others.
-    add(U, "[quotient 0 0 0 0]\n[quotient 0 1 0 1]\n[decompose]\n", "[size 1]\n[op 1 [0]]\n[size 2]\n[op 1 [1 0]]\n[factors [0 1 0 1] [0 0 2 2]]\n");
+    add(
+        U,
+        "[quotient 0 0 0 0]\n[quotient 0 1 0 1]\n[decompose]\n",
+        "[size 1]\n[op 1 [0]]\n[size 2]\n[op 1 [1 0]]\n[factors [0 1 0 1] [0 0 2 2]]\n",
+    );
     add(U, "[quotient 0 1 0 3]\n[op 0 0]\n[decompose]\n", "[refused 12]\n[refused 14]\n");
     add(U, "[quotient 0 1]\n[op 0 0]\n[decompose]\n", "[refused 8]\n[refused 14]\n");
     add("[size 1]\n", "[quotient 0]\n[op 0 0]\n", "[size 1]\n[refused 14]\n");
@@ -80,7 +84,11 @@ fn quotients() -> Vec<(String, String)> {
     add("[size 3]\n", "[op 0 2]\n[op 0 1]\n[quotient 0 1 0]\n", "[size 2]\n[op 0 0]\n[op 0 1]\n");
     add(MINIMUM, "[quotient 0 1 1]\n", "[size 2]\n[op 2 [[0 0] [0 1]]]\n");
     add(MINIMUM, "[quotient 0 1 0]\n", "[refused 12]\n");
-    add("[size 1]\n", "[op 3 [[[0]]]]\n[op 2 [[0]]]\n[quotient 0]\n", "[size 1]\n[op 3 [[[0]]]]\n[op 2 [[0]]]\n");
+    add(
+        "[size 1]\n",
+        "[op 3 [[[0]]]]\n[op 2 [[0]]]\n[quotient 0]\n",
+        "[size 1]\n[op 3 [[[0]]]]\n[op 2 [[0]]]\n",
+    );
     let long = repeated(" 0", 300);
     add("[size 4]\n", &format!("[quotient{long}]\n[quotient 0 0 0 0]\n"), "[refused 8]\n[size 1]\n");
     list
