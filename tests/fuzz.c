@@ -10,116 +10,12 @@
  * optimized baseline gives the same. The last line is `N passed, M failed`,
  * counting calls. */
 #define _DEFAULT_SOURCE
-#include <stdio.h>
-#include <stdlib.h>
 #include <string.h>
-#include <sys/mman.h>
-#include <unistd.h>
 
 #include "../benches/baseline.h"
-#include "../include/congruence.h"
-
-static uint64_t state;
-
-static uint64_t next(void)
-{
-    uint64_t z = state += 0x9E3779B97F4A7C15u;
-    z = (z ^ (z >> 30)) * 0xBF58476D1CE4E5B9u;
-    z = (z ^ (z >> 27)) * 0x94D049BB133111EBu;
-    return z ^ (z >> 31);
-}
-
-static size_t below(size_t end)
-{
-    return (size_t)(next() % end);
-}
-
-static int once_in(size_t times)
-{
-    return below(times) == 0;
-}
-
-/* ---- slices at the edge of what may be touched ---------------------------- */
-
-enum { PAGES = 33 };
-
-static size_t page;
-
-struct room {
-    uint8_t *begin, *end; /* the pages that may be touched */
-    uint8_t *slice;
-    size_t len;
-};
-
-static struct room open_room(void)
-{
-    struct room r;
-    uint8_t *all = mmap(NULL, (PAGES + 2) * page, PROT_READ | PROT_WRITE,
-                        MAP_PRIVATE | MAP_ANONYMOUS, -1, 0);
-    if (all == MAP_FAILED || mprotect(all, page, PROT_NONE) ||
-        mprotect(all + (PAGES + 1) * page, page, PROT_NONE)) {
-        perror("fuzz: pages");
-        exit(2);
-    }
-    r.begin = all + page;
-    r.end = all + (PAGES + 1) * page;
-    r.slice = r.begin;
-    r.len = 0;
-    return r;
-}
-
-/* Places a slice of this length at one of the two edges. */
-static void place(struct room *r, size_t len)
-{
-    r->len = len;
-    r->slice = once_in(2) ? r->begin : r->end - len;
-    if (len == 0 && once_in(2)) {
-        r->slice = NULL;
-    }
-}
-
-static void fill(struct room *r, size_t below_this)
-{
-    for (size_t i = 0; i < r->len; i++) {
-        r->slice[i] = (uint8_t)below(below_this);
-    }
-}
+#include "rooms.h"
 
 /* ---- what must hold -------------------------------------------------------- */
-
-static size_t power(size_t n, unsigned s)
-{
-    return s == 0 ? 1 : n * power(n, s - 1);
-}
-
-static uint32_t algebra_reason(size_t n, const struct room *arities, const struct room *cells)
-{
-    size_t sum = 0;
-    if (n < 1 || n > 64) {
-        return CONGRUENCE_SIZE;
-    }
-    if (arities->len > 16) {
-        return CONGRUENCE_OPERATIONS;
-    }
-    for (size_t i = 0; i < arities->len; i++) {
-        if (arities->slice[i] > 3) {
-            return CONGRUENCE_ARITY;
-        }
-        sum += power(n, arities->slice[i]);
-    }
-    if (sum > 32768) {
-        return CONGRUENCE_CELLS;
-    }
-    if (sum != cells->len) {
-        return CONGRUENCE_LENGTH;
-    }
-    for (size_t i = 0; i < cells->len; i++) {
-        if (cells->slice[i] >= n) {
-            return CONGRUENCE_CELL;
-        }
-    }
-    return CONGRUENCE_OK;
-}
 
 static int is_map(size_t n, const uint8_t *m)
 {
@@ -183,54 +79,6 @@ struct call {
     size_t n, v, w;
     struct room arities, cells, slice, out;
 };
-
-static void make_algebra(struct call *c)
-{
-    static const size_t wild[] = {0, 65, 128, 255, 256, 257, 320, 65536, (size_t)1 << 32, SIZE_MAX};
-    size_t sum = 0;
-    const size_t limit = once_in(40) ? 32768 : 700;
-    c->n = once_in(30) ? wild[below(10)] : once_in(12) ? 1 + below(64) : 1 + below(9);
-    const size_t n = c->n >= 1 && c->n <= 64 ? c->n : 3;
-    place(&c->arities, once_in(60) ? 17 + below(40) : below(4));
-    for (size_t i = 0; i < c->arities.len; i++) {
-        unsigned s = (unsigned)below(4);
-        while (s > 0 && sum + power(n, s) > limit && !once_in(100)) {
-            s--;
-        }
-        sum += power(n, s);
-        c->arities.slice[i] = (uint8_t)s;
-    }
-    if (c->arities.len > 0 && once_in(40)) {
-        c->arities.slice[below(c->arities.len)] = (uint8_t)next();
-    }
-    size_t len = sum;
-    if (once_in(40)) {
-        len += 1 + below(3);
-    } else if (len > 0 && once_in(40)) {
-        len -= 1 + below(len);
-    }
-    place(&c->cells, len < PAGES * page ? len : PAGES * page);
-    switch (below(4)) {
-    case 0: /* few values */
-        fill(&c->cells, 1 + below(n));
-        break;
-    case 1: /* near the identity of the last argument */
-        for (size_t i = 0; i < c->cells.len; i++) {
-            c->cells.slice[i] = (uint8_t)(once_in(8) ? below(n) : i % n);
-        }
-        break;
-    case 2: /* near a sum */
-        for (size_t i = 0; i < c->cells.len; i++) {
-            c->cells.slice[i] = (uint8_t)(once_in(200) ? below(n) : (i % n + i / n + i / n / n) % n);
-        }
-        break;
-    default:
-        fill(&c->cells, n);
-    }
-    if (c->cells.len > 0 && once_in(40)) {
-        c->cells.slice[below(c->cells.len)] = (uint8_t)next();
-    }
-}
 
 static void make_rest(struct call *c)
 {
@@ -373,15 +221,6 @@ static const char *fault(const struct call *c, uint32_t number, const uint8_t *b
     }
 }
 
-static void print_bytes(const char *name, const uint8_t *bytes, size_t len)
-{
-    printf("  %s (%zu):", name, len);
-    for (size_t i = 0; i < len; i++) {
-        printf(" %u", (unsigned)bytes[i]);
-    }
-    printf("\n");
-}
-
 static void print_call(const struct call *c, const char *why, uint32_t number, uint32_t other,
                        const uint8_t *before, const uint8_t *expected)
 {
@@ -411,7 +250,7 @@ int main(int argc, char **argv)
     c.out = open_room();
     printf("seed %lu, %lu calls\n", seed, calls);
     for (unsigned long i = 0; i < calls; i++) {
-        make_algebra(&c);
+        make_algebra(&c.n, &c.arities, &c.cells);
         make_rest(&c);
         if (c.out.len > 0) {
             memcpy(before, c.out.slice, c.out.len);

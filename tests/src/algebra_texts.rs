@@ -542,6 +542,7 @@ fn to_damage(rng: &mut Rng) -> Vec<Vec<u8>> {
         random(1, &[0, 1, 2, 3], rng),
         random(11, &[2, 0, 1], rng),
         random(64, &[1, 0, 1, 1], rng),
+        random(24, &[2], rng),
     ];
     // Rows of one length: numbers of one digit, and of two.
     let mut short = random(16, &[2, 0], rng);

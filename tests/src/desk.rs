@@ -6,7 +6,10 @@ use std::process::{Command, Stdio};
 use std::time::Duration;
 
 use outside_tests::algebras;
+use outside_tests::random::Rng;
+use outside_tests::reference::algebra::Algebra;
 use outside_tests::reference::desk::transcript;
+use outside_tests::reference::map;
 use outside_tests::reference::text::algebra_text;
 use outside_tests::report::{Run, Suite};
 
@@ -40,8 +43,11 @@ fn run_in_pieces(program: &str, input: &[u8], piece: usize) -> (Vec<u8>, bool) {
     (output, child.wait().unwrap().success())
 }
 
-fn compare(s: &mut Suite, program: &str, input: &[u8]) {
-    expect(s, program, input, &transcript(input));
+/// Gives what was expected.
+fn compare(s: &mut Suite, program: &str, input: &[u8]) -> Vec<u8> {
+    let expected = transcript(input);
+    expect(s, program, input, &expected);
+    expected
 }
 
 fn expect(s: &mut Suite, program: &str, input: &[u8], expected: &[u8]) {
@@ -53,6 +59,148 @@ fn expect_in_pieces(s: &mut Suite, program: &str, input: &[u8], expected: &[u8],
     s.check(found == expected && ended_well, || {
         format!("{}\n  ended well: {ended_well}", texts::difference(input, &found, expected))
     });
+}
+
+/// A text that asks for several quotients of one algebra: maps of all kinds.
+fn with_quotients(algebra: &Algebra, count: usize, rng: &mut Rng) -> Vec<u8> {
+    let mut text = algebra_text(algebra);
+    for _ in 0..count {
+        let congruence = !rng.once_in(3);
+        text += &format!("[quotient{}]\n", texts::map_words(algebra, congruence, rng));
+    }
+    text.into_bytes()
+}
+
+fn quotients(s: &mut Suite, program: &str) {
+    let mut answers = Vec::new();
+    for round in 0..1500 {
+        let algebra = algebras::any(9, 200, &mut s.rng).algebra;
+        let text = with_quotients(&algebra, 1 + round % 4, &mut s.rng);
+        answers.extend(compare(s, program, &text));
+        if s.is_over() {
+            return;
+        }
+    }
+    // All sizes, and up to sixteen operations of every arity.
+    for n in 1..=64usize {
+        let mut arities = Vec::new();
+        let mut rest = 9000;
+        for _ in 0..s.rng.below(17) {
+            let arity = s.rng.below(4);
+            if n.pow(arity as u32) <= rest {
+                rest -= n.pow(arity as u32);
+                arities.push(arity as u8);
+            }
+        }
+        let blocks = s.rng.within(1, n);
+        for algebra in [
+            algebras::lifted(n, blocks, &arities, &mut s.rng),
+            algebras::random(n, &arities, &mut s.rng),
+            algebras::projection(n, 2, 1),
+        ] {
+            let text = with_quotients(&algebra, 4, &mut s.rng);
+            answers.extend(compare(s, program, &text));
+        }
+    }
+    for one in algebras::structured(8, &mut s.rng) {
+        let text = with_quotients(&one.algebra, 3, &mut s.rng);
+        answers.extend(compare(s, program, &text));
+        if s.is_over() {
+            return;
+        }
+    } // Every kind of answer must have come, and often.
+    let answers = String::from_utf8(answers).unwrap();
+    for kind in ["[size ", "[refused 8]", "[refused 12]", "[refused 14]"] {
+        let count = answers.matches(kind).count();
+        s.check(count > 100, || format!("  only {count} times {kind}"));
+    }
+}
+
+/// Answers as long as the program can give.
+fn long_quotients(s: &mut Suite, program: &str) {
+    let (text, answer) = texts::longest_answer();
+    expect(s, program, &text, &answer);
+    expect_in_pieces(s, program, &text, &answer, 4096);
+    // One byte too long, and one with another request behind it.
+    compare(s, program, &[text.clone(), b"\n".to_vec()].concat());
+    compare(s, program, &text[..text.len() - 1]);
+    let projection =
+        Algebra { n: 64, arities: vec![2; 4], cells: algebras::projection(64, 2, 0).cells.repeat(4) };
+    for algebra in
+        [algebras::chain(64), algebras::median(25), algebras::elementary(6), projection, algebras::bare(64)]
+    {
+        let n = algebra.n;
+        let halves: Vec<usize> = (0..n).map(|x| x % 2).collect();
+        for map in [map::identity(n), map::all(n), map::of_labels(&halves)] {
+            let line = format!("[quotient {}]\n", texts::words(&map));
+            compare(
+                s,
+                program,
+                format!("{}{line}{line}{line}[decompose]\n", algebra_text(&algebra)).as_bytes(),
+            );
+        }
+    }
+    // Many requests: more is written than is read.
+    let request = format!("[quotient {}]\n", texts::words(&map::identity(4)));
+    compare(s, program, format!("{}{}", texts::U, request.repeat(3000)).as_bytes());
+    let wide = algebras::random(10, &[3, 3, 3], &mut s.rng);
+    let request = format!("[quotient {}]\n", texts::words(&map::identity(10)));
+    compare(s, program, format!("{}{}", algebra_text(&wide), request.repeat(1500)).as_bytes());
+}
+
+/// Decompose, Quotient by each factor, and Decompose on what was written: 11.
+fn fed_back(s: &mut Suite, program: &str) {
+    let mut list: Vec<Algebra> =
+        algebras::structured(24, &mut s.rng).into_iter().map(|one| one.algebra).collect();
+    list.extend((0..60).map(|_| algebras::any(10, 300, &mut s.rng).algebra));
+    list.extend([algebras::boolean(6), algebras::elementary(6), algebras::dihedral(32)]);
+    let mut factors = 0;
+    for algebra in list {
+        let text = algebra_text(&algebra);
+        let (answer, _) = run_in_pieces(program, format!("{text}[decompose]\n").as_bytes(), usize::MAX);
+        let answer = String::from_utf8_lossy(&answer).into_owned();
+        let Some(maps) = answer.strip_prefix("[factors [") else {
+            s.check(answer.starts_with("[refused 11 "), || format!("  {text}  is answered {answer}"));
+            continue;
+        };
+        for map in maps.trim_end_matches("]]\n").split("] [") {
+            let (quotient, _) =
+                run_in_pieces(program, format!("{text}[quotient {map}]\n").as_bytes(), usize::MAX);
+            let again = [quotient.clone(), b"[decompose]\n".to_vec()].concat();
+            let (last, _) = run_in_pieces(program, &again, usize::MAX);
+            let good = quotient.starts_with(b"[size ") && last.starts_with(b"[refused 11 ");
+            s.check(good && last == transcript(&again), || {
+                format!(
+                    "  {text}  by {map} is\n  {}\n  and that is answered {}",
+                    quotient.escape_ascii(),
+                    last.escape_ascii()
+                )
+            });
+            factors += 1;
+        }
+        if s.is_over() {
+            return;
+        }
+    }
+    s.check(factors > 200, || format!("  only {factors} factors"));
+}
+
+/// The text cut, and changed at every byte.
+fn changed_everywhere(s: &mut Suite, program: &str, text: &[u8]) {
+    for at in 0..text.len() {
+        compare(s, program, &text[..at]);
+        for new in [text[at] ^ 1, text[at] ^ 0x80, 0, b' ', b'\n', b']', b'7'] {
+            let mut changed = text.to_vec();
+            changed[at] = new;
+            compare(s, program, &changed);
+        }
+        let mut less = text.to_vec();
+        less.remove(at);
+        compare(s, program, &less);
+        if s.is_over() {
+            break;
+        }
+    }
 }
 
 pub fn suites(run: &mut Run, program: &str) {
@@ -75,22 +223,15 @@ pub fn suites(run: &mut Run, program: &str) {
         }
     });
     run.suite("desk: the worked text cut and changed at every byte", |s| {
-        let worked = texts::worked();
-        for at in 0..worked.len() {
-            compare(s, program, &worked[..at]);
-            for new in [worked[at] ^ 1, worked[at] ^ 0x80, 0, b' ', b'\n', b']', b'7'] {
-                let mut text = worked.clone();
-                text[at] = new;
-                compare(s, program, &text);
-            }
-            let mut text = worked.clone();
-            text.remove(at);
-            compare(s, program, &text);
-            if s.is_over() {
-                break;
-            }
-        }
+        changed_everywhere(s, program, &texts::worked());
     });
+    run.suite("desk: quotients", |s| quotients(s, program));
+    run.suite("desk: a text with quotients cut and changed at every byte", |s| {
+        let text = format!("{}[quotient 0 1 0 1]\n[quotient 0 1 0 3]\n[quotient 0]\n[decompose]\n", texts::U);
+        changed_everywhere(s, program, text.as_bytes());
+    });
+    run.suite("desk: quotients with long answers", |s| long_quotients(s, program));
+    run.suite("desk: factors fed back", |s| fed_back(s, program));
     run.suite("desk: damaged texts", |s| {
         for _ in 0..8000 {
             let mut text = texts::valid(6, 100, &mut s.rng);

@@ -380,7 +380,7 @@ fn of_length_with_longer_lines(length: usize) -> Vec<u8> {
     unreachable!("17 and 6 have no common divisor")
 }
 
-fn words(bytes: &[u8]) -> String {
+pub fn words(bytes: &[u8]) -> String {
     let list: Vec<String> = bytes.iter().map(|b| b.to_string()).collect();
     list.join(" ")
 }
