@@ -39,10 +39,11 @@ struct string {
     char bytes[ROOM];
 };
 
-enum service { NONE, GENERATE, CONTAINED, SEPARATE, DECOMPOSE };
+enum service { NONE, GENERATE, CONTAINED, SEPARATE, DECOMPOSE, QUOTIENT };
 enum shown { TIME, BYTES_IN, BYTES_OUT };
 
-/* A text, and what it should be answered: `line`, `requests` times. */
+/* A text, and what it should be answered: `line`, `requests` times. A quotient's
+ * answer has several lines. */
 struct text {
     const char *heading; /* printed before this row, or null */
     const char *name;
@@ -50,6 +51,7 @@ struct text {
     size_t n, operations, cells_len;
     uint8_t arities[16], cells[MAX_CELLS];
     enum service service;
+    const uint8_t *map; /* for a quotient */
     unsigned requests;
     struct string input, line;
     int file;
@@ -114,16 +116,20 @@ static const uint8_t *put_table(struct string *s, size_t n, unsigned arity, cons
     return cell;
 }
 
+static void put_lines(struct string *s, size_t n, const struct text *t, const uint8_t *cell)
+{
+    s->len = 0;
+    put(s, "[size %zu]\n", n);
+    for (size_t k = 0; k < t->operations; k++) {
+        put(s, "[op %u ", t->arities[k]);
+        cell = put_table(s, n, t->arities[k], cell);
+        put(s, "]\n");
+    }
+}
+
 static void put_algebra(struct text *t)
 {
-    const uint8_t *cell = t->cells;
-    t->input.len = 0;
-    put(&t->input, "[size %zu]\n", t->n);
-    for (size_t k = 0; k < t->operations; k++) {
-        put(&t->input, "[op %u ", t->arities[k]);
-        cell = put_table(&t->input, t->n, t->arities[k], cell);
-        put(&t->input, "]\n");
-    }
+    put_lines(&t->input, t->n, t, t->cells);
 }
 
 static struct text *begin(const char *heading, const char *name, enum shown shown, size_t n)
@@ -191,9 +197,10 @@ static void add_binary(struct text *t, binary *f)
 /* ---- requests and their answers -------------------------------------------------- */
 
 /* What is asked of an algebra of N elements: the least congruence that joins the
- * pair, the greatest inside the map, the earliest that holds the pair apart. */
+ * pair, the greatest inside the map, the earliest that holds the pair apart, the
+ * quotient by the identity or by eight blocks of neighbours. */
 static const uint8_t pair[2] = {0, N - 1};
-static uint8_t three_blocks[N];
+static uint8_t three_blocks[N], identity[N], eight_blocks[N];
 
 static void put_request(struct text *t)
 {
@@ -214,6 +221,11 @@ static void put_request(struct text *t)
         return;
     case DECOMPOSE:
         put(s, "[decompose]\n");
+        return;
+    case QUOTIENT:
+        put(s, "[quotient ");
+        put_map(s, t->map, t->n);
+        put(s, "]\n");
         return;
     }
 }
@@ -246,11 +258,39 @@ static void put_factors(struct string *s, const uint8_t *maps, unsigned count, s
     put(s, "]\n");
 }
 
-/* The line for what the library answers. */
+/* The quotient of binary tables. The library for C has no such call, so it is made
+ * here: the blocks' numbers at the smallest members. */
+static void put_quotient(struct text *t)
+{
+    static uint8_t cells[MAX_CELLS];
+    uint8_t number[N], first[N];
+    size_t b = 0, count = 0;
+    for (size_t x = 0; x < t->n; x++) {
+        if (t->map[x] == x) {
+            first[b] = (uint8_t)x;
+            number[x] = (uint8_t)b++;
+        } else {
+            number[x] = number[t->map[x]];
+        }
+    }
+    for (size_t k = 0; k < t->operations; k++) {
+        const uint8_t *table = t->cells + k * t->n * t->n;
+        for (size_t place = 0; place < b * b; place++) {
+            cells[count++] = number[table[first[place / b] * t->n + first[place % b]]];
+        }
+    }
+    put_lines(&t->line, b, t, cells);
+}
+
+/* The lines for what the library answers. */
 static void put_answer(struct text *t)
 {
     static uint8_t out[MAX_OUT];
     struct string *s = &t->line;
+    if (t->service == QUOTIENT) {
+        put_quotient(t);
+        return;
+    }
     const uint32_t answered = call(t, out);
     if (CONGRUENCE_REASON(answered) != CONGRUENCE_OK) {
         fail("the library refuses it", t->name);
@@ -286,10 +326,27 @@ static void one_request(const char *heading, const char *name, binary *f, enum s
     ask(t, service, 1);
 }
 
+/* The projection to the first argument respects every map. */
+static unsigned left(unsigned x, unsigned y) { (void)y; return x; }
+
+static void quotients(const char *heading, const char *name, unsigned tables, binary *f, const uint8_t *map)
+{
+    struct text *t = begin(heading, name, TIME, N);
+    add_binary(t, f);
+    while (--tables > 0) {
+        memcpy(t->cells + t->cells_len, t->cells, N * N);
+        add_operation(t, 2);
+    }
+    t->map = map;
+    ask(t, QUOTIENT, 1);
+}
+
 static void make_texts(void)
 {
     for (unsigned z = 0; z < N; z++) {
         three_blocks[z] = (uint8_t)(z % 3);
+        identity[z] = (uint8_t)z;
+        eight_blocks[z] = (uint8_t)(z / 8 * 8);
     }
     put_algebra(begin("starting", "size line alone", TIME, N));
     struct text *empty = begin(NULL, "empty input", TIME, 0);
@@ -309,6 +366,11 @@ static void make_texts(void)
     one_request(NULL, "contained", least, CONTAINED);
     one_request(NULL, "separate", least, SEPARATE);
     one_request(NULL, "decompose", least, DECOMPOSE);
+
+    const char *asked = "tables and one quotient";
+    quotients(asked, "group, 8 blocks", 1, exclusive, eight_blocks);
+    quotients(NULL, "group, identity", 1, exclusive, identity);
+    quotients(NULL, "5 projections, identity", 5, left, identity);
 
     const char *many = "writing: 64 elements, no operations, many requests; MB/s out";
     ask(begin(many, "3600 times generate", BYTES_OUT, N), GENERATE, 3600);
@@ -411,6 +473,12 @@ static struct times run(const char *program, const struct text *t)
     return (struct times){wall, microseconds(used.ru_utime) + microseconds(used.ru_stime)};
 }
 
+/* Whether the text asks for a service that the library for C has. */
+static int is_called(const struct text *t)
+{
+    return t->service != NONE && t->service != QUOTIENT;
+}
+
 /* Microseconds of processor time a call: as many calls as the text has requests,
  * and for a millisecond at least. */
 static double call_time(const struct text *t)
@@ -436,7 +504,7 @@ static void run_round(const char *program, unsigned round)
 {
     for (unsigned i = 0; i < list_count; i++) {
         struct text *t = &list[i];
-        t->call[round] = t->service == NONE ? 0 : call_time(t);
+        t->call[round] = is_called(t) ? call_time(t) : 0;
         run(program, t);
         run(program, idle);
         const struct times all = run(program, t), nothing = run(program, idle);
@@ -460,10 +528,10 @@ static void print_row(struct text *t, unsigned rounds)
     }
     printf("  %-22s %8zu %8zu %8.0f %8.0f %8.0f", t->name, t->input.len, out, median(t->wall, rounds),
            median(t->processor, rounds), above);
-    if (t->service != NONE) {
+    if (is_called(t)) {
         printf(" %8.0f", service);
     }
-    if (t->service != NONE && t->shown == TIME) {
+    if (is_called(t) && t->shown == TIME) {
         printf(" %8.0f", above - service);
     }
     if (t->shown == BYTES_IN) {

@@ -4,10 +4,13 @@
 use outside_tests::algebras::{self, random};
 use outside_tests::random::Rng;
 use outside_tests::reference::algebra::Algebra;
+use outside_tests::reference::plain::Plain;
 use outside_tests::reference::text::{algebra_text, read, write, Read, Written};
+use outside_tests::reference::Engine;
 use outside_tests::report::{Run, Suite};
 
 use crate::compare::Guarded;
+use crate::desk;
 use crate::ffi::Texts;
 use crate::texts;
 
@@ -254,48 +257,55 @@ fn u() -> Algebra {
 
 // ---- the writer ----------------------------------------------------------------
 
-fn writes_examples(library: Texts, s: &mut Suite) {
-    let mut expect = |a: &Algebra, length: usize, reason: u32, text: &str| {
+/// Algebras, lent lengths, and what the writer then says and writes.
+fn examples_to_write() -> Vec<(Algebra, usize, u32, String)> {
+    let mut list = Vec::new();
+    let mut add = |a: Algebra, lent: usize, reason: u32, text: &str| {
+        list.push((a, lent, reason, text.to_string()));
+    };
+    for (lent, reason, text) in [(26, 0, texts::U), (27, 0, texts::U), (25, 9, ""), (0, 9, "")] {
+        add(u(), lent, reason, text);
+    }
+    add(algebras::bare(64), 10, 0, "[size 64]\n");
+    add(algebras::bare(64), 9, 9, "");
+    add(algebras::bare(1), 9, 0, "[size 1]\n");
+    add(algebras::bare(1), 8, 9, "");
+    add(Algebra { n: 3, arities: vec![1], cells: vec![0, 1, 3] }, 0, 6, "");
+    let mixed = Algebra { n: 2, arities: vec![0, 2], cells: vec![1, 0, 0, 0, 1] };
+    add(mixed, 40, 0, "[size 2]\n[op 0 1]\n[op 2 [[0 0] [0 1]]]\n");
+    let single = Algebra { n: 1, arities: vec![3, 0], cells: vec![0, 0] };
+    add(single, 40, 0, "[size 1]\n[op 3 [[[0]]]]\n[op 0 0]\n");
+    let ternary = Algebra { n: 2, arities: vec![3], cells: vec![0, 1, 1, 0, 1, 0, 0, 1] };
+    add(ternary, 60, 0, "[size 2]\n[op 3 [[[0 1] [1 0]] [[1 0] [0 1]]]]\n");
+    let constants = Algebra { n: 64, arities: vec![0, 0, 0], cells: vec![63, 9, 10] };
+    add(constants.clone(), 38, 9, "");
+    add(constants, 39, 0, "[size 64]\n[op 0 63]\n[op 0 9]\n[op 0 10]\n");
+    // The longest text of all.
+    let largest = Algebra { n: 16, arities: vec![3; 8], cells: vec![15; ROOM] };
+    let row = format!("[{}]", ["15"; 16].join(" "));
+    let rows = format!("[{}]", vec![row; 16].join(" "));
+    let table = format!("[{}]", vec![rows; 16].join(" "));
+    let text = format!("[size 16]\n{}", format!("[op 3 {table}]\n").repeat(8));
+    assert_eq!(text.len(), 102_738);
+    for lent in [102_738, 102_739, 131_178] {
+        add(largest.clone(), lent, 0, &text);
+    }
+    add(largest, 102_737, 9, "");
+    list
+}
+
+/// Checks what a writer leaves on the examples.
+fn expect_written(s: &mut Suite, mut writer: impl FnMut(&Algebra, &[u8], &mut Rng) -> (Written, bool)) {
+    for (a, length, reason, text) in examples_to_write() {
         let lent = s.rng.bytes(length);
         let mut after = lent.clone();
         after[..text.len()].copy_from_slice(text.as_bytes());
         let wanted = Written { reason, length: text.len(), lent: after };
-        let answer = written(library, a, &lent, &mut s.rng);
-        s.same("what is written", answer, (wanted, true));
-    };
-    expect(&u(), 26, 0, texts::U);
-    expect(&u(), 25, 9, "");
-    expect(&u(), 27, 0, texts::U);
-    expect(&u(), 0, 9, "");
-    expect(&algebras::bare(64), 10, 0, "[size 64]\n");
-    expect(&algebras::bare(64), 9, 9, "");
-    expect(&algebras::bare(1), 9, 0, "[size 1]\n");
-    expect(&algebras::bare(1), 8, 9, "");
-    expect(&Algebra { n: 3, arities: vec![1], cells: vec![0, 1, 3] }, 0, 6, "");
-    let mixed = Algebra { n: 2, arities: vec![0, 2], cells: vec![1, 0, 0, 0, 1] };
-    expect(&mixed, 40, 0, "[size 2]\n[op 0 1]\n[op 2 [[0 0] [0 1]]]\n");
-    let single = Algebra { n: 1, arities: vec![3, 0], cells: vec![0, 0] };
-    expect(&single, 40, 0, "[size 1]\n[op 3 [[[0]]]]\n[op 0 0]\n");
-    let ternary = Algebra { n: 2, arities: vec![3], cells: vec![0, 1, 1, 0, 1, 0, 0, 1] };
-    expect(&ternary, 60, 0, "[size 2]\n[op 3 [[[0 1] [1 0]] [[1 0] [0 1]]]]\n");
-    let largest = Algebra { n: 16, arities: vec![3; 8], cells: vec![15; ROOM] };
-    let text = algebra_text(&largest);
-    s.same("the longest text", text.len(), 102_738);
-    let mut expect = |length: usize, reason: u32, text: &str| {
-        let lent = vec![7; length];
-        let (answer, untouched) = written(library, &largest, &lent, &mut s.rng);
-        let good =
-            answer.lent[..text.len()] == *text.as_bytes() && answer.lent[text.len()..] == lent[text.len()..];
-        s.same(
-            "the longest text",
-            (answer.reason, answer.length, good, untouched),
-            (reason, text.len(), true, true),
-        );
-    };
-    expect(102_738, 0, &text);
-    expect(102_737, 9, "");
-    expect(102_739, 0, &text);
-    expect(131_178, 0, &text);
+        let (answer, untouched) = writer(&a, &lent, &mut s.rng);
+        s.check(answer == wanted && untouched, || {
+            format!("  {a:?} into {length}: reason {}, length {}", answer.reason, answer.length)
+        });
+    }
 }
 
 /// All sizes, arities in all mixes; what is written comes back.
@@ -400,56 +410,61 @@ fn declines_to_write(library: Texts, s: &mut Suite) {
 
 // ---- the reader ----------------------------------------------------------------
 
-fn reads_examples(library: Texts, s: &mut Suite) {
-    let room = s.rng.bytes(ROOM);
-    let mut expect = |text: &str, reason: u32, n: u8, arities: &[u8], cells: &[u8]| {
+/// Texts, and the reason, n, the arities and the cells that the reader finds.
+type Example = (&'static str, u32, u8, &'static [u8], &'static [u8]);
+
+const EXAMPLES_TO_READ: [Example; 26] = [
+    ("[size 2]\n[op 0 1]\n[op 2 [[0 0] [0 1]]]\n", 0, 2, &[0, 2], &[1, 0, 0, 0, 1]),
+    (texts::U, 0, 4, &[1], &[1, 0, 3, 2]),
+    ("[size 64]\n", 0, 64, &[], &[]),
+    ("[size 1]\n[op 3 [[[0]]]]\n", 0, 1, &[3], &[0]),
+    ("[size 13]\n[op 0 12]\n[op 0 9]\n[op 0 10]\n", 0, 13, &[0, 0, 0], &[12, 9, 10]),
+    ("", 14, 0, &[], &[]),
+    ("\n", 14, 0, &[], &[]),
+    ("[size 2]\n\n", 14, 0, &[], &[]),
+    ("[size 2]", 14, 0, &[], &[]),
+    ("[size 2]\n[decompose]\n", 14, 0, &[], &[]),
+    ("[size 2]\n[quotient 0 1]\n", 14, 0, &[], &[]),
+    ("[size 2]\n[quotient 0 1]\n[op 0 0]\n", 14, 0, &[], &[]),
+    ("[size 2]\n[op 1 [0 2]]\n", 6, 0, &[], &[]),
+    ("[size 2]\n[op 4 ", 3, 0, &[], &[]),
+    ("[size 2]\n[op 1 [0 2]]\n[op 4 ", 6, 0, &[], &[]),
+    ("[size 2]\n[op 1 [0 2]]\n[quit]\n", 6, 0, &[], &[]),
+    ("[size 2]\n[op 1 [2 0]\n", 14, 0, &[], &[]),
+    ("[size 2]\n[op 1 [0 1]]\n[op 1 [0 1]", 14, 0, &[], &[]),
+    ("[size 65]\n", 1, 0, &[], &[]),
+    ("[size 0]\n", 1, 0, &[], &[]),
+    ("[size 65]\n[decompose]\n", 1, 0, &[], &[]),
+    ("[size 65]", 14, 0, &[], &[]),
+    ("[size 33]\n[op 3 ", 4, 0, &[], &[]),
+    ("[size 2]\n[size 2]\n", 14, 0, &[], &[]),
+    ("[op 0 0]\n", 14, 0, &[], &[]),
+    ("[op 4 ", 14, 0, &[], &[]),
+];
+
+/// Checks what a reader leaves on the examples; lent too little, it is 9 on each.
+fn expect_read(s: &mut Suite, mut reader: impl FnMut(&[u8], &[u8], &mut Rng) -> (Read, bool)) {
+    let room = s.rng.bytes(ROOM + 1);
+    let mut expect = |text: &str, lent: &[u8], wanted: Read| {
+        let (answer, untouched) = reader(text.as_bytes(), lent, &mut s.rng);
+        s.check(answer == wanted && untouched, || {
+            format!("  {text:?} into {}: reason {}, head {:?}", lent.len(), answer.reason, answer.head)
+        });
+    };
+    for (text, reason, n, arities, cells) in EXAMPLES_TO_READ {
         let mut head = [0; HEAD];
         head[0] = n;
         head[1] = arities.len() as u8;
         head[2..2 + arities.len()].copy_from_slice(arities);
-        let mut after = room.clone();
-        after[..cells.len()].copy_from_slice(cells);
-        let wanted = Read { reason, head, cells: cells.len(), lent: after };
-        let (answer, untouched) = found(library, text.as_bytes(), &room, &mut s.rng);
-        s.check(answer == wanted && untouched, || {
-            format!("  {text:?}: reason {}, head {:?}, {} cells", answer.reason, answer.head, answer.cells)
-        });
-        // Too little is lent: 9, whatever the text is.
-        for length in [0, 1, 5, 32_767] {
-            let wanted = Read { reason: 9, head: [0; HEAD], cells: 0, lent: room[..length].to_vec() };
-            let (answer, untouched) = found(library, text.as_bytes(), &room[..length], &mut s.rng);
-            s.check(answer == wanted && untouched, || {
-                format!("  {text:?} into {length} bytes: reason {}, head {:?}", answer.reason, answer.head)
-            });
+        for length in [ROOM, ROOM + 1] {
+            let mut after = room[..length].to_vec();
+            after[..cells.len()].copy_from_slice(cells);
+            expect(text, &room[..length], Read { reason, head, cells: cells.len(), lent: after });
         }
-    };
-    expect("[size 2]\n[op 0 1]\n[op 2 [[0 0] [0 1]]]\n", 0, 2, &[0, 2], &[1, 0, 0, 0, 1]);
-    expect(texts::U, 0, 4, &[1], &[1, 0, 3, 2]);
-    expect("[size 64]\n", 0, 64, &[], &[]);
-    expect("[size 1]\n[op 3 [[[0]]]]\n", 0, 1, &[3], &[0]);
-    expect("[size 13]\n[op 0 12]\n[op 0 9]\n[op 0 10]\n", 0, 13, &[0, 0, 0], &[12, 9, 10]);
-    for (text, reason) in [
-        ("", 14),
-        ("\n", 14),
-        ("[size 2]\n\n", 14),
-        ("[size 2]", 14),
-        ("[size 2]\n[decompose]\n", 14),
-        ("[size 2]\n[op 1 [0 2]]\n", 6),
-        ("[size 2]\n[op 4 ", 3),
-        ("[size 2]\n[op 1 [0 2]]\n[op 4 ", 6),
-        ("[size 2]\n[op 1 [0 2]]\n[quit]\n", 6),
-        ("[size 2]\n[op 1 [2 0]\n", 14),
-        ("[size 2]\n[op 1 [0 1]]\n[op 1 [0 1]", 14),
-        ("[size 65]\n", 1),
-        ("[size 0]\n", 1),
-        ("[size 65]\n[decompose]\n", 1),
-        ("[size 65]", 14),
-        ("[size 33]\n[op 3 ", 4),
-        ("[size 2]\n[size 2]\n", 14),
-        ("[op 0 0]\n", 14),
-        ("[op 4 ", 14),
-    ] {
-        expect(text, reason, 0, &[], &[]);
+        for length in [0, 1, 5, ROOM - 1] {
+            let lent = &room[..length];
+            expect(text, lent, Read { reason: 9, head: [0; HEAD], cells: 0, lent: lent.to_vec() });
+        }
     }
 }
 
@@ -713,9 +728,88 @@ fn reads_long_texts(library: Texts, s: &mut Suite) {
     c.end("long texts");
 }
 
+/// The library writes an algebra, the desk program writes a quotient of it by a
+/// congruence, the library reads that and writes it again.
+fn writes_asks_and_reads(library: Texts, program: &str, s: &mut Suite) {
+    let room = s.rng.bytes(ROOM);
+    for round in 0..400 {
+        let (limit, cells) = if round % 10 == 0 { (64, 9000) } else { (9, 300) };
+        let a = algebras::any(limit, cells, &mut s.rng).algebra;
+        let lent = s.rng.bytes(60_000);
+        let (out, _) = written(library, &a, &lent, &mut s.rng);
+        let engine = Plain::new(&a);
+        let congruence = engine.least(&[(s.rng.below(a.n), s.rng.below(a.n))]);
+        let (cells, b) = engine.quotient(&congruence);
+        let request = format!("[quotient {}]\n", texts::words(&congruence)).into_bytes();
+        let answer = desk::answer(program, &[&out.lent[..out.length], &request].concat());
+        let (back, _) = found(library, &answer, &room, &mut s.rng);
+        let arities = back.head[2..2 + (back.head[1] as usize).min(16)].to_vec();
+        let quotient = Algebra { n: back.head[0] as usize, arities, cells: back.lent[..back.cells].to_vec() };
+        let wanted = Algebra { n: b, arities: a.arities.clone(), cells };
+        let (again, _) = written(library, &quotient, &lent, &mut s.rng);
+        let good = back.reason == 0 && quotient == wanted && again.lent[..again.length] == answer;
+        s.check(good, || {
+            format!(
+                "  {a:?} by {congruence:?}\n  was written {}\n  and read {quotient:?}",
+                answer.escape_ascii()
+            )
+        });
+        if s.is_over() {
+            return;
+        }
+    }
+}
+
+pub fn suites_with_desk(run: &mut Run, library: Texts, program: &str) {
+    run.suite(&format!("{} and desk: algebras written, quotients read back", library.name), |s| {
+        writes_asks_and_reads(library, program, s)
+    });
+}
+
+/// The length of an accepted algebra's text by its definition over arities.
+fn length_by_arities(a: &Algebra) -> usize {
+    let digits = |value: usize| value.to_string().len();
+    let mut length = 8 + digits(a.n);
+    for (s, table) in a.operations() {
+        // A table of arity s takes n + 1 bytes and its n tables.
+        let around = (0..s).fold(0, |inner, _| a.n + 1 + a.n * inner);
+        length += 8 + around + table.iter().map(|&cell| digits(cell as usize)).sum::<usize>();
+    }
+    length
+}
+
+/// The reference itself.
+pub fn reference_suites(run: &mut Run) {
+    run.suite("reference: document 02's examples of texts", |s| {
+        expect_written(s, |a, lent, _| (write(a.n, &a.arities, &a.cells, lent), true));
+        expect_read(s, |text, lent, _| (read(text, lent), true));
+    });
+    run.suite("reference: what is written has its length and comes back", |s| {
+        let room = vec![1; ROOM];
+        let mut list = full_size(&mut s.rng);
+        list.extend((0..2000).map(|_| some_algebra(14, 300, &mut s.rng)));
+        for a in list {
+            let text = algebra_text(&a);
+            s.same("length", text.len(), length_by_arities(&a));
+            let back = read(text.as_bytes(), &room);
+            let found = (
+                back.reason,
+                back.head[0] as usize,
+                &back.head[2..2 + a.arities.len()],
+                &back.lent[..back.cells],
+            );
+            s.check(found == (0, a.n, &a.arities[..], &a.cells[..]), || {
+                format!("  {a:?}\n  came back as {found:?}")
+            });
+        }
+    });
+}
+
 pub fn suites(run: &mut Run, library: Texts) {
-    let writer: [(&str, fn(Texts, &mut Suite)); 5] = [
-        ("examples and the longest text", writes_examples),
+    run.suite(&format!("{} writer: examples and the longest text", library.name), |s| {
+        expect_written(s, |a, lent, rng| written(library, a, lent, rng))
+    });
+    let writer: [(&str, fn(Texts, &mut Suite)); 4] = [
         ("lent lengths", writes_into_any_length),
         ("refusals 1 to 6", declines_to_write),
         ("all sizes, and back", writes_all_sizes),
@@ -724,8 +818,10 @@ pub fn suites(run: &mut Run, library: Texts) {
     for (name, suite) in writer {
         run.suite(&format!("{} writer: {name}", library.name), |s| suite(library, s));
     }
-    let reader: [(&str, fn(Texts, &mut Suite)); 9] = [
-        ("examples", reads_examples),
+    run.suite(&format!("{} reader: examples", library.name), |s| {
+        expect_read(s, |text, lent, rng| found(library, text, lent, rng))
+    });
+    let reader: [(&str, fn(Texts, &mut Suite)); 8] = [
         ("heads of another length", wants_a_head),
         ("lent lengths", reads_into_any_length),
         ("the desk program's texts", reads_known_texts),

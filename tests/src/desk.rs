@@ -43,6 +43,11 @@ fn run_in_pieces(program: &str, input: &[u8], piece: usize) -> (Vec<u8>, bool) {
     (output, child.wait().unwrap().success())
 }
 
+/// What the program writes for an input.
+pub fn answer(program: &str, input: &[u8]) -> Vec<u8> {
+    run_in_pieces(program, input, usize::MAX).0
+}
+
 /// Gives what was expected.
 fn compare(s: &mut Suite, program: &str, input: &[u8]) -> Vec<u8> {
     let expected = transcript(input);
@@ -157,17 +162,16 @@ fn fed_back(s: &mut Suite, program: &str) {
     let mut factors = 0;
     for algebra in list {
         let text = algebra_text(&algebra);
-        let (answer, _) = run_in_pieces(program, format!("{text}[decompose]\n").as_bytes(), usize::MAX);
-        let answer = String::from_utf8_lossy(&answer).into_owned();
-        let Some(maps) = answer.strip_prefix("[factors [") else {
-            s.check(answer.starts_with("[refused 11 "), || format!("  {text}  is answered {answer}"));
+        let list = answer(program, format!("{text}[decompose]\n").as_bytes());
+        let list = String::from_utf8_lossy(&list).into_owned();
+        let Some(maps) = list.strip_prefix("[factors [") else {
+            s.check(list.starts_with("[refused 11 "), || format!("  {text}  is answered {list}"));
             continue;
         };
         for map in maps.trim_end_matches("]]\n").split("] [") {
-            let (quotient, _) =
-                run_in_pieces(program, format!("{text}[quotient {map}]\n").as_bytes(), usize::MAX);
+            let quotient = answer(program, format!("{text}[quotient {map}]\n").as_bytes());
             let again = [quotient.clone(), b"[decompose]\n".to_vec()].concat();
-            let (last, _) = run_in_pieces(program, &again, usize::MAX);
+            let last = answer(program, &again);
             let good = quotient.starts_with(b"[size ") && last.starts_with(b"[refused 11 ");
             s.check(good && last == transcript(&again), || {
                 format!(

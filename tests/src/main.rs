@@ -52,6 +52,7 @@ fn main() {
     let required = |name: &str| options.required.iter().any(|r| r == name);
     let mut run = Run::new(options.seed, options.only.clone(), options.stop);
     self_check::suites(&mut run);
+    algebra_texts::reference_suites(&mut run);
     for (name, library, share) in [("baseline", ffi::baseline(), 4), ("worksheet", ffi::worksheet(), 1)] {
         match library {
             Some(library) => compare::suites(&mut run, library, share),
@@ -65,7 +66,12 @@ fn main() {
         algebra_texts::suites(&mut run, library);
     }
     match &options.desk {
-        Some(program) => desk::suites(&mut run, program),
+        Some(program) => {
+            desk::suites(&mut run, program);
+            if let Some(library) = ffi::probe_texts() {
+                algebra_texts::suites_with_desk(&mut run, library, program);
+            }
+        }
         None => run.left_out("desk", "no program given", required("desk")),
     }
     if !run.end() {
