@@ -16,7 +16,15 @@
 #include "median.h"
 #include "text_baseline.h"
 
-enum { MAX_CELLS = 32768, LENT_CELLS = MAX_CELLS + 64, LENT_TEXT = 102738 + 64, HEAD = 18, MAX_ROUNDS = 999, TIMES = 8 };
+enum {
+    MAX_CELLS = 32768,
+    LENT_CELLS = MAX_CELLS + 64,
+    LENT_TEXT = 102738 + 64, /* the longest text, and more */
+    HEAD = 18,
+    MAX_WORKLOADS = 12,
+    MAX_ROUNDS = 999,
+    TIMES = 8 /* calls in a round */
+};
 
 /* ---- workloads ------------------------------------------------------------- */
 
@@ -27,8 +35,6 @@ struct workload {
     uint8_t cells[MAX_CELLS];
     uint8_t text[LENT_TEXT];
 };
-
-enum { MAX_WORKLOADS = 12 };
 
 static struct workload list[MAX_WORKLOADS];
 static unsigned list_count;
@@ -43,8 +49,9 @@ static unsigned below(unsigned end)
     return (unsigned)((z ^ (z >> 31)) % end);
 }
 
-/* The baseline writes the texts. */
-static void make(const char *shape, size_t n, unsigned arity, unsigned operations, const char *kind, unsigned from, unsigned to)
+/* Random cells from `from` on and below `to`. The baseline writes the text. */
+static void make(const char *shape, size_t n, unsigned arity, unsigned operations, const char *kind, unsigned from,
+                 unsigned to)
 {
     struct workload *w = &list[list_count++];
     snprintf(w->name, sizeof w->name, "%s, cells %s", shape, kind);

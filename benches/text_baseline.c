@@ -1,10 +1,10 @@
 /* The optimized writer and reader of algebra texts (see text_baseline.h).
  *
  * The writer makes one pass over the cells for reason 6 and the text's length,
- * and one that writes. The reader goes through the text once, into an array of
- * its own; the cells are lent theirs when the whole text is accepted. Rows are
- * read by the quickest way that fits them, and by the plain way where none does:
- * it alone says what is faulty. */
+ * and one that writes. The reader goes through the text once and keeps the cells
+ * in an array of its own until the whole text is accepted. Rows are read by the
+ * quickest way that fits them, and by the plain way where none does: it alone
+ * says what is faulty. */
 #include "text_baseline.h"
 
 #include <string.h>
@@ -13,17 +13,13 @@ enum { MAX_SIZE = 64, MAX_OPERATIONS = 16, MAX_ARITY = 3, MAX_CELLS = 32768, HEA
 
 #define INLINE static inline __attribute__((always_inline))
 
-static size_t digits(size_t value)
-{
-    return value < 10 ? 1 : value < 100 ? 2 : 3;
-}
-
 /* ---- the writer --------------------------------------------------------- */
 
 /* Each number below 64 with the space behind it, and how many bytes these are. */
 #define ONE(d) {'0' + d, ' ', 0, 2}
 #define TWO(t, d) {'0' + t, '0' + d, ' ', 3}
-#define TEN(t) TWO(t, 0), TWO(t, 1), TWO(t, 2), TWO(t, 3), TWO(t, 4), TWO(t, 5), TWO(t, 6), TWO(t, 7), TWO(t, 8), TWO(t, 9)
+#define FIVE(t, d) TWO(t, d), TWO(t, d + 1), TWO(t, d + 2), TWO(t, d + 3), TWO(t, d + 4)
+#define TEN(t) FIVE(t, 0), FIVE(t, 5)
 static const uint8_t item[MAX_SIZE + 6][4] = {
     ONE(0), ONE(1), ONE(2), ONE(3), ONE(4), ONE(5), ONE(6), ONE(7), ONE(8), ONE(9),
     TEN(1), TEN(2), TEN(3), TEN(4), TEN(5), TEN(6),
@@ -99,7 +95,7 @@ uint64_t text_baseline_write(size_t n, const uint8_t *arities, size_t arities_le
     const size_t power[] = {1, n, n * n, n * n * n};
     /* Brackets and spaces of a table. */
     const size_t around[] = {0, n + 1, (n + 1) * (n + 1), (n + 1) * (n * n + n + 1)};
-    size_t sum = 0, length = 8 + digits(n);
+    size_t sum = 0, length = 8 + (n < 10 ? 1 : 2);
     for (size_t i = 0; i < arities_len; i++) {
         if (arities[i] > MAX_ARITY) {
             return 3;
