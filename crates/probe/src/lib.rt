@@ -7,10 +7,13 @@ ghost use Rattle.congruence.specs.Calls.{quotientCall, certifyCall};
 ghost use Rattle.equivalence.specs.Outcome.{packed, writtenOutcome};
 ghost use Rattle.congruence.specs.Outcome.{dividedOutcome, certifiedOutcome};
 ghost use Rattle.bench.specs.Calls.{startCall, addCall, clearCall};
-ghost use Rattle.probe.specs.Calls.{placeNumber, preferCopy, imageCall};
+ghost use Rattle.probe.specs.Calls.{placeNumber, preferCopy, imageCall, textNumber, headCall};
+ghost use Rattle.algebratext.specs.Calls.{writeCall};
+use crate::texts::HEAD_LENGTH;
 use image::LENGTH as IMAGE_LENGTH;
 
 mod numbers;
+mod texts;
 
 // The answer to an image of another length.
 const OTHER_LENGTH: u32 = 255;
@@ -127,4 +130,26 @@ pub extern "C" fn probe_bench_clear(bytes: &mut [u8], sheet: usize) -> u32
     image::write(after, bytes);
     let answer = done.answer;
     numbers::answer_number(answer)
+}
+
+// The writer of algebras: the reason, or 256 × the length of the text.
+#[no_mangle]
+pub extern "C" fn probe_write(n: usize, arities: &[u8], cells: &[u8], out: &mut [u8]) -> u64
+    ensures { λ r. ⌜ r ≡ textNumber (writeCall (algebraIn n (arities .entry) (cells .entry)) (now (out .entry)) .0) ⌝ }
+    ensures { λ _. ⌜ now (out .exit) ≡ writeCall (algebraIn n (arities .entry) (cells .entry)) (now (out .entry)) .1 ⌝ }
+{
+    texts::text_number(algebratext::write_algebra(n, arities, cells, out))
+}
+
+// The reader of algebras: the reason, and 256 × the number of cells; or 255 for a head of another length than 18.
+#[no_mangle]
+pub extern "C" fn probe_read(text: &[u8], cells: &mut [u8], head: &mut [u8]) -> u64
+    ensures { λ r. ⌜ (r, (now (cells .exit), now (head .exit))) ≡ headCall (now (text .entry)) (now (cells .entry)) (now (head .entry)) ⌝ }
+{
+    if head.len() != HEAD_LENGTH {
+        return OTHER_LENGTH as u64;
+    }
+    let read = algebratext::read_algebra(text, cells);
+    texts::write_head(read, head);
+    texts::read_number(read)
 }
