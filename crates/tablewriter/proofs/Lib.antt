@@ -6,3 +6,4 @@ pub mod ReadBack
 pub mod LinesBack
 pub mod AlgebraBack
 pub mod Bounds
+pub mod SpareCells

@@ -56,7 +56,8 @@ pub quotientCells-length : (a : Algebra) (m : Map) → length (quotientCells a m
 unfolding quotientCells operations
 quotientCells-length a m = cells-quotient (a .size) m (a .arities) (a .cells)
 
-cellCount-mono : (b n : ℕ) → b ≤ n → (arities : List ℕ) → cellCount b arities ≤ cellCount n arities
+-- fewer elements have no more cells
+pub cellCount-mono : (b n : ℕ) → b ≤ n → (arities : List ℕ) → cellCount b arities ≤ cellCount n arities
 unfolding cellCount
 cellCount-mono b n h [] = omega arith
 cellCount-mono b n h (s ∷ rest) = omega (arith, pow-le-pow-left h s, cellCount-mono b n h rest)
