@@ -15,12 +15,13 @@ use Rattle.bracket.proofs.Advancing.{Ahead, step-ahead}
 
 module _ (text : List ℕ) where
   -- past the end nothing is written
-  run-finished : (k : ℕ) (s : State) → length text ≤ s .at → run k text s ≡ []
+  pub run-finished : (k : ℕ) (s : State) → length text ≤ s .at → run k text s ≡ []
   unfolding run
   run-finished zero s h = refl
   run-finished (suc k) s h = simp (run, le-leb (length text) (s .at) h)
 
-  run-onwards : (k : ℕ) (s : State) → s .at < length text → run (suc k) text s ≡ output (step text s) (run k text)
+  -- before it the line's step is taken
+  pub run-onwards : (k : ℕ) (s : State) → s .at < length text → run (suc k) text s ≡ output (step text s) (run k text)
   unfolding run
   run-onwards k s h = simp (run, lt-leb (length text) (s .at) h)
 
@@ -31,7 +32,7 @@ module _ (text : List ℕ) where
   output-same i j at (goes piece s) a h k same = ap (λ (l : List ℕ). piece ++ l) (same s (omega arith) (omega arith))
   output-same i j at (ends piece) a h k same = refl
 
-  run-same : (i j : ℕ) (s : State) → length text ≤ i + s .at → length text ≤ j + s .at → run i text s ≡ run j text s
+  pub run-same : (i j : ℕ) (s : State) → length text ≤ i + s .at → length text ≤ j + s .at → run i text s ≡ run j text s
   run-same zero j s h k = run-finished zero s (omega arith) ∙ sym (run-finished j s (omega arith))
   run-same (suc i) zero s h k = run-finished (suc i) s (omega arith) ∙ sym (run-finished zero s (omega arith))
   run-same (suc i) (suc j) s h k =

@@ -3,6 +3,7 @@ pub mod Answering
 pub mod Calling
 pub mod Dividing
 pub mod Examples
+pub mod FedBack
 pub mod Fills
 pub mod Gathering
 pub mod Stepping

@@ -1,6 +1,7 @@
 pub mod Answers
 pub mod Transcript
 pub mod Fills
+pub mod FedBack
 pub mod Standings
 pub mod InnerPromises
 pub mod InnerSteps
