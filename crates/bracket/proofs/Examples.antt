@@ -11,7 +11,8 @@ use Rattle.equivalence.specs.Refusal.{numberOf, lowest, sizeTest, mapTest, spac
 use Rattle.algebra.specs.Accepted.{algebraTests}
 use Rattle.algebra.specs.Algebra.{cellCount, operationsOf, operations, arguments, place, value}
 use Rattle.algebra.specs.Congruence.{respects, isCongruence, congruences}
-use Rattle.congruence.specs.Calls.{generateCall, containedCall, separateCall, decomposed, factorBytes, decomposeCall}
+use Rattle.congruence.specs.Calls.{generateCall, containedCall, separateCall, congruenceTest, quotientCall, decomposed, factorBytes, decomposeCall}
+use Rattle.quotient.specs.Quotient.{quotientTable, quotientCells}
 use Rattle.theory.specs.Decompose.{added, gathered, pruned, listed, reducible, commonPair}
 use Rattle.theory.specs.Extremal.{holdsAll, above, generated, contained, separated}
 use Rattle.reader.specs.Reading.{ascii, onward, _>>=_, mark, gap, branch, behind, begins, opened}
@@ -20,10 +21,11 @@ use Rattle.reader.specs.Tables.{cell, parted, bracket, table, pair, itemsUpTo, 
 use Rattle.reader.specs.Lines.{close, spacedNumber, sizeLine, tested, afterSize, sized, arity, lastTable, operationTests}
 use Rattle.reader.specs.Lines.{cellTest, withOperation, afterTable, afterArity, operation, itemsToEnd, asksWith, twoNumbers, request}
 use Rattle.equivalence.specs.Outcome.{success, refusal, writtenOutcome}
-use Rattle.congruence.specs.Outcome.{generatedOutcome, decomposedOutcome}
+use Rattle.congruence.specs.Outcome.{generatedOutcome, dividedOutcome, decomposedOutcome}
 use Rattle.writer.specs.Numerals.{digits, decimal}
 use Rattle.writer.specs.Lines.{gapBytes, spaced, bracketed, spacedBrackets, line, refusedNumbers, outcomeLine, refusedLine}
-use Rattle.bracket.specs.Answers.{mapLine, generatedLine, factorsLine, answer}
+use Rattle.tablewriter.specs.Texts.{partedTexts, tableText, sizeText, operationText, algebraText}
+use Rattle.bracket.specs.Answers.{mapLine, generatedLine, factorsLine, quotientLines, answer}
 use Rattle.bracket.specs.Transcript.{afterLine, afterRequest, firstStep, operationStep, requestStep, step, output, run, transcript}
 
 -- the desk's output for an input is this
@@ -76,6 +78,24 @@ pub record TextExamples : Type 0 where
       × Gives "[size 2]\n[separate 0 1 1]\n" "[refused 14]\n"
       × Gives "[size 2]\n[decompose] \n" "[refused 14]\n"
       × Gives "[size 2]\r\n" "[refused 14]\n"
+  -- document 02's quotient, and those by the identity, by one block and by the other factor
+  pub quotients : Gives "[size 4]\n[op 1 [1 0 3 2]]\n[quotient 0 1 0 1]\n" "[size 2]\n[op 1 [1 0]]\n"
+      × Gives "[size 4]\n[op 1 [1 0 3 2]]\n[quotient 0 1 2 3]\n" "[size 4]\n[op 1 [1 0 3 2]]\n"
+      × Gives "[size 4]\n[op 1 [1 0 3 2]]\n[quotient 0 0 0 0]\n" "[size 1]\n[op 1 [0]]\n"
+      × Gives "[size 4]\n[op 1 [1 0 3 2]]\n[quotient 0 0 2 2]\n" "[size 2]\n[op 1 [0 1]]\n"
+  -- blocks are numbered by smallest member; tables of arity 0 and 2, and no table
+  pub tables : Gives "[size 3]\n[quotient 0 0 2]\n" "[size 2]\n"
+      × Gives "[size 3]\n[op 0 2]\n[quotient 0 0 2]\n" "[size 2]\n[op 0 1]\n"
+      × Gives "[size 3]\n[op 2 [[0 0 0] [0 1 1] [0 1 2]]]\n[quotient 0 1 1]\n" "[size 2]\n[op 2 [[0 0] [0 1]]]\n"
+  -- no congruence is 12 and no map is 8, and the run goes on with the algebra that it had; a fault ends it
+  pub undivided : Gives "[size 4]\n[op 1 [1 0 3 2]]\n[quotient 0 1 0 3]\n[quotient 0 0 2 2]\n" "[refused 12]\n[size 2]\n[op 1 [0 1]]\n"
+      × Gives "[size 4]\n[op 1 [1 0 3 2]]\n[quotient 0 2 2 3]\n[quotient 0 1 0]\n[quotient 0 0 0 255]\n[quotient]\n" "[refused 8]\n[refused 8]\n[refused 8]\n[refused 8]\n"
+      × Gives "[size 4]\n[op 1 [1 0 3 2]]\n[quotient 0 0 0 256]\n[decompose]\n" "[refused 14]\n"
+      × Gives "[size 4]\n[op 1 [1 0 3 2]]\n[quotient ]\n[decompose]\n" "[refused 14]\n"
+      × Gives "[size 1]\n[quotient 0]\n[op 0 0]\n" "[size 1]\n[refused 14]\n"
+  -- the quotients by the two factors of document 01's input, fed back: neither can be split
+  pub factors : Gives "[size 2]\n[op 1 [1 0]]\n[decompose]\n" "[refused 11 0 1]\n"
+      × Gives "[size 2]\n[op 1 [0 1]]\n[decompose]\n" "[refused 11 0 1]\n"
 
 pub text-examples : TextExamples
 unfolding ascii onward _>>=_ mark gap branch behind begins opened digitAt number digits decimal gapBytes cell parted bracket table pair itemsUpTo items close
@@ -85,7 +105,8 @@ unfolding ascii onward _>>=_ mark gap branch behind begins opened digitAt number
     inside namesOf blocks blockOf mapOf identity whole same isIdentity meet meetAll maps best join upTo every any keep first concat stretch pairs notLaterOn
     notLater firstHeld numberOf lowest sizeTest mapTest spaceTest answered written lentAfter serve algebraTests cellCount operationsOf operations arguments
     place value respects isCongruence congruences pairsTest elementsTest equalTest generateCall containedCall separateCall decomposed factorBytes decomposeCall
-    added gathered pruned listed reducible commonPair holdsAll above generated contained separated
+    added gathered pruned listed reducible commonPair holdsAll above generated contained separated dividedOutcome quotientLines congruenceTest quotientCall
+    quotientTable quotientCells partedTexts tableText sizeText operationText algebraText
 text-examples =
     record {
       worked = refl;
@@ -98,4 +119,8 @@ text-examples =
       order = refl;
       goes = refl;
       faulty = (refl, refl, refl, refl, refl, refl, refl);
+      quotients = (refl, refl, refl, refl);
+      tables = (refl, refl, refl);
+      undivided = (refl, refl, refl, refl, refl);
+      factors = (refl, refl);
     }
