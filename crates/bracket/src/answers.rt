@@ -172,7 +172,7 @@ fn answer_cells(n: usize, arities: &[u8], cells: &[u8], map: &[u8], out: &mut [u
     answer_quotient_into(n, arities, cells, map, &mut space, out)
 }
 
-// The answer to what a request asks, with the numbers that were stored for it; each service is lent just the bytes that it wants.
+// The answer to what a request asks, with the numbers that were stored for it; a service that writes maps is lent just the bytes that it wants.
 fn answer_into(
     n: usize,
     arities: &[u8],

@@ -167,9 +167,10 @@ fn can_fill(text: usize, standing: Standing, arities: usize, room: usize, out: u
 }
 
 // Fills `out` from its start with what the lines from a standing on write: whole lines, until the run is over or the next line may want more room than is left.
-// For the line at the standing it wants 258 bytes for each element, 4 for each cell and 256 more, so 147,840 are always enough. A run begins at `unread(true)`, and is over where `goes` is false. `arities`, of 16 bytes, and `room`, as long as the text, are lent to
-// every fill of a run and left as they are between fills: the arities and the cells of the algebra stand first in them, and the cells behind those in use are
-// left open. With less lent, or from a standing that no run comes to, nothing is done and the run is over.
+// For the line at the standing it wants 258 bytes for each element, 4 for each cell and 256 more, before the first line 514; 147,840 are always enough. A run
+// begins at `unread(true)`, and is over where `goes` is false. `arities`, of 16 bytes, and `room`, as long as the text, are lent to every fill of a run and left
+// as they are between fills: the arities and the cells of the algebra stand first in them, and the cells behind those in use are left open. With less lent, or
+// from a standing that no run comes to, nothing is done and the run is over.
 pub fn fill(
     text: &[u8],
     standing: Standing,

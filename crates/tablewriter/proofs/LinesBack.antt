@@ -1,4 +1,4 @@
--- The lines that are written of an algebra are read back: the size line, an operation line, and all lines of an accepted algebra.
+-- The lines that are written of an algebra are read back: the size line, and an operation line.
 use Prim.Native.Nat.{ℕ, _+_, _^_, _≤_, _<_}
 use mathlib.Core.Bool.{true}
 use mathlib.Core.List.{List, [], _∷_, _++_, append-assoc}
