@@ -20,7 +20,7 @@ use Rattle.reader.specs.Lines.{cellTest, withOperation, afterTable, afterArity,
 use Rattle.writer.specs.Numerals.{digits, decimal}
 use Rattle.writer.specs.Lines.{gapBytes, spaced, line}
 use Rattle.tablewriter.specs.Texts.{partedTexts, tableText, sizeText, operationText, algebraText}
-use Rattle.algebratext.specs.Whole.{operationAt, operationsToEnd, wholeAlgebra}
+use Rattle.algebratext.specs.Whole.{operationLineAt, operationsToEnd, wholeAlgebra}
 use Rattle.algebratext.specs.Calls.{writeCall, algebraRead, cellsRead, reading, readCall}
 use Rattle.algebratext.specs.declared.TextWritten.the-variants.{Length, Refused}
 
@@ -87,7 +87,7 @@ pub record TextCallExamples : Type 0 where
 pub text-call-examples : TextCallExamples
 unfolding ascii onward _>>=_ mark gap begins opened digitAt number digits decimal gapBytes cell parted bracket table close spacedNumber sizeLine tested
     afterSize sized arity lastTable operationTests cellTest withOperation afterTable afterArity operation spaced line partedTexts tableText sizeText
-    operationText algebraText operationAt operationsToEnd wholeAlgebra writeCall algebraRead cellsRead reading readCall every concat written lentAfter
+    operationText algebraText operationLineAt operationsToEnd wholeAlgebra writeCall algebraRead cellsRead reading readCall every concat written lentAfter
     lowest sizeTest spaceTest answered serve algebraTests cellCount operationsOf operations
 text-call-examples =
     record {

@@ -14,7 +14,7 @@ use Rattle.algebra.specs.Algebra.{Algebra, algebraOf}
 use Rattle.reader.specs.Lines.{defined, tested}
 use Rattle.tablewriter.specs.Texts.{sizeText, algebraText}
 use Rattle.tablewriter.proofs.AlgebraBack.{LineRead, ReadAtStart, lines-past, lines-turned, algebra-back}
-use Rattle.algebratext.specs.Whole.{operationAt, operationsToEnd, wholeAlgebra}
+use Rattle.algebratext.specs.Whole.{operationLineAt, operationsToEnd, wholeAlgebra}
 use Rattle.algebratext.specs.Calls.{writeTests, writeCall, algebraRead, cellsRead, reading, readCall}
 use Rattle.algebratext.specs.RoundTrip.{RoundTrip}
 use Rattle.algebratext.specs.declared.TextWritten.the-variants.{Length, Refused}
@@ -22,8 +22,8 @@ use Rattle.algebratext.specs.declared.TextWritten.the-variants.{Length, 
 -- one turn passes an operation line
 turn-passes : (text : List ℕ) (k : ℕ) (a : Algebra) (at : ℕ) (b : Algebra) (next : ℕ) → LineRead text a at b next
     → operationsToEnd (suc k) text (defined a at) ≡ operationsToEnd k text (defined b next)
-unfolding operationsToEnd operationAt
-turn-passes text k a at b next l = simp (operationsToEnd, lt-leb (length text) at (l .within), operationAt, l .opens, l .value)
+unfolding operationsToEnd operationLineAt
+turn-passes text k a at b next l = simp (operationsToEnd, lt-leb (length text) at (l .within), operationLineAt, l .opens, l .value)
 
 -- at the end of the text nothing changes any more
 ended : (text : List ℕ) (k : ℕ) (a : Algebra) (at : ℕ) → length text ≤ at → operationsToEnd k text (defined a at) ≡ defined a at

@@ -26,7 +26,7 @@ use Rattle.reader.specs.declared.taking.LineTaken.{LineTaken}
 use Rattle.reader.specs.Laying.{Laid}
 use Rattle.reader.proofs.RoomLeft.{room-of-cells}
 use Rattle.reader.proofs.Words.{begins-within}
-use Rattle.algebratext.specs.Whole.{operationAt, operationsToEnd, wholeAlgebra}
+use Rattle.algebratext.specs.Whole.{operationLineAt, operationsToEnd, wholeAlgebra}
 use Rattle.algebratext.specs.Calls.{algebraRead, cellsRead, reading, readCall}
 use Rattle.algebratext.specs.InnerReading.{LinesTaken, wholeCall}
 use Rattle.algebratext.specs.declared.AlgebraRead.{AlgebraRead}
@@ -63,9 +63,9 @@ pub record LinesSoFar (text lent arities cells : List ℕ) (a : AlgebraSoFar) : 
 
 -- the size line
 module _ (text arities cells : List ℕ) (l : LineTaken) (s : SizeTaken text 0 l) where
-  pub size-line-refused : (r : Refusal) → l .check ≡ Failed r → LinesTaken text arities arities cells (taken (Failed r) (l .algebra))
+  pub size-line-declined : (r : Refusal) → l .check ≡ Failed r → LinesTaken text arities arities cells (taken (Failed r) (l .algebra))
   unfolding wholeAlgebra
-  size-line-refused r e =
+  size-line-declined r e =
       record {
         value = ap (operationsToEnd (length text) text) (s .value arities cells ∙ ap (λ (c : Check). progressWith c (l .algebra) arities cells) e) ∙ to-end-refused (length text) text r;
         few = s .readable .few;
@@ -91,7 +91,7 @@ to-end-found zero text a at h = refl
 to-end-found (suc k) text a at h = simp (operationsToEnd, le-leb (length text) at h)
 
 -- before it another line comes
-to-end-next : (k : ℕ) (text : List ℕ) (a : Algebra) (at : ℕ) → at < length text → operationsToEnd (suc k) text (defined a at) ≡ operationsToEnd k text (operationAt a text at)
+to-end-next : (k : ℕ) (text : List ℕ) (a : Algebra) (at : ℕ) → at < length text → operationsToEnd (suc k) text (defined a at) ≡ operationsToEnd k text (operationLineAt a text at)
 unfolding operationsToEnd
 to-end-next k text a at h = simp (operationsToEnd, lt-leb (length text) at h)
 
@@ -114,13 +114,13 @@ module _ (text lent arities cells : List ℕ) (a : AlgebraSoFar) (p : LinesSoFar
         go zero e = absurd (omega arith)
         go (suc k) e = (k, refl)
 
-    next : wholeAlgebra text ≡ operationsToEnd (fuel-left .0) text (operationAt so-far text (a .at))
+    next : wholeAlgebra text ≡ operationsToEnd (fuel-left .0) text (operationLineAt so-far text (a .at))
     unfolding so-far
     next = p .value ∙ ap (λ (k : ℕ). operationsToEnd k text (defined so-far (a .at))) (fuel-left .1) ∙ to-end-next (fuel-left .0) text so-far (a .at) h
 
     -- a line that is no operation
     pub line-other : (b : Bool) → b ≡ begins text (a .at) (ascii "[op") → not b ≡ true → LinesTaken text lent arities cells (taken (Failed Text) a)
-    unfolding operationAt
+    unfolding operationLineAt
     line-other b e n =
         record {
           value =
@@ -143,14 +143,14 @@ module _ (text lent arities cells : List ℕ) (a : AlgebraSoFar) (p : LinesSoFar
 
       module _ (arities′ cells′ : List ℕ) (l : LineTaken) (t : OperationTaken text a arities cells arities′ cells′ l) where
         came : wholeAlgebra text ≡ operationsToEnd (fuel-left .0) text (progressWith (l .check) (l .algebra) arities′ cells′)
-        unfolding operationAt so-far
+        unfolding operationLineAt so-far
         came =
             next
             ∙ ap (operationsToEnd (fuel-left .0) text)
             (pick-yes (begins text (a .at) (ascii "[op")) (operation so-far text (a .at + 3)) (refused Text) (T-of (sym e ∙ not-false b n)) ∙ t .value)
 
-        pub line-refused : (r : Refusal) → l .check ≡ Failed r → LinesTaken text lent arities′ cells′ (taken (Failed r) (l .algebra))
-        line-refused r g =
+        pub operation-line-refused : (r : Refusal) → l .check ≡ Failed r → LinesTaken text lent arities′ cells′ (taken (Failed r) (l .algebra))
+        operation-line-refused r g =
             record {
               value = came ∙ ap (λ (c : Check). operationsToEnd (fuel-left .0) text (progressWith c (l .algebra) arities′ cells′)) g ∙ to-end-refused (fuel-left .0) text r;
               few = t .readable .few;

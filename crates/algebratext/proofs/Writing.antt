@@ -1,6 +1,6 @@
 -- The writer: what it may rely on once its tests have passed, and its answer with the lent bytes.
 use Prim.Native.Nat.{ℕ, _≤_, _<_}
-use mathlib.Core.List.{List, [], _∷_, _++_}
+use mathlib.Core.List.{List, [], _∷_}
 use mathlib.Core.Path.{_≡_, sym, ap, _∙_}
 use native.Mathlib.Omega.{arith}
 use lib.ListN.{length, take}
@@ -15,10 +15,10 @@ use Rattle.equivalence.proofs.Refusals.{of-passed, of-spaceTest, space-refused,
 use Rattle.algebra.specs.Algebra.{Algebra, algebraOf, cellCount}
 use Rattle.algebra.specs.Accepted.{algebraTests, Accepted}
 use Rattle.algebra.proofs.Accepted.{accepted-wellFormed}
-use Rattle.algebra.proofs.Tested.{algebra-declines, algebra-passes, of-checked, passed-accepted, test-declines, test-passes, all-pass, tests-passed, declined, granted}
+use Rattle.algebra.proofs.Tested.{algebra-passes, of-checked, passed-accepted, all-pass, tests-passed, declined, granted}
 use Rattle.reader.specs.Laying.{Laid}
 use Rattle.tablewriter.specs.Texts.{algebraText}
-use Rattle.tablewriter.specs.InnerFits.{Tables, LinesFit}
+use Rattle.tablewriter.specs.InnerFits.{TablesThere, LinesFit}
 use Rattle.tablewriter.specs.InnerLengths.{Measurable}
 use Rattle.tablewriter.proofs.Bounds.{text-bound}
 use Rattle.algebratext.specs.Bounds.{TextBounded}
@@ -26,7 +26,7 @@ use Rattle.algebratext.specs.Calls.{writeTests, writeCall}
 use Rattle.algebratext.specs.declared.TextWritten.the-variants.{Length, Refused}
 
 -- an accepted algebra has the cells of all its tables
-accepted-tables : (n : ℕ) (arities cells : List ℕ) → Accepted (algebraOf n arities cells) → Tables n arities cells
+accepted-tables : (n : ℕ) (arities cells : List ℕ) → Accepted (algebraOf n arities cells) → TablesThere n arities cells
 accepted-tables n arities cells a =
     let w = accepted-wellFormed (algebraOf n arities cells) a in
     record { some = w .some; most = w .most; few = w .operations; arity = w .arity; there = omega (arith, w .filled) }

@@ -2,7 +2,7 @@
 use Prim.Native.Nat.{ℕ, _≤_}
 use mathlib.Core.List.{List}
 use mathlib.Core.Path.{_≡_}
-use lib.ListN.{length, drop}
+use lib.ListN.{drop}
 use Rattle.reader.specs.InnerTaking.{progressWith}
 use Rattle.reader.specs.declared.taking.LineTaken.{LineTaken}
 use Rattle.algebratext.specs.Whole.{wholeAlgebra}

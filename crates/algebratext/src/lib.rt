@@ -61,7 +61,7 @@ pub fn read_algebra(text: &[u8], cells: &mut [u8]) -> AlgebraRead
     ensures bounded { λ r. ⌜ ReadBounded r ⌝ }
 {
     if cells.len() < MAX_CELLS {
-        return reading::refused(Refusal::Space);
+        return reading::refused_read(Refusal::Space);
     }
     let mut room = [0u8; MAX_CELLS];
     reading::read_whole(text, &mut room, cells)

@@ -17,7 +17,7 @@ ghost use Rattle.algebratext.specs.Bounds.{ReadBounded};
 ghost use Rattle.algebratext.specs.InnerReading.{LinesTaken, wholeCall};
 
 // A refusal, with zeros beside it.
-pub fn refused(reason: Refusal) -> AlgebraRead
+pub fn refused_read(reason: Refusal) -> AlgebraRead
     ensures { λ r. ⌜ r ≡ algebraRead (refusedBy reason) ⌝ }
     ensures bounded { λ r. ⌜ ReadBounded r ⌝ }
 {
@@ -80,7 +80,7 @@ pub fn read_whole(text: &[u8], room: &mut [u8], cells: &mut [u8]) -> AlgebraRead
     let check = lines.check;
     let algebra = lines.algebra;
     if let Check::Failed(reason) = check {
-        return refused(reason);
+        return refused_read(reason);
     }
     let count = algebra.cells;
     write_word(&room[0..count], cells, 0);

@@ -1,21 +1,19 @@
 -- A quotient's lines: what a call lent zeros writes is the text of the algebra of blocks, and there is room for it.
-use Prim.Native.Nat.{ℕ, _+_, _-_, _*_, _≤_, _<_}
-use mathlib.Core.List.{List, [], _∷_, _++_}
-use mathlib.Core.Path.{_≡_, refl, ap, sym, _∙_, subst}
+use Prim.Native.Nat.{ℕ, _+_, _-_, _*_, _≤_}
+use mathlib.Core.List.{List}
+use mathlib.Core.Path.{_≡_, ap, sym, _∙_, subst}
 use native.Mathlib.Omega.{arith}
-use lib.Dec.{T}
-use lib.ListN.{length, getD, take, drop, replicate, length-replicate, length-append, length-drop}
+use lib.ListN.{length, take, drop, length-replicate, length-append}
 use lib.Seq.{take-at}
 use Rattle.equivalence.specs.Equivalence.{Map, blocks}
 use Rattle.equivalence.specs.Lent.{written}
 use Rattle.equivalence.specs.Outcome.{success}
 use Rattle.equivalence.specs.declared.Refusal.{Refusal}
-use Rattle.algebra.specs.Accepted.{Accepted}
 use Rattle.algebra.specs.Algebra.{Algebra, algebraOf, cellCount}
 use Rattle.algebra.proofs.Accepted.{WellFormed, accepted-wellFormed}
 use Rattle.quotient.specs.Quotient.{quotientCells, quotient}
 use Rattle.theory.proofs.Quotients.{quotientCells-length, quotient-wellFormed}
-use Rattle.congruence.specs.Calls.{quotientSpace, quotientCall}
+use Rattle.congruence.specs.Calls.{quotientCall}
 use Rattle.congruence.specs.Outcome.{dividedOutcome}
 use Rattle.congruence.specs.declared.Divided.{Divided}
 use Rattle.congruence.specs.declared.Divided.the-variants.{Blocks, Refused as DivideRefused}
@@ -26,7 +24,7 @@ use Rattle.reader.specs.declared.requests.Asked.the-variants.{Quotient}
 use Rattle.writer.specs.Lines.{outcomeLine, refusedLine}
 use Rattle.writer.proofs.Spacing.{outcome-refused}
 use Rattle.tablewriter.specs.Texts.{algebraText}
-use Rattle.tablewriter.specs.InnerFits.{Tables, LinesFit}
+use Rattle.tablewriter.specs.InnerFits.{TablesThere, LinesFit}
 use Rattle.tablewriter.specs.InnerLengths.{TwoDigits}
 use Rattle.tablewriter.proofs.Bounds.{text-bound}
 use Rattle.bracket.specs.Answers.{quotientLines, answer}
@@ -66,7 +64,7 @@ module _ (a : Algebra) (m : Map) (lent cells : List ℕ) (b : ℕ) (e : quotient
       ap (take (cellCount b (a .arities))) (sym (quotient-gave a m lent cells b e .1 .1 .1 .1))
       ∙ take-at (quotientCells a m) (drop (length (quotientCells a m)) lent) (cellCount b (a .arities)) count
 
-  given-tables : Tables b (a .arities) cells
+  given-tables : TablesThere b (a .arities) cells
   unfolding quotient written
   given-tables =
       let w = accepted in

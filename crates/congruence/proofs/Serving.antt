@@ -6,11 +6,11 @@ use mathlib.Core.Path.{_≡_, refl, sym, ap, _∙_}
 use lib.Dec.{T}
 use lib.ListN.{length}
 use Rattle.equivalence.specs.Equivalence.{Map, isMap, blocks}
-use Rattle.equivalence.specs.Refusal.{Test, lowest, mapTest, spaceTest, answered, serve, pairsTest, elementsTest, equalTest}
+use Rattle.equivalence.specs.Refusal.{lowest, mapTest, spaceTest, answered, pairsTest, elementsTest, equalTest}
 use Rattle.equivalence.specs.Lent.{written}
 use Rattle.equivalence.proofs.Maps.{isMap-of}
 use Rattle.equivalence.proofs.Refusals.{of-passed}
-use Rattle.equivalence.proofs.Refusals.{serve-passed, serve-failed, of-mapTest, of-spaceTest}
+use Rattle.equivalence.proofs.Refusals.{of-mapTest, of-spaceTest}
 use Rattle.equivalence.proofs.Tests.{pick-yes, pick-no, T-of, not-T-of}
 use Rattle.algebra.specs.Accepted.{Accepted}
 use Rattle.algebra.specs.Algebra.{Algebra, algebraOf}

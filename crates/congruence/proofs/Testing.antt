@@ -2,7 +2,7 @@
 -- its tests in turn. What a call does with that is in `Serving`.
 use Prim.Native.Nat.{ℕ, _-_, _*_, _≤_, _<_, _/_, _%_}
 use mathlib.Core.Bool.{Bool, true, false, not, _||_}
-use mathlib.Core.List.{List, [], _∷_, _++_}
+use mathlib.Core.List.{List, _∷_}
 use mathlib.Core.Logic.{inl, inr}
 use mathlib.Core.Path.{_≡_, sym, ap, _∙_}
 use native.Mathlib.Decide.{decLt}
@@ -14,10 +14,10 @@ use Rattle.equivalence.specs.Equivalence.{Map, isMap}
 use Rattle.equivalence.specs.Lists.{every}
 use Rattle.equivalence.specs.Refusal.{Test, lowest, spaceTest, pairsTest, elementsTest, equalTest}
 use Rattle.equivalence.proofs.Maps.{of-isMap}
-use Rattle.equivalence.proofs.Refusals.{map-refused, map-passed, space-passed, lowest-none, lowest-next, lowest-here, lowest-append}
-use Rattle.equivalence.proofs.Refusals.{lowest-failed, passed-append, space-refused}
+use Rattle.equivalence.proofs.Refusals.{map-refused, map-passed, space-passed, lowest-next, lowest-here}
+use Rattle.equivalence.proofs.Refusals.{space-refused}
 use Rattle.equivalence.proofs.Tests.{T?, or-left, or-right, or-cases, eq→eqb, T-of, not-T-of}
-use Rattle.algebra.specs.Accepted.{algebraTests, Accepted}
+use Rattle.algebra.specs.Accepted.{algebraTests}
 use Rattle.algebra.specs.Algebra.{Algebra, algebraOf}
 use Rattle.algebra.specs.Congruence.{isCongruence}
 use Rattle.algebra.proofs.Accepted.{WellFormed, every-at, accepted-wellFormed}
@@ -29,7 +29,6 @@ use Rattle.congruence.specs.Calls.{congruenceTest, mapsIn, mapsTest}
 use Rattle.maplist.specs.InnerMapLists.{mapList, MapsListed}
 use Rattle.theory.proofs.Above.{Below}
 use Rattle.maplist.proofs.ListTests.{of-every-mapList}
-use Rattle.equivalence.specs.declared.Refusal.{Refusal}
 use Rattle.equivalence.specs.declared.Refusal.the-variants.{Range, NotMap, Space, Equal, NotCongruence}
 use Rattle.equivalence.specs.declared.Check.{Check}
 use Rattle.equivalence.specs.declared.Check.the-variants.{Passed, Failed}

@@ -1,3 +1,3 @@
 pub mod Examples
 pub mod Probes
-pub mod Heads
+pub mod Texts

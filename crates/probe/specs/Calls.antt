@@ -1,7 +1,7 @@
 -- What each function that the tests call gives: its number, and every lent byte afterwards.
-use Prim.Native.Nat.{ℕ, _+_, _*_}
+use Prim.Native.Nat.{ℕ}
 use mathlib.Core.Bool.{true, false}
-use mathlib.Core.List.{List, [], _∷_}
+use mathlib.Core.List.{List, []}
 use lib.Dec.{eqb}
 use lib.ListN.{length}
 use Rattle.bench.specs.Outcome.{answerOutcome}
@@ -10,15 +10,11 @@ use Rattle.bench.specs.declared.Benched.{Benched}
 use Rattle.equivalence.specs.Outcome.{packed}
 use Rattle.equivalence.specs.Calls.{preferCheck, earlierOf}
 use Rattle.equivalence.specs.Equivalence.{Map}
-use Rattle.equivalence.specs.Refusal.{numberOf, answered}
-use Rattle.equivalence.specs.declared.Check.{Check}
-use Rattle.equivalence.specs.declared.Check.the-variants.{Passed, Failed}
+use Rattle.equivalence.specs.Refusal.{answered}
 use Rattle.equivalence.specs.declared.Place.{Place}
 use Rattle.equivalence.specs.declared.Place.the-variants.{At, Nowhere}
 use Rattle.algebratext.specs.Calls.{readCall}
-use Rattle.algebratext.specs.declared.AlgebraRead.{AlgebraRead}
-use Rattle.algebratext.specs.declared.TextWritten.{TextWritten}
-use Rattle.algebratext.specs.declared.TextWritten.the-variants.{Length, Refused}
+use Rattle.head.specs.Head.{readNumber, headOf}
 use Rattle.image.specs.Copies.{copied}
 use Rattle.image.specs.Image.{imageOf, benchIn}
 
@@ -42,24 +38,6 @@ imageCall call image =
       | true ↦ (packed (answerOutcome (call (benchIn image) .answer)), imageOf (call (benchIn image) .bench))
       | false ↦ (255, image)
     ]
-
--- the writer's answer as a number: the reason, or 256 × the length of the text
-unfoldable pub textNumber : TextWritten → ℕ
-textNumber (Length k) = 256 * k
-textNumber (Refused r) = numberOf r
-
--- the reason of a check, 0 for none
-unfoldable pub checkNumber : Check → ℕ
-checkNumber Passed = 0
-checkNumber (Failed r) = numberOf r
-
--- the reader's answer as a number: the reason, and 256 × the number of cells
-unfoldable pub readNumber : AlgebraRead → ℕ
-readNumber r = checkNumber (r .check) + 256 * r .cells
-
--- the head of the reader's answer: the size, the number of operations and the arities
-unfoldable pub headOf : AlgebraRead → List ℕ
-headOf r = r .size ∷ r .operations ∷ r .arities
 
 -- Read, over a head of 18 bytes: the number, the cells and the head after it; a head of another length gives 255, and nothing is written
 unfoldable pub headCall : List ℕ → List ℕ → List ℕ → ℕ × (List ℕ × List ℕ)

@@ -7,13 +7,13 @@ ghost use Rattle.congruence.specs.Calls.{quotientCall, certifyCall};
 ghost use Rattle.equivalence.specs.Outcome.{packed, writtenOutcome};
 ghost use Rattle.congruence.specs.Outcome.{dividedOutcome, certifiedOutcome};
 ghost use Rattle.bench.specs.Calls.{startCall, addCall, clearCall};
-ghost use Rattle.probe.specs.Calls.{placeNumber, preferCopy, imageCall, textNumber, headCall};
+ghost use Rattle.probe.specs.Calls.{placeNumber, preferCopy, imageCall, headCall};
+ghost use Rattle.head.specs.Head.{textNumber};
 ghost use Rattle.algebratext.specs.Calls.{writeCall};
-use crate::texts::HEAD_LENGTH;
+use head::HEAD_LENGTH;
 use image::LENGTH as IMAGE_LENGTH;
 
 mod numbers;
-mod texts;
 
 // The answer to an image of another length.
 const OTHER_LENGTH: u32 = 255;
@@ -138,7 +138,7 @@ pub extern "C" fn probe_write(n: usize, arities: &[u8], cells: &[u8], out: &mut 
     ensures { λ r. ⌜ r ≡ textNumber (writeCall (algebraIn n (arities .entry) (cells .entry)) (now (out .entry)) .0) ⌝ }
     ensures { λ _. ⌜ now (out .exit) ≡ writeCall (algebraIn n (arities .entry) (cells .entry)) (now (out .entry)) .1 ⌝ }
 {
-    texts::text_number(algebratext::write_algebra(n, arities, cells, out))
+    head::text_number(algebratext::write_algebra(n, arities, cells, out))
 }
 
 // The reader of algebras: the reason, and 256 × the number of cells; or 255 for a head of another length than 18.
@@ -150,6 +150,6 @@ pub extern "C" fn probe_read(text: &[u8], cells: &mut [u8], head: &mut [u8]) -> 
         return OTHER_LENGTH as u64;
     }
     let read = algebratext::read_algebra(text, cells);
-    texts::write_head(read, head);
-    texts::read_number(read)
+    head::write_head(read, head);
+    head::reader_number(read)
 }

@@ -16,8 +16,8 @@ use Rattle.reader.specs.Lines.{defined, sized, withOperation, operation}
 use Rattle.reader.proofs.Readers.{within-text}
 use Rattle.writer.proofs.Numerals.{first-byte}
 use Rattle.tablewriter.specs.Texts.{sizeText, operationText, algebraText}
-use Rattle.tablewriter.proofs.ReadBack.{begins-left, begins-right, begins-here, AllBelow, below-drop}
-use Rattle.tablewriter.proofs.LinesBack.{sized-back, Fits, operation-opens, operation-past, operation-back}
+use Rattle.tablewriter.proofs.ReadBack.{begins-left, begins-right, begins-here, CellsBelow, below-drop}
+use Rattle.tablewriter.proofs.LinesBack.{sized-back, MayFollow, operation-opens, operation-past, operation-back}
 
 -- an operation line takes an algebra to one with an operation more, and its place to the place behind it
 pub record LineRead (text : List ℕ) (a : Algebra) (at : ℕ) (b : Algebra) (next : ℕ) : Type 0 where
@@ -53,7 +53,7 @@ record Following (a : Algebra) (arities cells : List ℕ) : Type 0 where
   pub arity : (i : ℕ) → i < length arities → getD arities i 0 ≤ 3
   pub room : length (a .cells) + length cells ≤ 32768
   pub full : length cells ≡ cellCount (a .size) arities
-  pub below : AllBelow (a .size) cells
+  pub below : CellsBelow (a .size) cells
 
 -- those of a well-formed algebra, behind its size line
 all-follow : (a : Algebra) → WellFormed a → Following (algebraOf (a .size) [] []) (a .arities) (a .cells)
@@ -75,7 +75,7 @@ module _ (a : Algebra) (s : ℕ) (arities cells : List ℕ) (w : Following a (s 
   first-full = length-take-le (a .size ^ s) cells (omega (arith, w .full))
 
   -- the first of them
-  first-fits : Fits a (record { arity = s; table = take (a .size ^ s) cells })
+  first-fits : MayFollow a (record { arity = s; table = take (a .size ^ s) cells })
   unfolding cellCount
   first-fits =
       record {
@@ -105,7 +105,7 @@ abbrev linesText : ℕ → List ℕ → List ℕ → List ℕ
 linesText n arities cells = concat (map (operationText n) (operationsOf n arities cells))
 
 -- the line of an operation that fits
-line-back : (text : List ℕ) (at : ℕ) (a : Algebra) (f : Operation) → Fits a f → begins text at (operationText (a .size) f) ≡ true
+line-back : (text : List ℕ) (at : ℕ) (a : Algebra) (f : Operation) → MayFollow a f → begins text at (operationText (a .size) f) ≡ true
     → LineRead text a at (withOperation a (f .arity) (f .table)) (at + length (operationText (a .size) f))
 unfolding ascii
 line-back text at a f fits e =

@@ -1,17 +1,15 @@
 -- How long the text of an algebra can be: four bytes for each cell, and 218 besides.
 use Prim.Native.Nat.{ℕ, zero, suc, _+_, _*_, _^_, _≤_, _<_}
 use mathlib.Core.List.{List, [], _∷_}
-use mathlib.Core.Path.{_≡_, refl, sym, _∙_}
-use native.Mathlib.Decide.{decLt, ℕ-discrete}
+use native.Mathlib.Decide.{ℕ-discrete}
 use native.Mathlib.Nat.{mul-add, mul-left-comm, mul-le-mul, mul-comm, pow-zero, pow-succ'}
 use native.Mathlib.Omega.{arith}
 use lib.ListN.{length, getD, take}
-use lib.Seq.{length-take-le, getD-take}
+use lib.Seq.{length-take-le}
 use Rattle.algebra.specs.Algebra.{algebraOf, cellCount}
-use Rattle.writer.specs.Numerals.{decimal}
 use Rattle.tablewriter.specs.Texts.{algebraText}
-use Rattle.tablewriter.specs.InnerFits.{Tables}
-use Rattle.tablewriter.specs.InnerLengths.{frame, frames, figures, TwoDigits}
+use Rattle.tablewriter.specs.InnerFits.{TablesThere}
+use Rattle.tablewriter.specs.InnerLengths.{frame, frames, TwoDigits}
 use Rattle.tablewriter.proofs.TextLengths.{text-length}
 use Rattle.tablewriter.proofs.Counting.{digits-few, figures-few}
 
@@ -56,7 +54,7 @@ frames-bound n h (s ∷ rest) a =
     omega (arith, frame-bound n s h (a 0 (omega arith)), frames-bound n h rest (λ j l. a (suc j) (omega arith)))
 
 -- the text of tables whose cells have two digits at most
-pub text-bound : (n : ℕ) (arities cells : List ℕ) → Tables n arities cells → TwoDigits (take (cellCount n arities) cells)
+pub text-bound : (n : ℕ) (arities cells : List ℕ) → TablesThere n arities cells → TwoDigits (take (cellCount n arities) cells)
     → length (algebraText (algebraOf n arities cells)) ≤ 4 * cellCount n arities + 218
 text-bound n arities cells t short =
     let front = take (cellCount n arities) cells in

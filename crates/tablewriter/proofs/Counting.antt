@@ -1,7 +1,7 @@
 -- The text's length, summed up: digits of the first numbers, brackets and gaps of the first arities.
 use Prim.Native.Nat.{ℕ, zero, suc, _+_, _*_, _≤_, _<_}
 use mathlib.Core.List.{List, [], _∷_, _++_}
-use mathlib.Core.Path.{_≡_, refl, ap, sym, _∙_}
+use mathlib.Core.Path.{_≡_, refl, ap, _∙_}
 use native.Mathlib.Decide.{decLt}
 use native.Mathlib.Nat.{mul-zero, mul-le-mul}
 use native.Mathlib.Numerals.{add-one}
@@ -10,9 +10,8 @@ use lib.ListN.{length, getD, take}
 use lib.Seq.{take-suc, take-all}
 use Rattle.algebra.specs.Algebra.{algebraOf, cellCount}
 use Rattle.writer.specs.Numerals.{decimal}
-use Rattle.writer.proofs.Lengths.{one-digit, two-digits}
+use Rattle.writer.proofs.Lengths.{one-digit-long, two-digits-long}
 use Rattle.tablewriter.specs.Texts.{algebraText}
-use Rattle.tablewriter.specs.InnerFits.{Tables}
 use Rattle.tablewriter.specs.InnerLengths.{frame, frames, figures, TwoDigits, Measurable}
 use Rattle.tablewriter.proofs.TextLengths.{figures-append, text-length}
 
@@ -20,8 +19,8 @@ use Rattle.tablewriter.proofs.TextLengths.{figures-append, text-length}
 pub digits-few : (v : ℕ) → v < 100 → length (decimal v) ≤ 2
 digits-few v h =
     elim (decLt v 10) [
-      | yes l ↦ omega (arith, one-digit v l)
-      | no l ↦ omega (arith, two-digits v (omega arith) h)
+      | yes l ↦ omega (arith, one-digit-long v l)
+      | no l ↦ omega (arith, two-digits-long v (omega arith) h)
     ]
 
 -- the digits of the first i numbers are counted
@@ -31,24 +30,24 @@ pub record Counted (m : List ℕ) (sum i : ℕ) : Type 0 where
   pub few : sum ≤ 2 * i
 
 module _ (m : List ℕ) (short : TwoDigits m) where
-  pub counted-none : Counted m 0 0
+  pub figures-none : Counted m 0 0
   unfolding figures
-  counted-none = record { passed = omega arith; value = refl; few = omega arith }
+  figures-none = record { passed = omega arith; value = refl; few = omega arith }
 
-  pub counted-more : (sum i d : ℕ) → Counted m sum i → i < length m → d ≡ length (decimal (getD m i 0)) → Counted m (sum + d) (i + 1)
+  pub figures-more : (sum i d : ℕ) → Counted m sum i → i < length m → d ≡ length (decimal (getD m i 0)) → Counted m (sum + d) (i + 1)
   unfolding figures
-  counted-more sum i d p h e =
+  figures-more sum i d p h e =
       record {
         passed = omega arith;
         value = rw (add-one i, take-suc m i 0 h, figures-append (take i m) (getD m i 0 ∷ [])) (omega (arith, p .value, e));
         few = omega (arith, p .few, e, digits-few (getD m i 0) (short i h));
       }
 
-  pub counted-one : (i : ℕ) → i < length m → getD m i 0 < 100
-  counted-one i h = short i h
+  pub figures-short : (i : ℕ) → i < length m → getD m i 0 < 100
+  figures-short i h = short i h
 
-  pub counted-all : (sum i : ℕ) → Counted m sum i → length m ≤ i → sum ≡ figures m
-  counted-all sum i p h = p .value ∙ ap figures (take-all i m h)
+  pub figures-counted : (sum i : ℕ) → Counted m sum i → length m ≤ i → sum ≡ figures m
+  figures-counted sum i p h = p .value ∙ ap figures (take-all i m h)
 
 -- numbers below 100 have two digits each at most
 pub figures-few : (m : List ℕ) → TwoDigits m → figures m ≤ 2 * length m

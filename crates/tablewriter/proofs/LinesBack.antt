@@ -25,13 +25,13 @@ use Rattle.writer.specs.Lines.{gapBytes, spaced, line}
 use Rattle.writer.proofs.Numerals.{stands-number}
 use Rattle.writer.proofs.Spacing.{spaced-one}
 use Rattle.tablewriter.specs.Texts.{tableText, sizeText, operationText}
-use Rattle.tablewriter.proofs.ReadBack.{begins-left, begins-right, Apart, gap-back, gapped-length, gap-between, before-gap, behind-gap, before-close, AllBelow, table-back}
+use Rattle.tablewriter.proofs.ReadBack.{begins-left, begins-right, StandsApart, gap-back, gapped-length, gap-between, before-gap, behind-gap, before-close, CellsBelow, table-back}
 
 -- a number after a gap
-spaced-number-back : (text : List ℕ) (at v : ℕ) → v ≤ 255 → Apart text at (spaced (v ∷ [])) → spacedNumber text at ≡ found v (at + length (spaced (v ∷ [])))
+spaced-number-back : (text : List ℕ) (at v : ℕ) → v ≤ 255 → StandsApart text at (spaced (v ∷ [])) → spacedNumber text at ≡ found v (at + length (spaced (v ∷ [])))
 unfolding spacedNumber
 spaced-number-back text at v m a =
-    let b : Apart text at (gapBytes ++ decimal v) = rw (spaced-one v) at a in
+    let b : StandsApart text at (gapBytes ++ decimal v) = rw (spaced-one v) at a in
     let mid = at + length gapBytes in
     let sum : at + length (gapBytes ++ decimal v) ≡ mid + length (decimal v) = omega (arith, length-append gapBytes (decimal v)) in
     rw (spaced-one v, sum)
@@ -41,7 +41,7 @@ spaced-number-back text at v m a =
 -- the parts of a line that stands there
 record LineParts (text : List ℕ) (at : ℕ) (word rest : List ℕ) : Type 0 where
   pub opening : begins text at word ≡ true
-  pub body : Apart text (at + length word) rest
+  pub body : StandsApart text (at + length word) rest
   pub closing : begins text (at + length word + length rest) (ascii "]\n") ≡ true
   pub end : at + length word + length rest + 2 ≡ at + length (line word rest)
 
@@ -90,25 +90,25 @@ arity-back text rest at s m e =
     ∙ then-found gap (λ _. done s) text mid tt (mid + length gapBytes) (gap-between text number rest at e)
 
 -- an operation that may come behind those of an algebra
-pub record Fits (a : Algebra) (f : Operation) : Type 0 where
+pub record MayFollow (a : Algebra) (f : Operation) : Type 0 where
   pub some : 1 ≤ a .size
   pub most : a .size ≤ 64
   pub tests : Fitting (a .size) (length (a .arities)) (length (a .cells)) (f .arity)
   pub full : length (f .table) ≡ a .size ^ f .arity
-  pub below : AllBelow (a .size) (f .table)
+  pub below : CellsBelow (a .size) (f .table)
 
 -- 2, 3 and 4 pass over what fits
 fitting-passes : (n operations cells s : ℕ) → Fitting n operations cells s → lowest (operationTests n operations cells s) ≡ Passed
 fitting-passes n operations cells s f = sym (passed n operations cells s (f .few) (f .arity) (n ^ s) refl (f .room))
 
 -- 6 passes over cells below n
-cell-test-passes : (n : ℕ) (cells : List ℕ) → AllBelow n cells → lowest (cellTest n cells ∷ []) ≡ Passed
+cell-test-passes : (n : ℕ) (cells : List ℕ) → CellsBelow n cells → lowest (cellTest n cells ∷ []) ≡ Passed
 unfolding cellTest
 cell-test-passes n cells h =
     lowest-next (cellTest n cells) [] (not-yes (every (λ c. ltb c n) cells) (every-by (λ c. ltb c n) cells (λ i l. lt→ltb (getD cells i 0) n (h i l)))) ∙ lowest-none
 
 -- the table of an operation line, and the line's end
-last-table-back : (text : List ℕ) (at n s : ℕ) (cells : List ℕ) → 0 < n → length cells ≡ n ^ s → AllBelow 256 cells → Apart text at (tableText n s cells)
+last-table-back : (text : List ℕ) (at n s : ℕ) (cells : List ℕ) → 0 < n → length cells ≡ n ^ s → CellsBelow 256 cells → StandsApart text at (tableText n s cells)
     → begins text (at + length (tableText n s cells)) (ascii "]\n") ≡ true → lastTable n s text at ≡ found cells (at + length (tableText n s cells) + 2)
 unfolding lastTable
 last-table-back text at n s cells p l h a e =
@@ -117,7 +117,7 @@ last-table-back text at n s cells p l h a e =
     ∙ then-found close (λ _. done (take (n ^ s) cells)) text next tt (next + 2) (close-found text next e)
     ∙ ap (λ (l : List ℕ). found l (next + 2)) (take-all (n ^ s) cells (omega arith))
 
-module _ (text : List ℕ) (at : ℕ) (a : Algebra) (f : Operation) (fits : Fits a f) (e : begins text at (operationText (a .size) f) ≡ true) where
+module _ (text : List ℕ) (at : ℕ) (a : Algebra) (f : Operation) (fits : MayFollow a f) (e : begins text at (operationText (a .size) f) ≡ true) where
   -- its parts
   operation-parts : LineParts text at (ascii "[op") (spaced (f .arity ∷ []) ++ (gapBytes ++ tableText (a .size) (f .arity) (f .table)))
   unfolding operationText
@@ -145,7 +145,7 @@ module _ (text : List ℕ) (at : ℕ) (a : Algebra) (f : Operation) (fits : Fits
       let next = at + 3 + length number + length gapBytes in
       let end : next + length rows + 2 ≡ at + length (operationText n f) = ap (λ (k : ℕ). k + 2) (gapped-length text number rows (at + 3)) ∙ p .end in
       let closing : begins text (next + length rows) (ascii "]\n") ≡ true = rw (gapped-length text number rows (at + 3)) (p .closing) in
-      let bytes : AllBelow 256 cells = λ i l. omega (arith, fits .below i l, fits .most) in
+      let bytes : CellsBelow 256 cells = λ i l. omega (arith, fits .below i l, fits .most) in
       rw (
         arity-back text rows (at + 3) s (omega (arith, fits .tests .arity)) (p .body .here),
         fitting-passes n (length (a .arities)) (length (a .cells)) s (fits .tests),

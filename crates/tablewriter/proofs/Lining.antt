@@ -1,11 +1,11 @@
 -- Lines written piece by piece, and all lines one after the other: there is room for each, and together they are the text.
-use Prim.Native.Nat.{ℕ, zero, suc, _+_, _-_, _*_, _^_, _≤_, _<_}
+use Prim.Native.Nat.{ℕ, _+_, _-_, _^_, _≤_, _<_}
 use mathlib.Core.List.{List, [], _∷_, _++_, map, map-append, append-assoc, append-nil}
 use mathlib.Core.Path.{_≡_, refl, ap, sym, _∙_}
 use native.Mathlib.Numerals.{add-one}
 use native.Mathlib.Omega.{arith}
 use lib.ListN.{length, getD, take, drop, length-append, length-drop, take-append-drop}
-use lib.Seq.{drop-cons, drop-drop, take-all, take-suc, length-take-le}
+use lib.Seq.{drop-drop, take-all, take-suc, length-take-le}
 use Rattle.equivalence.specs.Lists.{concat}
 use Rattle.equivalence.proofs.Stretches.{concat-append}
 use Rattle.algebra.specs.Algebra.{Operation, algebraOf, cellCount, operationsOf, operations}
@@ -13,13 +13,12 @@ use Rattle.algebra.proofs.Tables.{start-next, start-first, start-room}
 use Rattle.reader.specs.Reading.{ascii}
 use Rattle.reader.specs.Laying.{Laid}
 use Rattle.reader.proofs.Laying.{laid-none, laid-more}
-use Rattle.writer.specs.Numerals.{decimal}
 use Rattle.writer.specs.Lines.{gapBytes, spaced, line}
 use Rattle.writer.proofs.Digits.{decimal-some}
-use Rattle.writer.proofs.Lengths.{one-digit}
+use Rattle.writer.proofs.Lengths.{one-digit-long}
 use Rattle.writer.proofs.Spacing.{line-written}
 use Rattle.tablewriter.specs.Texts.{tableText, sizeText, operationText, algebraText}
-use Rattle.tablewriter.specs.InnerFits.{Shape, TableFits, operationOf, arityText, operationsText, OperationFits, Tables, OperationsFit, LinesFit}
+use Rattle.tablewriter.specs.InnerFits.{TableFits, operationOf, arityText, operationsText, OperationFits, OperationsFit, LinesFit}
 use Rattle.tablewriter.proofs.TextLengths.{one-spaced, size-length, operation-length}
 
 -- the size line
@@ -43,14 +42,10 @@ module _ (n : ℕ) (lent : List ℕ) (room : length (sizeText n) ≤ length lent
 
 -- the start of an operation line
 module _ (s : ℕ) (lent : List ℕ) (put : ℕ) (room : put + 7 ≤ length lent) (most : s ≤ 3) (mid : List ℕ) (at : ℕ) (p : Laid lent put (ascii "[op") mid at) where
-  pub arity-number-fits : at + 4 ≤ length mid
-  unfolding ascii
-  arity-number-fits = omega (arith, room, p .place, p .long)
-
   module _ (mid′ : List ℕ) (at′ : ℕ) (q : Laid mid at (spaced (s ∷ [])) mid′ at′) where
     pub arity-gap-fits : at′ < length mid′
     unfolding ascii
-    arity-gap-fits = omega (arith, room, p .place, p .long, q .place, q .long, one-spaced s, one-digit s (omega arith))
+    arity-gap-fits = omega (arith, room, p .place, p .long, q .place, q .long, one-spaced s, one-digit-long s (omega arith))
 
     pub arity-written : (out : List ℕ) (end : ℕ) → Laid mid′ at′ gapBytes out end → Laid lent put (arityText s) out end
     unfolding arityText
@@ -60,7 +55,7 @@ module _ (s : ℕ) (lent : List ℕ) (put : ℕ) (room : put + 7 ≤ length lent
 -- it has six bytes
 arity-length : (s : ℕ) → s ≤ 3 → length (arityText s) ≡ 6
 unfolding arityText gapBytes ascii
-arity-length s h = omega (arith, length-append (spaced (s ∷ [])) (32 ∷ []), one-spaced s, one-digit s (omega arith))
+arity-length s h = omega (arith, length-append (spaced (s ∷ [])) (32 ∷ []), one-spaced s, one-digit-long s (omega arith))
 
 -- an operation line
 module _ (n s : ℕ) (cells : List ℕ) (put : ℕ) (lent : List ℕ) (f : OperationFits n s cells put lent) where
@@ -161,8 +156,8 @@ module _ (n : ℕ) (arities cells lent : List ℕ) (put : ℕ) (f : OperationsFi
       same-part : part ≡ operationNumber n arities cells j .table
       same-part = let d : from + width - from ≡ n ^ getD arities j 0 = omega arith in rw (d, w .place)
 
-      pub operation-fits : OperationFits n (getD arities j 0) part at out
-      operation-fits =
+      pub next-operation-fits : OperationFits n (getD arities j 0) part at out
+      next-operation-fits =
           rw same-part
           (record {
             shape = omega (arith, f .tables .some, f .tables .most, arity-most);
@@ -202,8 +197,8 @@ module _ (n : ℕ) (arities cells lent : List ℕ) (f : LinesFit n arities cells
   unfolding algebraText operationsText
   both = length-append (sizeText n) (concat (map (operationText n) (operations (algebraOf n arities cells))))
 
-  pub size-room : length (sizeText n) ≤ length lent
-  size-room = omega (arith, f .room, both)
+  pub size-line-fits : length (sizeText n) ≤ length lent
+  size-line-fits = omega (arith, f .room, both)
 
   module _ (mid : List ℕ) (at : ℕ) (p : Laid lent 0 (sizeText n) mid at) where
     pub operations-fit : OperationsFit n arities cells at mid

@@ -43,7 +43,7 @@ begins-here pre (b ∷ word) post =
     simp (eq-eqb (byteAt (pre ++ (b ∷ (word ++ post))) (length pre)) b (getD-append-seam pre b (word ++ post) 0), later)
 
 -- a word stands there, and no digit behind it
-pub record Apart (text : List ℕ) (at : ℕ) (word : List ℕ) : Type 0 where
+pub record StandsApart (text : List ℕ) (at : ℕ) (word : List ℕ) : Type 0 where
   pub here : begins text at word ≡ true
   pub end : 9 < digitAt text (at + length word)
 
@@ -61,14 +61,14 @@ module _ (text u v : List ℕ) (at : ℕ) where
   gap-between e = gap-back text (at + length u) (begins-left text gapBytes v (at + length u) (begins-right text u (gapBytes ++ v) at e))
 
   -- the first word stands apart
-  pub before-gap : begins text at (u ++ (gapBytes ++ v)) ≡ true → Apart text at u
+  pub before-gap : begins text at (u ++ (gapBytes ++ v)) ≡ true → StandsApart text at u
   unfolding gapBytes ascii
   before-gap e =
       let b : byteAt text (at + length u) ≡ 32 = first-byte text (at + length u) 32 v (begins-right text u (32 ∷ v) at e) in
       record { here = begins-left text u (32 ∷ v) at e; end = omega (arith, digit-below text (at + length u) (omega arith)) }
 
   -- and where no digit stands behind both, so does the second
-  pub behind-gap : Apart text at (u ++ (gapBytes ++ v)) → Apart text (at + length u + length gapBytes) v
+  pub behind-gap : StandsApart text at (u ++ (gapBytes ++ v)) → StandsApart text (at + length u + length gapBytes) v
   behind-gap a =
       record {
         here = begins-right text gapBytes v (at + length u) (begins-right text u (gapBytes ++ v) at (a .here));
@@ -76,22 +76,22 @@ module _ (text u v : List ℕ) (at : ℕ) where
       }
 
 -- before a closing bracket a word stands apart
-pub before-close : (text word rest : List ℕ) (at : ℕ) → begins text at (word ++ (93 ∷ rest)) ≡ true → Apart text at word
+pub before-close : (text word rest : List ℕ) (at : ℕ) → begins text at (word ++ (93 ∷ rest)) ≡ true → StandsApart text at word
 before-close text word rest at e =
     let b : byteAt text (at + length word) ≡ 93 = first-byte text (at + length word) 93 rest (begins-right text word (93 ∷ rest) at e) in
     record { here = begins-left text word (93 ∷ rest) at e; end = omega (arith, digit-above text (at + length word) (omega arith)) }
 
 -- every member is below n
-abbrev pub AllBelow : ℕ → List ℕ → Type 0
-AllBelow n l = (i : ℕ) → i < length l → getD l i 0 < n
+abbrev pub CellsBelow : ℕ → List ℕ → Type 0
+CellsBelow n l = (i : ℕ) → i < length l → getD l i 0 < n
 
-pub below-drop : (n k : ℕ) (l : List ℕ) → AllBelow n l → AllBelow n (drop k l)
+pub below-drop : (n k : ℕ) (l : List ℕ) → CellsBelow n l → CellsBelow n (drop k l)
 below-drop n k l h i j = rw (getD-drop k l i 0) (h (k + i) (omega (arith, length-drop k l)))
 
 -- what is written of cells that are bytes, with no digit behind it, is read as the first w of them
 abbrev pub ReadsBack : List ℕ → Reader (List ℕ) → (List ℕ → List ℕ) → ℕ → Type 0
 ReadsBack text item write w =
-    (at : ℕ) (cells : List ℕ) → w ≤ length cells → AllBelow 256 cells → Apart text at (write cells) → item text at ≡ found (take w cells) (at + length (write cells))
+    (at : ℕ) (cells : List ℕ) → w ≤ length cells → CellsBelow 256 cells → StandsApart text at (write cells) → item text at ≡ found (take w cells) (at + length (write cells))
 
 -- one cell
 cell-back : (text : List ℕ) → ReadsBack text cell (λ cells. decimal (getD cells 0 0)) 1

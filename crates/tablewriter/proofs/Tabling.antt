@@ -2,12 +2,12 @@
 use Prim.Native.Nat.{ℕ, zero, suc, _+_, _-_, _*_, _^_, _≤_, _<_}
 use mathlib.Core.List.{List, [], _∷_, _++_, append-assoc, append-nil}
 use mathlib.Core.Path.{_≡_, refl, ap, sym, _∙_, subst}
-use native.Mathlib.Nat.{one-mul, mul-one, sub-zero, suc-mul, pow-zero, pow-succ'}
+use native.Mathlib.Nat.{mul-one, sub-zero, suc-mul, pow-zero, pow-succ'}
 use native.Mathlib.Decide.{ℕ-discrete}
 use native.Mathlib.Numerals.{sub-one}
 use native.Mathlib.Omega.{arith}
 use lib.ListN.{length, getD, take, drop, length-append, length-drop}
-use lib.Seq.{drop-cons, length-take-le, take-all}
+use lib.Seq.{length-take-le, take-all}
 use Rattle.reader.specs.Reading.{ascii}
 use Rattle.reader.specs.Laying.{Laid}
 use Rattle.reader.proofs.Laying.{laid-more}
@@ -15,10 +15,9 @@ use Rattle.reader.proofs.RoomLeft.{part-less}
 use Rattle.writer.specs.Numerals.{decimal}
 use Rattle.writer.specs.Lines.{gapBytes, spaced, bracketed}
 use Rattle.writer.proofs.Digits.{decimal-some}
-use Rattle.writer.proofs.Spacing.{bracketed-parts}
 use Rattle.tablewriter.specs.Texts.{partedTexts, tableText}
-use Rattle.tablewriter.specs.InnerFits.{Shape, RowsFit, TableFits}
-use Rattle.tablewriter.proofs.TextLengths.{gap-length, bracket-length}
+use Rattle.tablewriter.specs.InnerFits.{RowsFit, TableFits}
+use Rattle.tablewriter.proofs.TextLengths.{gap-length}
 
 -- a table of arity 0
 module _ (n s : ℕ) (cells : List ℕ) (put : ℕ) (lent : List ℕ) (f : TableFits n s cells put lent) (e : s ≡ 0) where

@@ -1,7 +1,7 @@
 -- How long tables and lines are: brackets and gaps by the arities, digits by the cells.
 use Prim.Native.Nat.{ℕ, zero, suc, _+_, _-_, _*_, _^_, _≤_, _<_}
 use mathlib.Core.List.{List, [], _∷_, _++_, map}
-use mathlib.Core.Path.{_≡_, refl, ap, sym, _∙_}
+use mathlib.Core.Path.{_≡_, ap, _∙_}
 use native.Mathlib.Nat.{one-mul, suc-mul, pow-zero, pow-succ'}
 use native.Mathlib.Omega.{arith}
 use lib.ListN.{length, getD, take, drop, length-append, length-drop}
@@ -11,9 +11,9 @@ use Rattle.algebra.specs.Algebra.{algebraOf, cellCount, operationsOf, operation
 use Rattle.reader.specs.Reading.{ascii}
 use Rattle.writer.specs.Numerals.{decimal}
 use Rattle.writer.specs.Lines.{gapBytes, spaced, line}
-use Rattle.writer.proofs.Lengths.{one-digit, spaced-length}
+use Rattle.writer.proofs.Lengths.{one-digit-long, spaced-length}
 use Rattle.tablewriter.specs.Texts.{partedTexts, tableText, sizeText, operationText, algebraText}
-use Rattle.tablewriter.specs.InnerFits.{operationOf, Tables}
+use Rattle.tablewriter.specs.InnerFits.{operationOf, TablesThere}
 use Rattle.tablewriter.specs.InnerLengths.{frame, frames, figures}
 
 pub figures-append : (xs ys : List ℕ) → figures (xs ++ ys) ≡ figures xs + figures ys
@@ -61,7 +61,7 @@ figures-one [] h = absurd (omega arith)
 figures-one (x ∷ rest) h = omega arith
 
 -- a bracket around its items
-pub bracket-length : (l : List ℕ) → length (ascii "[" ++ (l ++ ascii "]")) ≡ length l + 2
+bracket-length : (l : List ℕ) → length (ascii "[" ++ (l ++ ascii "]")) ≡ length l + 2
 unfolding ascii
 bracket-length l = omega (arith, length-append l (93 ∷ []))
 
@@ -96,7 +96,7 @@ operation-length n s cells h =
       length-append (spaced (s ∷ [])) (gapBytes ++ t),
       gap-length t,
       one-spaced s,
-      one-digit s (omega arith),
+      one-digit-long s (omega arith),
     )
 
 -- the lines of operations
@@ -119,7 +119,7 @@ module _ (n : ℕ) (some : 0 < n) where
       )
 
   -- the whole text
-  pub text-length : (arities cells : List ℕ) → Tables n arities cells
+  pub text-length : (arities cells : List ℕ) → TablesThere n arities cells
       → length (algebraText (algebraOf n arities cells)) ≡ 8 + length (decimal n) + frames n arities + figures (take (cellCount n arities) cells)
   unfolding algebraText operations
   text-length arities cells t =

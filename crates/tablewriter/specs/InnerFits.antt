@@ -47,7 +47,7 @@ pub record OperationFits (n s : ℕ) (cells : List ℕ) (put : ℕ) (out : List 
   pub room : put + length (operationText n (operationOf s cells)) ≤ length out
 
 -- 1 to 64 elements, no arity above 3, and the cells of all tables
-pub record Tables (n : ℕ) (arities cells : List ℕ) : Type 0 where
+pub record TablesThere (n : ℕ) (arities cells : List ℕ) : Type 0 where
   pub some : 0 < n
   pub most : n ≤ 64
   pub few : length arities ≤ 16
@@ -56,10 +56,10 @@ pub record Tables (n : ℕ) (arities cells : List ℕ) : Type 0 where
 
 -- the same, and room for the operation lines
 pub record OperationsFit (n : ℕ) (arities cells : List ℕ) (put : ℕ) (out : List ℕ) : Type 0 where
-  pub tables : Tables n arities cells
+  pub tables : TablesThere n arities cells
   pub room : put + length (operationsText (algebraOf n arities cells)) ≤ length out
 
 -- the same, and room for the text of the algebra
 pub record LinesFit (n : ℕ) (arities cells out : List ℕ) : Type 0 where
-  pub tables : Tables n arities cells
+  pub tables : TablesThere n arities cells
   pub room : length (algebraText (algebraOf n arities cells)) ≤ length out

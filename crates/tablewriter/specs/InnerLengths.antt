@@ -5,7 +5,7 @@ use mathlib.Core.Path.{_≡_}
 use lib.ListN.{length, getD}
 use Rattle.algebra.specs.Algebra.{cellCount}
 use Rattle.writer.specs.Numerals.{decimal}
-use Rattle.tablewriter.specs.InnerFits.{Tables}
+use Rattle.tablewriter.specs.InnerFits.{TablesThere}
 
 -- the brackets and gaps of a table of arity s over n elements
 unfoldable pub frame : ℕ → ℕ → ℕ
@@ -28,7 +28,7 @@ TwoDigits m = (i : ℕ) → i < length m → getD m i 0 < 100
 
 -- the tables of an algebra whose elements have two digits at most, and no cell behind them
 pub record Measurable (n : ℕ) (arities cells : List ℕ) : Type 0 where
-  pub tables : Tables n arities cells
+  pub tables : TablesThere n arities cells
   pub all : length cells ≡ cellCount n arities
   pub few : length cells ≤ 32768
   pub short : TwoDigits cells

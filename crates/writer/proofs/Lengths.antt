@@ -14,19 +14,19 @@ use Rattle.writer.proofs.Digits.{decimal-one, decimal-two, decimal-thre
 use Rattle.writer.proofs.Spacing.{Spaced, spaced-append, bracketed-parts}
 
 -- one digit below 10, two from there on
-pub one-digit : (v : ℕ) → v < 10 → length (decimal v) ≡ 1
-one-digit v h = ap length (decimal-one v h)
+pub one-digit-long : (v : ℕ) → v < 10 → length (decimal v) ≡ 1
+one-digit-long v h = ap length (decimal-one v h)
 
-pub two-digits : (v : ℕ) → 10 ≤ v → v < 100 → length (decimal v) ≡ 2
-two-digits v g h = ap length (decimal-two v g h)
+pub two-digits-long : (v : ℕ) → 10 ≤ v → v < 100 → length (decimal v) ≡ 2
+two-digits-long v g h = ap length (decimal-two v g h)
 
 -- three digits at most for a byte
 pub decimal-short : (v : ℕ) → v ≤ 255 → length (decimal v) ≤ 3
 decimal-short v h =
     elim (decLt v 10) [
-      | yes l ↦ omega (arith, one-digit v l)
+      | yes l ↦ omega (arith, one-digit-long v l)
       | no l ↦ elim (decLt v 100) [
-        | yes k ↦ omega (arith, two-digits v (omega arith) k)
+        | yes k ↦ omega (arith, two-digits-long v (omega arith) k)
         | no k ↦ omega (arith, ap length (decimal-three v (omega arith) (omega arith)))
       ]
     ]

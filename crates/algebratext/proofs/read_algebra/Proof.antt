@@ -4,8 +4,8 @@ use Rattle.algebratext.proofs.Taking.{read-short, read-enough}
 use Rattle.algebratext.proofs.read_algebra.Statement.{statement}
 use Rattle.algebratext.proofs.read_algebra.Tie as tie
 
-refused-requires : tie.Need-refused-requires
-refused-requires c κs = search needs
+refused-read-requires : tie.Need-refused-read-requires
+refused-read-requires c κs = search needs
 
 returns : tie.Need-returns
 returns c = (search read-short, search needs)
@@ -26,7 +26,7 @@ pub read-algebra-spec : {M : Type 1} → statement M
 read-algebra-spec =
     tie.close
     (tie.spec
-    refused-requires
+    refused-read-requires
     returns
     slice-aggregate-read-whole
     read-whole-requires

@@ -1,6 +1,6 @@
 -- `probe::probe_read` meets its contract.
 use borrow.Author.Needs.{needs}
-use Rattle.probe.proofs.Heads.{head-other, head-called}
+use Rattle.probe.proofs.Texts.{head-other, head-called}
 use Rattle.probe.proofs.probe_read.Statement.{statement}
 use Rattle.probe.proofs.probe_read.Tie as tie
 
@@ -16,8 +16,8 @@ read-algebra-requires c κs = search needs
 write-head-requires : tie.Need-write-head-requires
 write-head-requires c κs = search needs
 
-read-number-requires : tie.Need-read-number-requires
-read-number-requires c κs = search needs
+reader-number-requires : tie.Need-reader-number-requires
+reader-number-requires c κs = search needs
 
 same-length : tie.Need-same-length
 same-length c = search needs
@@ -36,7 +36,7 @@ probe-read-spec =
     returns
     read-algebra-requires
     write-head-requires
-    read-number-requires
+    reader-number-requires
     same-length
     same-length-2
     returns-2)

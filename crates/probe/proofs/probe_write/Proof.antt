@@ -1,6 +1,6 @@
 -- `probe::probe_write` meets its contract.
 use borrow.Author.Needs.{needs}
-use Rattle.probe.proofs.Heads.{text-called}
+use Rattle.probe.proofs.Texts.{text-called}
 use Rattle.probe.proofs.probe_write.Statement.{statement}
 use Rattle.probe.proofs.probe_write.Tie as tie
 

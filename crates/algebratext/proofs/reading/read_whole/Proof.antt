@@ -14,8 +14,8 @@ take-lines-requires c κs = search needs
 enum-known-check : tie.Need-enum-known-check
 enum-known-check c = search needs
 
-refused-requires : tie.Need-refused-requires
-refused-requires c κs = search needs
+refused-read-requires : tie.Need-refused-read-requires
+refused-read-requires c κs = search needs
 
 same-length : tie.Need-same-length
 same-length c = search needs
@@ -57,7 +57,7 @@ read-whole-spec =
     slice-aggregate-take-lines
     take-lines-requires
     enum-known-check
-    refused-requires
+    refused-read-requires
     same-length
     returns
     enum-told

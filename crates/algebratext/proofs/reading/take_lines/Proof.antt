@@ -5,7 +5,7 @@ use native.Mathlib.Omega.{arith}
 use lib.ListN.{length}
 use Rattle.reader.specs.Reading.{ascii}
 use borrow.Author.Needs.{needs}
-use Rattle.algebratext.proofs.Taking.{LinesSoFar, size-line-refused, lines-begin, lines-end, line-other, line-room, line-refused, line-past, lines-go-on}
+use Rattle.algebratext.proofs.Taking.{LinesSoFar, size-line-declined, lines-begin, lines-end, line-other, line-room, operation-line-refused, line-past, lines-go-on}
 use Rattle.algebratext.proofs.reading.take_lines.Statement.{statement}
 use Rattle.algebratext.proofs.reading.take_lines.Tie as tie
 
@@ -22,7 +22,7 @@ enum-known-check : tie.Need-enum-known-check Inv-loop μ-loop
 enum-known-check c = search needs
 
 returns : tie.Need-returns Inv-loop μ-loop
-returns c = search size-line-refused
+returns c = search size-line-declined
 
 enum-told : tie.Need-enum-told Inv-loop μ-loop
 enum-told c = search needs
@@ -61,7 +61,7 @@ same-length-4 c = search needs
 
 returns-3 : tie.Need-returns-3 Inv-loop μ-loop
 unfolding ascii
-returns-3 c = search line-refused
+returns-3 c = search operation-line-refused
 
 enum-told-2 : tie.Need-enum-told-2 Inv-loop μ-loop
 enum-told-2 c = search needs

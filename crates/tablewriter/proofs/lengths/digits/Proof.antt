@@ -1,14 +1,14 @@
 -- `lengths::digits` meets its contract, by the laws of Lengths of `writer`.
 use mathlib.Core.Path.{sym}
-use Rattle.writer.proofs.Lengths.{one-digit, two-digits}
+use Rattle.writer.proofs.Lengths.{one-digit-long, two-digits-long}
 use Rattle.tablewriter.proofs.lengths.digits.Statement.{statement}
 use Rattle.tablewriter.proofs.lengths.digits.Tie as tie
 
 returns : tie.Need-returns
-returns c = sym (search one-digit)
+returns c = sym (search one-digit-long)
 
 returns-2 : tie.Need-returns-2
-returns-2 c = sym (search two-digits)
+returns-2 c = sym (search two-digits-long)
 
 pub digits-spec : {M : Type 1} → statement M
 digits-spec = tie.close (tie.spec returns returns-2)

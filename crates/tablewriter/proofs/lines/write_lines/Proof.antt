@@ -1,6 +1,6 @@
 -- `lines::write_lines` meets its contract, by the laws of Lining.
 use borrow.Author.Needs.{needs}
-use Rattle.tablewriter.proofs.Lining.{size-room, operations-fit, text-written}
+use Rattle.tablewriter.proofs.Lining.{size-line-fits, operations-fit, text-written}
 use Rattle.tablewriter.proofs.lines.write_lines.Statement.{statement}
 use Rattle.tablewriter.proofs.lines.write_lines.Tie as tie
 
@@ -8,7 +8,7 @@ cast-write-size : tie.Need-cast-write-size
 cast-write-size c = search needs
 
 write-size-requires : tie.Need-write-size-requires
-write-size-requires c κs = search size-room
+write-size-requires c κs = search size-line-fits
 
 write-operations-requires : tie.Need-write-operations-requires
 write-operations-requires c κs = search operations-fit

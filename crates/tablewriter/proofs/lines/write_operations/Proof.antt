@@ -3,7 +3,7 @@ use Prim.Native.Nat.{_-_}
 use native.Mathlib.Omega.{arith}
 use lib.ListN.{length}
 use borrow.Author.Needs.{needs}
-use Rattle.tablewriter.proofs.Lining.{LinesWritten, lines-none, arity-most, table-within, operation-fits, lines-more, lines-written}
+use Rattle.tablewriter.proofs.Lining.{LinesWritten, lines-none, arity-most, table-within, next-operation-fits, lines-more, lines-written}
 use Rattle.tablewriter.proofs.lines.write_operations.Statement.{statement}
 use Rattle.tablewriter.proofs.lines.write_operations.Tie as tie
 
@@ -40,7 +40,7 @@ part-write-operation-end : tie.Need-part-write-operation-end Inv-loop μ-loop
 part-write-operation-end c = search table-within
 
 write-operation-requires : tie.Need-write-operation-requires Inv-loop μ-loop
-write-operation-requires c κs = search operation-fits
+write-operation-requires c κs = search next-operation-fits
 
 add-j : tie.Need-add-j Inv-loop μ-loop
 add-j c = search needs

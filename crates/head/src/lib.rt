@@ -1,10 +1,10 @@
-// The answers of the writer and the reader of algebras as numbers and bytes.
+// The answers of the writer and the reader of algebras as numbers, and the reader's as bytes: what the tests see of them.
 ghost use mathlib.Core.Path.{_≡_};
 ghost use Prim.Native.Nat.{_≤_};
 ghost use lib.ListN.{length};
 ghost use Rattle.equivalence.specs.Refusal.{numberOf};
 ghost use Rattle.algebratext.specs.Bounds.{TextBounded, ReadBounded};
-ghost use Rattle.probe.specs.Calls.{textNumber, checkNumber, readNumber, headOf};
+ghost use Rattle.head.specs.Head.{textNumber, checkNumber, readNumber, headOf};
 use algebratext::AlgebraRead;
 use algebratext::TextWritten;
 use equivalence::Check;
@@ -45,7 +45,7 @@ fn check_number(check: Check) -> u64
 }
 
 // The reader's answer.
-pub fn read_number(answer: AlgebraRead) -> u64
+pub fn reader_number(answer: AlgebraRead) -> u64
     requires { ⌜ ReadBounded answer ⌝ }
     ensures { λ r. ⌜ r ≡ readNumber answer ⌝ }
 {

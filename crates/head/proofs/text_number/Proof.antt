@@ -1,9 +1,9 @@
--- `texts::text_number` meets its contract, by the laws of Heads.
+-- `text_number` meets its contract, by the laws of Heads.
 use native.Mathlib.Omega.{arith}
 use borrow.Author.Needs.{needs}
-use Rattle.probe.proofs.Heads.{length-small, text-length-number, text-refused-number}
-use Rattle.probe.proofs.texts.text_number.Statement.{statement}
-use Rattle.probe.proofs.texts.text_number.Tie as tie
+use Rattle.head.proofs.Heads.{text-length-number, text-refused-number}
+use Rattle.head.proofs.text_number.Statement.{statement}
+use Rattle.head.proofs.text_number.Tie as tie
 
 enum-known-answer : tie.Need-enum-known-answer
 enum-known-answer c = search needs

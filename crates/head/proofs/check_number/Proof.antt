@@ -1,9 +1,9 @@
--- `texts::check_number` meets its contract, by the laws of Heads.
+-- `check_number` meets its contract, by the laws of Heads.
 use native.Mathlib.Omega.{arith}
 use borrow.Author.Needs.{needs}
-use Rattle.probe.proofs.Heads.{check-passed, check-failed, check-small}
-use Rattle.probe.proofs.texts.check_number.Statement.{statement}
-use Rattle.probe.proofs.texts.check_number.Tie as tie
+use Rattle.head.proofs.Heads.{check-passed, check-failed, check-small}
+use Rattle.head.proofs.check_number.Statement.{statement}
+use Rattle.head.proofs.check_number.Tie as tie
 
 enum-told : tie.Need-enum-told
 enum-told c = search needs

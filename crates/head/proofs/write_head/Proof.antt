@@ -1,9 +1,8 @@
--- `texts::write_head` meets its contract, by the laws of Heads.
+-- `write_head` meets its contract, by the laws of Heads.
 use borrow.Author.Needs.{needs}
-use native.Mathlib.Omega.{arith}
-use Rattle.probe.proofs.Heads.{head-written}
-use Rattle.probe.proofs.texts.write_head.Statement.{statement}
-use Rattle.probe.proofs.texts.write_head.Tie as tie
+use Rattle.head.proofs.Heads.{head-written}
+use Rattle.head.proofs.write_head.Statement.{statement}
+use Rattle.head.proofs.write_head.Tie as tie
 
 write-byte-requires : tie.Need-write-byte-requires
 write-byte-requires c κs = search needs

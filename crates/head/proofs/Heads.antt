@@ -1,10 +1,9 @@
 -- The answers of the writer and the reader as numbers, and the head byte by byte.
-use Prim.Native.Nat.{ℕ, _+_, _*_, _≤_, _<_}
+use Prim.Native.Nat.{ℕ, _+_, _*_, _≤_}
 use mathlib.Core.List.{List, [], _∷_, _++_, append-nil}
-use mathlib.Core.Path.{_≡_, refl, ap, sym, _∙_}
+use mathlib.Core.Path.{_≡_, ap, sym, _∙_}
 use native.Mathlib.Omega.{arith}
-use borrow.Author.Tests.{eq-eqb, ne-eqb}
-use lib.ListN.{length, drop, drop-of-length-le}
+use lib.ListN.{length, drop-of-length-le}
 use Rattle.equivalence.specs.Lent.{written, laid}
 use Rattle.equivalence.specs.Refusal.{numberOf}
 use Rattle.equivalence.specs.declared.Check.{Check}
@@ -13,13 +12,10 @@ use Rattle.equivalence.specs.declared.Refusal.{Refusal}
 use Rattle.equivalence.specs.declared.Refusal.the-variants.{Size, Operations, Arity, Cells, Length as CellsLength, Cell, Range, NotMap, Space, Equal, NotCongruence, Tally, Text}
 use Rattle.reader.specs.Laying.{Laid}
 use Rattle.reader.proofs.Laying.{laid-more}
-use Rattle.algebra.specs.Algebra.{Algebra}
-use Rattle.algebratext.specs.Bounds.{TextBounded}
-use Rattle.algebratext.specs.Calls.{writeCall, readCall}
 use Rattle.algebratext.specs.declared.AlgebraRead.{AlgebraRead}
 use Rattle.algebratext.specs.declared.TextWritten.{TextWritten}
 use Rattle.algebratext.specs.declared.TextWritten.the-variants.{Length, Refused}
-use Rattle.probe.specs.Calls.{textNumber, checkNumber, readNumber, headOf, headCall}
+use Rattle.head.specs.Head.{textNumber, checkNumber, readNumber, headOf}
 
 number-small : (r : Refusal) → numberOf r ≤ 255
 unfolding numberOf
@@ -51,9 +47,6 @@ module _ (c : Check) (r : Refusal) (known : c ≡ Failed r) (v : ℕ) (e : v ≡
   check-small = omega (arith, number-small r)
 
 -- the writer's answer by its case
-pub length-small : (a : TextWritten) (k : ℕ) → a ≡ Length k → TextBounded a → k ≤ 131290
-length-small a k e b = b k e
-
 pub text-length-number : (a : TextWritten) (k : ℕ) → a ≡ Length k → 256 * k ≡ textNumber a
 unfolding textNumber
 text-length-number a k e = rw e
@@ -76,20 +69,3 @@ head-written r head long sixteen one second p two third q after end t =
     laid-more head 0 (r .size ∷ []) one second (r .operations ∷ r .arities) after end p
     (laid-more one second (r .operations ∷ []) two third (r .arities) after end q t) in
     l .bytes ∙ ap (λ (x : List ℕ). headOf r ++ x) (drop-of-length-le head {i = length (headOf r)} (omega arith)) ∙ append-nil (headOf r)
-
--- a call of the writer, and one of the reader over a head
-pub text-called : (a : Algebra) (lent after : List ℕ) (r : TextWritten) (number : ℕ) → (r, after) ≡ writeCall a lent → number ≡ textNumber r
-    → (number ≡ textNumber (writeCall a lent .0)) × (after ≡ writeCall a lent .1)
-text-called a lent after r number e f =
-    (f ∙ ap (λ (p : TextWritten × List ℕ). textNumber (p .0)) e, ap (λ (p : TextWritten × List ℕ). p .1) e)
-
-module _ (text cells head : List ℕ) where
-  pub head-other : (length head ≡ 18 → ⊥) → (255, (cells, head)) ≡ headCall text cells head
-  unfolding headCall
-  head-other h = sym (simp (headCall, ne-eqb (length head) 18 h))
-
-  pub head-called : length head ≡ 18 → (r : AlgebraRead) (after : List ℕ) → (r, after) ≡ readCall text cells → (bytes : List ℕ) → bytes ≡ headOf r
-      → (number : ℕ) → number ≡ readNumber r → (number, (after, bytes)) ≡ headCall text cells head
-  unfolding headCall
-  head-called h r after e bytes f number g =
-      rw (f, g) (ap (λ (p : AlgebraRead × List ℕ). (readNumber (p .0), (p .1, headOf (p .0)))) e ∙ sym (simp (headCall, eq-eqb (length head) 18 h)))
