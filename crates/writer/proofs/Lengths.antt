@@ -8,6 +8,7 @@ use lib.ListN.{length, getD, take, drop, length-append, length-drop, take-append
 use lib.Seq.{drop-cons, take-all}
 use Rattle.reader.specs.Reading.{ascii}
 use Rattle.reader.specs.Laying.{Laid}
+use Rattle.writer.specs.InnerRoom.{LaidOpen}
 use Rattle.writer.specs.Numerals.{decimal}
 use Rattle.writer.specs.Lines.{gapBytes, spaced, bracketed}
 use Rattle.writer.proofs.Digits.{decimal-one, decimal-two, decimal-three, decimal-some}
@@ -65,16 +66,21 @@ bracketed-short (x ∷ rest) h b =
       spaced-short rest (λ i. b (suc i)),
     )
 
--- behind the first i numbers there is room for another, where there is room for all of them and two bytes more
-spaced-room : (m : List ℕ) (i : ℕ) → i < length m → length (spaced (take i m)) + 2 ≤ length (spaced m)
+-- a number after a space has two bytes at least
+pub spaced-some : (v : ℕ) → 2 ≤ length (spaced (v ∷ []))
+spaced-some v = omega (arith, spaced-length v [], decimal-some v)
+
+-- behind the first i numbers there is room for another, where there is room for all of them
+spaced-room : (m : List ℕ) (i : ℕ) → i < length m → length (spaced (take i m)) + length (spaced (getD m i 0 ∷ [])) ≤ length (spaced m)
+unfolding spaced
 spaced-room m i h =
     let e : spaced m ≡ spaced (take i m) ++ spaced (getD m i 0 ∷ drop (suc i) m) =
     ap spaced (sym (take-append-drop i m)) ∙ spaced-append (take i m) (drop i m) ∙ ap (λ (l : List ℕ). spaced (take i m) ++ spaced l) (drop-cons m i 0 h) in
     let x = getD m i 0 in
-    omega (arith, ap length e, length-append (spaced (take i m)) (spaced (x ∷ drop (suc i) m)), spaced-length x (drop (suc i) m), decimal-some x)
+    omega (arith, ap length e, length-append (spaced (take i m)) (spaced (x ∷ drop (suc i) m)), spaced-length x (drop (suc i) m), spaced-length x [])
 
 pub spaced-fits : (lent : List ℕ) (put : ℕ) (m out : List ℕ) (at i : ℕ) → put + length (spaced m) + 2 ≤ length lent → Spaced lent put m out at i → i < length m
-    → at + 4 ≤ length out
+    → at + length (spaced (getD m i 0 ∷ [])) + 2 ≤ length out
 spaced-fits lent put m out at i room p h = omega (arith, room, p .laid .place, p .laid .long, spaced-room m i h)
 
 -- a bracket, piece by piece: there is room for each
@@ -87,5 +93,5 @@ module _ (m lent : List ℕ) (put : ℕ) (some : 0 < length m) (room : put + len
     pub bracket-rest-fits : at′ + length (spaced (take (length m - 1) (drop 1 m))) + 2 ≤ length mid′
     bracket-rest-fits = omega (arith, room, bracketed-length m some, p .place, p .long, q .place, q .long)
 
-    pub bracket-end-fits : (mid″ : List ℕ) (at″ : ℕ) → Laid mid′ at′ (spaced (take (length m - 1) (drop 1 m))) mid″ at″ → at″ < length mid″
-    bracket-end-fits mid″ at″ r = omega (arith, room, bracketed-length m some, p .place, p .long, q .place, q .long, r .place, r .long)
+    pub bracket-end-fits : (mid″ : List ℕ) (at″ : ℕ) → LaidOpen mid′ at′ (spaced (take (length m - 1) (drop 1 m))) mid″ at″ → at″ < length mid″
+    bracket-end-fits mid″ at″ r = omega (arith, r .within, r .long)

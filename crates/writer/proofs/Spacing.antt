@@ -18,6 +18,8 @@ use Rattle.writer.specs.Numerals.{decimal}
 use Rattle.writer.specs.Lines.{gapBytes, spaced, bracketed, spacedBrackets, line, refusedNumbers, outcomeLine, refusedLine}
 use Rattle.reader.specs.Laying.{Laid}
 use Rattle.reader.proofs.Laying.{laid-none, laid-more}
+use Rattle.writer.specs.InnerRoom.{LaidOpen, DigitTables}
+use Rattle.writer.proofs.Opening.{laid-cut, open-of, open-closed, open-more}
 use Rattle.writer.proofs.Digits.{decimal-one, decimal-two, decimal-three}
 
 pub spaced-one : (v : ℕ) → spaced (v ∷ []) ≡ gapBytes ++ decimal v
@@ -29,29 +31,33 @@ unfolding spaced gapBytes ascii
 spaced-append [] ys = refl
 spaced-append (x ∷ xs) ys = rw (spaced-append xs ys) (ap (λ (l : List ℕ). 32 ∷ l) (sym (append-assoc (decimal x) (spaced xs) (spaced ys))))
 
--- the first i numbers are written, each after a space
+-- a number after open bytes: its space closes them
+number-more : (lent : List ℕ) (put : ℕ) (a mid : List ℕ) (at v : ℕ) (after : List ℕ) (end : ℕ) → LaidOpen lent put a mid at
+    → LaidOpen mid at (spaced (v ∷ [])) after end → LaidOpen lent put (a ++ spaced (v ∷ [])) after end
+unfolding spaced gapBytes ascii
+number-more lent put a mid at v after end p q = open-more lent put a mid at 32 (decimal v ++ []) after end p q
+
+-- the first i numbers are written, each after a space, with an open byte behind them
 pub record Spaced (lent : List ℕ) (put : ℕ) (m out : List ℕ) (at i : ℕ) : Type 0 where
   pub passed : i ≤ length m
   pub short : at ≤ put + 4 * i
-  pub laid : Laid lent put (spaced (take i m)) out at
+  pub laid : LaidOpen lent put (spaced (take i m)) out at
 
 module _ (lent : List ℕ) (put : ℕ) (m : List ℕ) (room : put + length (spaced m) + 2 ≤ length lent) where
   pub spaced-start : Spaced lent put m lent put 0
   unfolding spaced
-  spaced-start = record { passed = omega arith; short = omega arith; laid = laid-none lent put (omega arith) }
+  spaced-start = record { passed = omega arith; short = omega arith; laid = open-of lent put [] lent put (laid-none lent put (omega arith)) (omega arith) }
 
   pub spaced-more : (out : List ℕ) (at i : ℕ) (out′ : List ℕ) (at′ : ℕ) → Spaced lent put m out at i → i < length m
-      → Laid out at (spaced (getD m i 0 ∷ [])) out′ at′ → at′ ≤ at + 4 → Spaced lent put m out′ at′ (i + 1)
+      → LaidOpen out at (spaced (getD m i 0 ∷ [])) out′ at′ → at′ ≤ at + 4 → Spaced lent put m out′ at′ (i + 1)
   spaced-more out at i out′ at′ p h q l =
       record {
         passed = omega arith;
         short = omega (arith, p .short);
-        laid =
-            rw (add-one i, take-suc m i 0 h, spaced-append (take i m) (getD m i 0 ∷ []))
-            (laid-more lent put (spaced (take i m)) out at (spaced (getD m i 0 ∷ [])) out′ at′ (p .laid) q);
+        laid = rw (add-one i, take-suc m i 0 h, spaced-append (take i m) (getD m i 0 ∷ [])) (number-more lent put (spaced (take i m)) out at (getD m i 0) out′ at′ (p .laid) q);
       }
 
-  pub spaced-all : (out : List ℕ) (at i : ℕ) → Spaced lent put m out at i → length m ≤ i → Laid lent put (spaced m) out at
+  pub spaced-all : (out : List ℕ) (at i : ℕ) → Spaced lent put m out at i → length m ≤ i → LaidOpen lent put (spaced m) out at
   spaced-all out at i p h = rw take-all at (p .laid)
 
 -- a bracket, part by part
@@ -102,15 +108,40 @@ module _ (lent : List ℕ) (put : ℕ) (mid : List ℕ) (at : ℕ) (after : List
   pub number-after-space : (v : ℕ) → Laid lent put gapBytes mid at → Laid mid at (decimal v) after end → Laid lent put (spaced (v ∷ [])) after end
   number-after-space v p q = rw (spaced-one v) (laid-more lent put gapBytes mid at (decimal v) after end p q)
 
+  -- a space, a leading digit and a last digit: where there is one digit, the last byte stands open behind it
+  module _ (v : ℕ) (leading last : List ℕ) (tables : DigitTables leading last) (mid′ : List ℕ) (at′ : ℕ) (p : Laid lent put gapBytes mid at)
+      (q : Laid mid at (getD leading v 0 ∷ []) mid′ at′) (r : Laid mid′ at′ (getD last v 0 ∷ []) after end) where
+    laid-three : Laid lent put ((gapBytes ++ (getD leading v 0 ∷ [])) ++ (getD last v 0 ∷ [])) after end
+    laid-three =
+        laid-more lent put (gapBytes ++ (getD leading v 0 ∷ [])) mid′ at′ (getD last v 0 ∷ []) after end
+        (laid-more lent put gapBytes mid at (getD leading v 0 ∷ []) mid′ at′ p q) r
+
+    laid-end : end ≡ put + 3
+    unfolding gapBytes ascii
+    laid-end = omega (arith, p .place, q .place, r .place)
+
+    pub small-of-one : v < 10 → LaidOpen lent put (spaced (v ∷ [])) after (put + 2)
+    small-of-one h =
+        let e : end ≡ put + 2 + 1 = omega (arith, laid-end) in
+        laid-cut lent put (spaced (v ∷ [])) (getD last v 0) after (put + 2)
+        (rw (spaced-one v, decimal-one v h, ← tables .one v h, ← e) laid-three)
+
+    pub small-of-two : 10 ≤ v → v < 64 → put + 4 ≤ length lent → LaidOpen lent put (spaced (v ∷ [])) after (put + 3)
+    small-of-two g h room =
+        open-of lent put (spaced (v ∷ [])) after (put + 3)
+        (rw (spaced-one v, decimal-two v g (omega arith), ← tables .first v g h, ← tables .second v h, ← laid-end)
+        (rw (append-assoc gapBytes (getD leading v 0 ∷ []) (getD last v 0 ∷ [])) at laid-three))
+        (omega arith)
+
   pub numbers-in-bracket : (m mid′ : List ℕ) (at′ : ℕ) (mid″ : List ℕ) (at″ : ℕ) → 0 < length m
-      → Laid lent put (91 ∷ []) mid at → Laid mid at (decimal (getD m 0 0)) mid′ at′ → Laid mid′ at′ (spaced (take (length m - 1) (drop 1 m))) mid″ at″
+      → Laid lent put (91 ∷ []) mid at → Laid mid at (decimal (getD m 0 0)) mid′ at′ → LaidOpen mid′ at′ (spaced (take (length m - 1) (drop 1 m))) mid″ at″
       → Laid mid″ at″ (93 ∷ []) after end → Laid lent put (bracketed m) after end
   numbers-in-bracket m mid′ at′ mid″ at″ h p q r s =
       let e : take (length m - 1) (drop 1 m) ≡ drop 1 m = take-all (length m - 1) (drop 1 m) (rw length-drop (omega arith)) in
       rw (bracketed-parts m h)
       (laid-more lent put (91 ∷ []) mid at (decimal (getD m 0 0) ++ (spaced (drop 1 m) ++ (93 ∷ []))) after end p
       (laid-more mid at (decimal (getD m 0 0)) mid′ at′ (spaced (drop 1 m) ++ (93 ∷ [])) after end q
-      (laid-more mid′ at′ (spaced (drop 1 m)) mid″ at″ (93 ∷ []) after end (rw e at r) s)))
+      (open-closed mid′ at′ (spaced (drop 1 m)) mid″ at″ 93 [] after end (rw e at r) s)))
 
   pub bracket-after-space : (m : List ℕ) → Laid lent put gapBytes mid at → Laid mid at (bracketed m) after end
       → Laid lent put (spacedBrackets (m ∷ [])) after end
@@ -130,6 +161,13 @@ module _ (lent : List ℕ) (put : ℕ) (mid : List ℕ) (at : ℕ) (after : List
   unfolding line
   line-written word body mid′ at′ p q r =
       laid-more lent put (word ++ body) mid′ at′ (ascii "]\n") after end (laid-more lent put word mid at body mid′ at′ p q) r
+
+  pub numbers-line-written : (word m mid′ : List ℕ) (at′ : ℕ) → Laid lent put word mid at → LaidOpen mid at (spaced m) mid′ at′
+      → Laid mid′ at′ (ascii "]\n") after end → Laid lent put (line word (spaced m)) after end
+  unfolding line ascii
+  numbers-line-written word m mid′ at′ p q r =
+      rw (append-assoc word (spaced m) (93 ∷ 10 ∷ []))
+      (laid-more lent put word mid at (spaced m ++ (93 ∷ 10 ∷ [])) after end p (open-closed mid at (spaced m) mid′ at′ 93 (10 ∷ []) after end q r))
 
   pub refused-written : (r : Refusal) (v : ℕ) (mid′ : List ℕ) (at′ : ℕ) → v ≡ numberOf r → Laid lent put (ascii "[refused") mid at
       → Laid mid at (spaced (v ∷ [])) mid′ at′ → Laid mid′ at′ (ascii "]\n") after end → Laid lent put (refusedLine r) after end

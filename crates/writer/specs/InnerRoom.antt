@@ -1,8 +1,10 @@
 -- What writers promise of a line, and what they ask of the room that they are lent.
-use Prim.Native.Nat.{ℕ, _+_, _*_, _≤_, _<_}
-use mathlib.Core.List.{List}
+use Prim.Native.Nat.{ℕ, _+_, _*_, _/_, _%_, _≤_, _<_}
+use mathlib.Core.List.{List, [], _∷_, _++_}
+use mathlib.Core.Path.{_≡_}
 use denote.Ref.{RefT, now}
-use lib.ListN.{length}
+use lib.ListN.{length, getD}
+use Rattle.equivalence.specs.Lent.{laid}
 use Rattle.reader.specs.Laying.{Laid}
 use Rattle.writer.specs.Lines.{line}
 
@@ -15,3 +17,19 @@ pub record FactorsRoom (n k : ℕ) (factors out : List ℕ) : Type 0 where
   pub some : 0 < n
   pub line : k * (4 * n + 2) + 10 ≤ length out
   pub list : k * n ≤ length factors
+
+-- as `Laid`, but the byte at the end may have any value: who writes next overwrites it
+pub record LaidOpen (lent : List ℕ) (put : ℕ) (new after : List ℕ) (end : ℕ) : Type 0 where
+  pub place : end ≡ put + length new
+  pub within : end < length lent
+  pub long : length after ≡ length lent
+  pub over : ℕ
+  pub bytes : after ≡ laid lent put (new ++ (over ∷ []))
+
+-- the first digit and the last digit of every number below 64, as bytes
+pub record DigitTables (leading last : List ℕ) : Type 0 where
+  pub leading-long : length leading ≡ 64
+  pub last-long : length last ≡ 64
+  pub one : (v : ℕ) → v < 10 → getD leading v 0 ≡ 48 + v
+  pub first : (v : ℕ) → 10 ≤ v → v < 64 → getD leading v 0 ≡ 48 + v / 10
+  pub second : (v : ℕ) → v < 64 → getD last v 0 ≡ 48 + v % 10

@@ -1,5 +1,5 @@
 -- `write_map` meets its contract, by the laws of Spacing.
-use Rattle.writer.proofs.Spacing.{line-written}
+use Rattle.writer.proofs.Spacing.{numbers-line-written}
 use Rattle.reader.specs.Reading.{ascii}
 use denote.Ref.{now}
 use native.Mathlib.Omega.{arith}
@@ -27,7 +27,7 @@ same-length c = search needs
 
 returns : tie.Need-returns
 unfolding ascii
-returns c = search line-written
+returns c = search numbers-line-written
 
 pub write-map-spec : {M : Type 1} → statement M
 write-map-spec =

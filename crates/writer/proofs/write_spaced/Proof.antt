@@ -1,55 +1,19 @@
--- `write_spaced` meets its contract, by the laws of Spacing.
-use native.Mathlib.Omega.{arith}
-use Rattle.writer.proofs.Spacing.{Spaced, spaced-start, spaced-more, spaced-all}
-use Rattle.writer.proofs.Lengths.{spaced-fits}
+-- `write_spaced` meets its contract: its tables have the digits that they should.
+use Rattle.reader.specs.Reading.{ascii}
+use Rattle.writer.proofs.DigitTables.{digit-tables}
 use borrow.Author.Needs.{needs}
-use Prim.Native.Nat.{_-_}
-use lib.ListN.{length}
 use Rattle.writer.proofs.write_spaced.Statement.{statement}
 use Rattle.writer.proofs.write_spaced.Tie as tie
 
-abbrev Inv-loop : tie.InvT-loop
-Inv-loop m out₀ put at₀ i₀ out at i = Spaced out₀ put m out at i
+write-by-tables-requires : tie.Need-write-by-tables-requires
+unfolding ascii
+write-by-tables-requires c κs = (search needs, digit-tables)
 
-abbrev μ-loop : tie.MeasureT-loop
-μ-loop m out₀ put at₀ i₀ out at i = length m - i
-
-loop-holds : tie.Need-loop-holds Inv-loop μ-loop
-loop-holds c = search spaced-start
-
-shared-slice-read-write-spaced-number :
-    tie.Need-shared-slice-read-write-spaced-number Inv-loop μ-loop
-shared-slice-read-write-spaced-number c = search needs
-
-write-spaced-number-requires : tie.Need-write-spaced-number-requires Inv-loop μ-loop
-write-spaced-number-requires c κs = search spaced-fits
-
-add-i : tie.Need-add-i Inv-loop μ-loop
-add-i c = search needs
-
-loop-less : tie.Need-loop-less Inv-loop μ-loop
-loop-less c = search needs
-
-loop-again : tie.Need-loop-again Inv-loop μ-loop
-loop-again c = search spaced-more
-
-same-length : tie.Need-same-length Inv-loop μ-loop
+same-length : tie.Need-same-length
 same-length c = search needs
 
-returns : tie.Need-returns Inv-loop μ-loop
-returns c = (search spaced-all, omega arith)
+returns : tie.Need-returns
+returns c = search needs
 
 pub write-spaced-spec : {M : Type 1} → statement M
-write-spaced-spec =
-    tie.close
-    (tie.spec
-    Inv-loop
-    μ-loop
-    loop-holds
-    shared-slice-read-write-spaced-number
-    write-spaced-number-requires
-    add-i
-    loop-less
-    loop-again
-    same-length
-    returns)
+write-spaced-spec = tie.close (tie.spec write-by-tables-requires same-length returns)

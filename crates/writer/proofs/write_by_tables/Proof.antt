@@ -1,0 +1,54 @@
+-- `write_by_tables` meets its contract, by the laws of Spacing.
+use Prim.Native.Nat.{_-_}
+use native.Mathlib.Omega.{arith}
+use lib.ListN.{length}
+use borrow.Author.Needs.{needs}
+use Rattle.writer.proofs.Spacing.{Spaced, spaced-start, spaced-more, spaced-all}
+use Rattle.writer.proofs.Lengths.{spaced-fits}
+use Rattle.writer.proofs.write_by_tables.Statement.{statement}
+use Rattle.writer.proofs.write_by_tables.Tie as tie
+
+abbrev Inv-loop : tie.InvT-loop
+Inv-loop m leading last out₀ put at₀ i₀ out at i = Spaced out₀ put m out at i
+
+abbrev μ-loop : tie.MeasureT-loop
+μ-loop m leading last out₀ put at₀ i₀ out at i = length m - i
+
+loop-holds : tie.Need-loop-holds Inv-loop μ-loop
+loop-holds c = search spaced-start
+
+shared-slice-read-write-open : tie.Need-shared-slice-read-write-open Inv-loop μ-loop
+shared-slice-read-write-open c = search needs
+
+write-open-requires : tie.Need-write-open-requires Inv-loop μ-loop
+write-open-requires c κs = (search spaced-fits, search needs)
+
+add-i : tie.Need-add-i Inv-loop μ-loop
+add-i c = search needs
+
+loop-less : tie.Need-loop-less Inv-loop μ-loop
+loop-less c = search needs
+
+loop-again : tie.Need-loop-again Inv-loop μ-loop
+loop-again c = search spaced-more
+
+same-length : tie.Need-same-length Inv-loop μ-loop
+same-length c = search needs
+
+returns : tie.Need-returns Inv-loop μ-loop
+returns c = (search spaced-all, omega arith)
+
+pub write-by-tables-spec : {M : Type 1} → statement M
+write-by-tables-spec =
+    tie.close
+    (tie.spec
+    Inv-loop
+    μ-loop
+    loop-holds
+    shared-slice-read-write-open
+    write-open-requires
+    add-i
+    loop-less
+    loop-again
+    same-length
+    returns)
