@@ -67,8 +67,8 @@ bracketed-short (x ∷ rest) h b =
     )
 
 -- a number after a space has two bytes at least
-pub spaced-some : (v : ℕ) → 2 ≤ length (spaced (v ∷ []))
-spaced-some v = omega (arith, spaced-length v [], decimal-some v)
+pub number-fits : (v put : ℕ) (out : List ℕ) → put + length (spaced (v ∷ [])) + 2 ≤ length out → put + 4 ≤ length out
+number-fits v put out room = omega (arith, spaced-length v [], decimal-some v)
 
 -- behind the first i numbers there is room for another, where there is room for all of them
 spaced-room : (m : List ℕ) (i : ℕ) → i < length m → length (spaced (take i m)) + length (spaced (getD m i 0 ∷ [])) ≤ length (spaced m)

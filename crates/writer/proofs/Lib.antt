@@ -1,6 +1,6 @@
 pub mod Digits
 pub mod Opening
-pub mod DigitTables
+pub mod DigitTable
 pub mod Spacing
 pub mod Numerals
 pub mod Lengths

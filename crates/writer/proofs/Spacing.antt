@@ -18,7 +18,7 @@ use Rattle.writer.specs.Numerals.{decimal}
 use Rattle.writer.specs.Lines.{gapBytes, spaced, bracketed, spacedBrackets, line, refusedNumbers, outcomeLine, refusedLine}
 use Rattle.reader.specs.Laying.{Laid}
 use Rattle.reader.proofs.Laying.{laid-none, laid-more}
-use Rattle.writer.specs.InnerRoom.{LaidOpen, DigitTables}
+use Rattle.writer.specs.InnerRoom.{LaidOpen, DigitTable}
 use Rattle.writer.proofs.Opening.{laid-cut, open-of, open-closed, open-more}
 use Rattle.writer.proofs.Digits.{decimal-one, decimal-two, decimal-three}
 
@@ -108,13 +108,13 @@ module _ (lent : List ℕ) (put : ℕ) (mid : List ℕ) (at : ℕ) (after : List
   pub number-after-space : (v : ℕ) → Laid lent put gapBytes mid at → Laid mid at (decimal v) after end → Laid lent put (spaced (v ∷ [])) after end
   number-after-space v p q = rw (spaced-one v) (laid-more lent put gapBytes mid at (decimal v) after end p q)
 
-  -- a space, a leading digit and a last digit: where there is one digit, the last byte stands open behind it
-  module _ (v : ℕ) (leading last : List ℕ) (tables : DigitTables leading last) (mid′ : List ℕ) (at′ : ℕ) (p : Laid lent put gapBytes mid at)
-      (q : Laid mid at (getD leading v 0 ∷ []) mid′ at′) (r : Laid mid′ at′ (getD last v 0 ∷ []) after end) where
-    laid-three : Laid lent put ((gapBytes ++ (getD leading v 0 ∷ [])) ++ (getD last v 0 ∷ [])) after end
+  -- a space and two bytes of the table: where there is one digit, the last byte stands open behind it
+  module _ (v : ℕ) (digits : List ℕ) (table : DigitTable digits) (mid′ : List ℕ) (at′ : ℕ) (p : Laid lent put gapBytes mid at)
+      (q : Laid mid at (getD digits (2 * v) 0 ∷ []) mid′ at′) (r : Laid mid′ at′ (getD digits (2 * v + 1) 0 ∷ []) after end) where
+    laid-three : Laid lent put ((gapBytes ++ (getD digits (2 * v) 0 ∷ [])) ++ (getD digits (2 * v + 1) 0 ∷ [])) after end
     laid-three =
-        laid-more lent put (gapBytes ++ (getD leading v 0 ∷ [])) mid′ at′ (getD last v 0 ∷ []) after end
-        (laid-more lent put gapBytes mid at (getD leading v 0 ∷ []) mid′ at′ p q) r
+        laid-more lent put (gapBytes ++ (getD digits (2 * v) 0 ∷ [])) mid′ at′ (getD digits (2 * v + 1) 0 ∷ []) after end
+        (laid-more lent put gapBytes mid at (getD digits (2 * v) 0 ∷ []) mid′ at′ p q) r
 
     laid-end : end ≡ put + 3
     unfolding gapBytes ascii
@@ -123,14 +123,14 @@ module _ (lent : List ℕ) (put : ℕ) (mid : List ℕ) (at : ℕ) (after : List
     pub small-of-one : v < 10 → LaidOpen lent put (spaced (v ∷ [])) after (put + 2)
     small-of-one h =
         let e : end ≡ put + 2 + 1 = omega (arith, laid-end) in
-        laid-cut lent put (spaced (v ∷ [])) (getD last v 0) after (put + 2)
-        (rw (spaced-one v, decimal-one v h, ← tables .one v h, ← e) laid-three)
+        laid-cut lent put (spaced (v ∷ [])) (getD digits (2 * v + 1) 0) after (put + 2)
+        (rw (spaced-one v, decimal-one v h, ← table .one v h, ← e) laid-three)
 
     pub small-of-two : 10 ≤ v → v < 64 → put + 4 ≤ length lent → LaidOpen lent put (spaced (v ∷ [])) after (put + 3)
     small-of-two g h room =
         open-of lent put (spaced (v ∷ [])) after (put + 3)
-        (rw (spaced-one v, decimal-two v g (omega arith), ← tables .first v g h, ← tables .second v h, ← laid-end)
-        (rw (append-assoc gapBytes (getD leading v 0 ∷ []) (getD last v 0 ∷ [])) at laid-three))
+        (rw (spaced-one v, decimal-two v g (omega arith), ← table .first v g h, ← table .second v g h, ← laid-end)
+        (rw (append-assoc gapBytes (getD digits (2 * v) 0 ∷ []) (getD digits (2 * v + 1) 0 ∷ [])) at laid-three))
         (omega arith)
 
   pub numbers-in-bracket : (m mid′ : List ℕ) (at′ : ℕ) (mid″ : List ℕ) (at″ : ℕ) → 0 < length m

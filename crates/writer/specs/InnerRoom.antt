@@ -26,10 +26,9 @@ pub record LaidOpen (lent : List ℕ) (put : ℕ) (new after : List ℕ) (end : 
   pub over : ℕ
   pub bytes : after ≡ laid lent put (new ++ (over ∷ []))
 
--- the first digit and the last digit of every number below 64, as bytes
-pub record DigitTables (leading last : List ℕ) : Type 0 where
-  pub leading-long : length leading ≡ 64
-  pub last-long : length last ≡ 64
-  pub one : (v : ℕ) → v < 10 → getD leading v 0 ≡ 48 + v
-  pub first : (v : ℕ) → 10 ≤ v → v < 64 → getD leading v 0 ≡ 48 + v / 10
-  pub second : (v : ℕ) → v < 64 → getD last v 0 ≡ 48 + v % 10
+-- the digits of every number below 64, two bytes each; behind a digit that is the only one stands any byte
+pub record DigitTable (digits : List ℕ) : Type 0 where
+  pub long : length digits ≡ 128
+  pub one : (v : ℕ) → v < 10 → getD digits (2 * v) 0 ≡ 48 + v
+  pub first : (v : ℕ) → 10 ≤ v → v < 64 → getD digits (2 * v) 0 ≡ 48 + v / 10
+  pub second : (v : ℕ) → 10 ≤ v → v < 64 → getD digits (2 * v + 1) 0 ≡ 48 + v % 10

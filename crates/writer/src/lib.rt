@@ -8,7 +8,7 @@ ghost use Rattle.equivalence.specs.Lent.{stretch};
 ghost use Rattle.reader.specs.Reading.{ascii};
 ghost use Rattle.writer.specs.Lines.{gapBytes, spaced, bracketed, spacedBrackets, refusedLine};
 ghost use Rattle.reader.specs.Laying.{Laid};
-ghost use Rattle.writer.specs.InnerRoom.{LaidLine, LaidOpen, DigitTables, FactorsRoom};
+ghost use Rattle.writer.specs.InnerRoom.{LaidLine, LaidOpen, DigitTable, FactorsRoom};
 
 // One byte.
 pub fn write_byte(b: u8, out: &mut [u8], put: usize) -> usize
@@ -70,16 +70,18 @@ pub fn write_spaced_number(v: u8, out: &mut [u8], put: usize) -> usize
 }
 
 // A number below 64 after a gap, without a branch on its digits: where it has one digit, a byte too many is written, which stands open behind it.
-fn write_small(v: u8, leading: &[u8], last: &[u8], out: &mut [u8], put: usize) -> usize
+fn write_small(v: u8, digits: &[u8], out: &mut [u8], put: usize) -> usize
     requires { ⌜ (v < 64) × (put + 4 ≤ length (now out)) ⌝ }
-    requires { ⌜ DigitTables (now leading) (now last) ⌝ }
+    requires { ⌜ DigitTable (now digits) ⌝ }
     ensures { λ r. ⌜ LaidOpen (now (out .entry)) put (spaced (v ∷ [])) (now (out .exit)) r ⌝ }
     ensures short { λ r. ⌜ r ≤ put + 4 ⌝ }
 {
-    let i = v as usize;
+    let i = 2 * v as usize;
+    let leading = digits[i];
+    let last = digits[i + 1];
     let first = write_gap(out, put);
-    let second = write_byte(leading[i], out, first);
-    write_byte(last[i], out, second);
+    let second = write_byte(leading, out, first);
+    write_byte(last, out, second);
     if v < 10 {
         return put + 2;
     }
@@ -87,29 +89,29 @@ fn write_small(v: u8, leading: &[u8], last: &[u8], out: &mut [u8], put: usize) -
 }
 
 // A number after a gap, with an open byte behind it.
-fn write_open(v: u8, leading: &[u8], last: &[u8], out: &mut [u8], put: usize) -> usize
+fn write_open(v: u8, digits: &[u8], out: &mut [u8], put: usize) -> usize
     requires { ⌜ put + length (spaced (v ∷ [])) + 2 ≤ length (now out) ⌝ }
-    requires { ⌜ DigitTables (now leading) (now last) ⌝ }
+    requires { ⌜ DigitTable (now digits) ⌝ }
     ensures { λ r. ⌜ LaidOpen (now (out .entry)) put (spaced (v ∷ [])) (now (out .exit)) r ⌝ }
     ensures short { λ r. ⌜ r ≤ put + 4 ⌝ }
 {
     if v < 64 {
-        return write_small(v, leading, last, out, put);
+        return write_small(v, digits, out, put);
     }
     write_spaced_number(v, out, put)
 }
 
 // Numbers, each after a space, with an open byte behind them.
-fn write_by_tables(m: &[u8], leading: &[u8], last: &[u8], out: &mut [u8], put: usize) -> usize
+fn write_by_table(m: &[u8], digits: &[u8], out: &mut [u8], put: usize) -> usize
     requires { ⌜ put + length (spaced (now m)) + 2 ≤ length (now out) ⌝ }
-    requires { ⌜ DigitTables (now leading) (now last) ⌝ }
+    requires { ⌜ DigitTable (now digits) ⌝ }
     ensures { λ r. ⌜ LaidOpen (now (out .entry)) put (spaced (now (m .entry))) (now (out .exit)) r ⌝ }
     ensures short { λ r. ⌜ r ≤ put + 4 * length (now (m .entry)) ⌝ }
 {
     let mut at = put;
     let mut i = 0;
     while i < m.len() {
-        at = write_open(m[i], leading, last, out, at);
+        at = write_open(m[i], digits, out, at);
         i += 1;
     }
     at
@@ -121,9 +123,9 @@ fn write_spaced(m: &[u8], out: &mut [u8], put: usize) -> usize
     ensures { λ r. ⌜ LaidOpen (now (out .entry)) put (spaced (now (m .entry))) (now (out .exit)) r ⌝ }
     ensures short { λ r. ⌜ r ≤ put + 4 * length (now (m .entry)) ⌝ }
 {
-    let leading = b"0123456789111111111122222222223333333333444444444455555555556666";
-    let last = b"0123456789012345678901234567890123456789012345678901234567890123";
-    write_by_tables(m, leading, last, out, put)
+    let digits =
+        b"0 1 2 3 4 5 6 7 8 9 101112131415161718192021222324252627282930313233343536373839404142434445464748495051525354555657585960616263";
+    write_by_table(m, digits, out, put)
 }
 
 // Numbers in a bracket, parted by one space.

@@ -1,15 +1,12 @@
 -- `write_open` meets its contract: a number that was laid exactly is open where there is room behind it.
-use native.Mathlib.Omega.{arith}
 use Rattle.writer.proofs.Opening.{open-in-room}
-use Rattle.writer.proofs.Lengths.{spaced-some}
+use Rattle.writer.proofs.Lengths.{number-fits}
 use borrow.Author.Needs.{needs}
 use Rattle.writer.proofs.write_open.Statement.{statement}
 use Rattle.writer.proofs.write_open.Tie as tie
 
 write-small-requires : tie.Need-write-small-requires
-write-small-requires c κs =
-    let k = c .before .before .before .before .before .args in
-    ((search needs, omega (arith, spaced-some (k .v))), search needs)
+write-small-requires c κs = ((search needs, search number-fits), search needs)
 
 same-length : tie.Need-same-length
 same-length c = search needs
@@ -18,7 +15,7 @@ returns : tie.Need-returns
 returns c = search needs
 
 write-spaced-number-requires : tie.Need-write-spaced-number-requires
-write-spaced-number-requires c κs = let k = c .before .before .before .before .before .args in omega (arith, spaced-some (k .v))
+write-spaced-number-requires c κs = search number-fits
 
 same-length-2 : tie.Need-same-length-2
 same-length-2 c = search needs

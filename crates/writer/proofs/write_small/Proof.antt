@@ -5,17 +5,23 @@ use borrow.Author.Needs.{needs}
 use Rattle.writer.proofs.write_small.Statement.{statement}
 use Rattle.writer.proofs.write_small.Tie as tie
 
+mul-i : tie.Need-mul-i
+mul-i c = search needs
+
+shared-slice-read-leading : tie.Need-shared-slice-read-leading
+shared-slice-read-leading c = search needs
+
+add-last : tie.Need-add-last
+add-last c = search needs
+
+shared-slice-read-last : tie.Need-shared-slice-read-last
+shared-slice-read-last c = search needs
+
 write-gap-requires : tie.Need-write-gap-requires
 write-gap-requires c κs = search needs
 
-shared-slice-read-write-byte : tie.Need-shared-slice-read-write-byte
-shared-slice-read-write-byte c = search needs
-
 write-byte-requires : tie.Need-write-byte-requires
 write-byte-requires c κs = search needs
-
-shared-slice-read-write-byte-2 : tie.Need-shared-slice-read-write-byte-2
-shared-slice-read-write-byte-2 c = search needs
 
 write-byte-requires-2 : tie.Need-write-byte-requires-2
 write-byte-requires-2 c κs = search needs
@@ -42,10 +48,12 @@ pub write-small-spec : {M : Type 1} → statement M
 write-small-spec =
     tie.close
     (tie.spec
+    mul-i
+    shared-slice-read-leading
+    add-last
+    shared-slice-read-last
     write-gap-requires
-    shared-slice-read-write-byte
     write-byte-requires
-    shared-slice-read-write-byte-2
     write-byte-requires-2
     add-result
     same-length

@@ -1,13 +1,13 @@
--- `write_spaced` meets its contract: its tables have the digits that they should.
+-- `write_spaced` meets its contract: its table has the digits that it should.
 use Rattle.reader.specs.Reading.{ascii}
-use Rattle.writer.proofs.DigitTables.{digit-tables}
+use Rattle.writer.proofs.DigitTable.{digit-table}
 use borrow.Author.Needs.{needs}
 use Rattle.writer.proofs.write_spaced.Statement.{statement}
 use Rattle.writer.proofs.write_spaced.Tie as tie
 
-write-by-tables-requires : tie.Need-write-by-tables-requires
+write-by-table-requires : tie.Need-write-by-table-requires
 unfolding ascii
-write-by-tables-requires c κs = (search needs, digit-tables)
+write-by-table-requires c κs = (search needs, digit-table)
 
 same-length : tie.Need-same-length
 same-length c = search needs
@@ -16,4 +16,4 @@ returns : tie.Need-returns
 returns c = search needs
 
 pub write-spaced-spec : {M : Type 1} → statement M
-write-spaced-spec = tie.close (tie.spec write-by-tables-requires same-length returns)
+write-spaced-spec = tie.close (tie.spec write-by-table-requires same-length returns)

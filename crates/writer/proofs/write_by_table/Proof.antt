@@ -1,18 +1,18 @@
--- `write_by_tables` meets its contract, by the laws of Spacing.
+-- `write_by_table` meets its contract, by the laws of Spacing.
 use Prim.Native.Nat.{_-_}
 use native.Mathlib.Omega.{arith}
 use lib.ListN.{length}
 use borrow.Author.Needs.{needs}
 use Rattle.writer.proofs.Spacing.{Spaced, spaced-start, spaced-more, spaced-all}
 use Rattle.writer.proofs.Lengths.{spaced-fits}
-use Rattle.writer.proofs.write_by_tables.Statement.{statement}
-use Rattle.writer.proofs.write_by_tables.Tie as tie
+use Rattle.writer.proofs.write_by_table.Statement.{statement}
+use Rattle.writer.proofs.write_by_table.Tie as tie
 
 abbrev Inv-loop : tie.InvT-loop
-Inv-loop m leading last out₀ put at₀ i₀ out at i = Spaced out₀ put m out at i
+Inv-loop m digits out₀ put at₀ i₀ out at i = Spaced out₀ put m out at i
 
 abbrev μ-loop : tie.MeasureT-loop
-μ-loop m leading last out₀ put at₀ i₀ out at i = length m - i
+μ-loop m digits out₀ put at₀ i₀ out at i = length m - i
 
 loop-holds : tie.Need-loop-holds Inv-loop μ-loop
 loop-holds c = search spaced-start
@@ -38,8 +38,8 @@ same-length c = search needs
 returns : tie.Need-returns Inv-loop μ-loop
 returns c = (search spaced-all, omega arith)
 
-pub write-by-tables-spec : {M : Type 1} → statement M
-write-by-tables-spec =
+pub write-by-table-spec : {M : Type 1} → statement M
+write-by-table-spec =
     tie.close
     (tie.spec
     Inv-loop
