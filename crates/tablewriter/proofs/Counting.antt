@@ -23,31 +23,31 @@ digits-few v h =
       | no l ↦ omega (arith, two-digits-long v (omega arith) h)
     ]
 
--- the digits of the first i numbers are counted
-pub record Counted (m : List ℕ) (sum i : ℕ) : Type 0 where
+-- the second digits of the first i numbers are counted
+pub record Counted (m : List ℕ) (count i : ℕ) : Type 0 where
   pub passed : i ≤ length m
-  pub value : sum ≡ figures (take i m)
-  pub few : sum ≤ 2 * i
+  pub value : count + i ≡ figures (take i m)
+  pub few : count ≤ i
 
 module _ (m : List ℕ) (short : TwoDigits m) where
-  pub figures-none : Counted m 0 0
+  pub second-none : Counted m 0 0
   unfolding figures
-  figures-none = record { passed = omega arith; value = refl; few = omega arith }
+  second-none = record { passed = omega arith; value = refl; few = omega arith }
 
-  pub figures-more : (sum i d : ℕ) → Counted m sum i → i < length m → d ≡ length (decimal (getD m i 0)) → Counted m (sum + d) (i + 1)
+  pub second-more : (count i d : ℕ) → Counted m count i → i < length m → d + 1 ≡ length (decimal (getD m i 0)) → Counted m (count + d) (i + 1)
   unfolding figures
-  figures-more sum i d p h e =
+  second-more count i d p h e =
       record {
         passed = omega arith;
         value = rw (add-one i, take-suc m i 0 h, figures-append (take i m) (getD m i 0 ∷ [])) (omega (arith, p .value, e));
         few = omega (arith, p .few, e, digits-few (getD m i 0) (short i h));
       }
 
-  pub figures-short : (i : ℕ) → i < length m → getD m i 0 < 100
-  figures-short i h = short i h
+  pub second-short : (i : ℕ) → i < length m → getD m i 0 < 100
+  second-short i h = short i h
 
-  pub figures-counted : (sum i : ℕ) → Counted m sum i → length m ≤ i → sum ≡ figures m
-  figures-counted sum i p h = p .value ∙ ap figures (take-all i m h)
+  pub second-all : (count i : ℕ) → Counted m count i → length m ≤ i → count + length m ≡ figures m
+  second-all count i p h = let e : i ≡ length m = omega (arith, p .passed) in omega (arith, p .value, ap figures (take-all i m h))
 
 -- numbers below 100 have two digits each at most
 pub figures-few : (m : List ℕ) → TwoDigits m → figures m ≤ 2 * length m
@@ -99,7 +99,7 @@ pub record Summed (n : ℕ) (arities cells : List ℕ) (sum j : ℕ) : Type 0 wh
   pub small : sum ≤ 10 + 65536 + 270473 * j
 
 module _ (n : ℕ) (arities cells : List ℕ) (m : Measurable n arities cells) where
-  pub summed-none : (d f : ℕ) → d ≡ length (decimal n) → f ≡ figures cells → Summed n arities cells (8 + d + f) 0
+  pub summed-none : (d f : ℕ) → d ≡ length (decimal n) → f + length cells ≡ figures cells → Summed n arities cells (8 + d + length cells + f) 0
   unfolding frames
   summed-none d f e g =
       record {

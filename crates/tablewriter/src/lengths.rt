@@ -1,11 +1,11 @@
 // How long the text of an algebra is: brackets and gaps by the arities, digits by the cells.
 ghost use mathlib.Core.Path.{_≡_};
-ghost use Prim.Native.Nat.{_≤_, _<_};
+ghost use Prim.Native.Nat.{_+_, _≤_, _<_};
 ghost use lib.ListN.{length};
 ghost use Rattle.algebra.specs.Algebra.{algebraIn};
 ghost use Rattle.writer.specs.Numerals.{decimal};
 ghost use Rattle.tablewriter.specs.Texts.{algebraText};
-ghost use Rattle.tablewriter.specs.InnerLengths.{frame as frameOf, figures as figuresOf, TwoDigits, Measurable};
+ghost use Rattle.tablewriter.specs.InnerLengths.{frame as frameOf, figures, TwoDigits, Measurable};
 
 // How many digits a number below 100 has.
 fn digits(v: u8) -> usize
@@ -15,19 +15,27 @@ fn digits(v: u8) -> usize
     if v < 10 { 1 } else { 2 }
 }
 
-// How many digits numbers below 100 have together. All are read without an early exit, so that the loop can take many at a time.
-fn figures(m: &[u8]) -> usize
+// 1 for a number from 10 on, else 0.
+fn second_digit(v: u8) -> u16
+    requires { ⌜ v < 100 ⌝ }
+    ensures { λ r. ⌜ r + 1 ≡ length (decimal v) ⌝ }
+{
+    if v < 10 { 0 } else { 1 }
+}
+
+// How many of the numbers, all below 100, have two digits. They are read without an early exit and counted in 16 bits, so that the loop can take many at a time.
+fn second_digits(m: &[u8]) -> u16
     requires { ⌜ TwoDigits (now m) ⌝ }
     requires { ⌜ length (now m) ≤ 32768 ⌝ }
-    ensures { λ r. ⌜ r ≡ figuresOf (now (m .entry)) ⌝ }
+    ensures { λ r. ⌜ r + length (now (m .entry)) ≡ figures (now (m .entry)) ⌝ }
 {
-    let mut sum = 0;
+    let mut count: u16 = 0;
     let mut i = 0;
     while i < m.len() {
-        sum = sum + digits(m[i]);
+        count = count + second_digit(m[i]);
         i += 1;
     }
-    sum
+    count
 }
 
 // The brackets and gaps of a table.
@@ -50,7 +58,7 @@ pub fn text_length(n: usize, arities: &[u8], cells: &[u8]) -> usize
     requires { ⌜ Measurable n (now arities) (now cells) ⌝ }
     ensures { λ r. ⌜ r ≡ length (algebraText (algebraIn n (arities .entry) (cells .entry))) ⌝ }
 {
-    let mut sum = 8 + digits(n as u8) + figures(cells);
+    let mut sum = 8 + digits(n as u8) + cells.len() + second_digits(cells) as usize;
     let mut j = 0;
     while j < arities.len() {
         sum = sum + 8 + frame(n, arities[j]);

@@ -20,19 +20,25 @@ digits-requires : tie.Need-digits-requires Inv-loop μ-loop
 digits-requires c κs = search needs
 
 add-sum : tie.Need-add-sum Inv-loop μ-loop
-add-sum c = let k = c .before .before .before in omega (arith, digits-few (k .args .n) (omega arith), c .digits .ensures)
-
-figures-requires : tie.Need-figures-requires Inv-loop μ-loop
-figures-requires c κs = search needs
+add-sum c = omega (arith, digits-few (c .before .before .before .args .n) (omega arith), c .digits .ensures)
 
 add-sum-2 : tie.Need-add-sum-2 Inv-loop μ-loop
-add-sum-2 c = omega (arith, summed-none _ _ _ (c .before .before .before .before .pre) _ _ (c .before .digits .ensures) (c .figures .ensures))
+add-sum-2 c = omega (arith, digits-few (c .before .before .before .args .n) (omega arith), c .digits .ensures)
+
+second-digits-requires : tie.Need-second-digits-requires Inv-loop μ-loop
+second-digits-requires c κs = search needs
+
+cast-sum : tie.Need-cast-sum Inv-loop μ-loop
+cast-sum c = search needs
+
+add-sum-3 : tie.Need-add-sum-3 Inv-loop μ-loop
+add-sum-3 c = omega (arith, summed-none _ _ _ (c .before .before .before .before .pre) _ _ (c .before .digits .ensures) (c .second-digits .ensures))
 
 loop-holds : tie.Need-loop-holds Inv-loop μ-loop
 loop-holds c = search summed-none
 
-add-sum-3 : tie.Need-add-sum-3 Inv-loop μ-loop
-add-sum-3 c = search needs
+add-sum-4 : tie.Need-add-sum-4 Inv-loop μ-loop
+add-sum-4 c = search needs
 
 shared-slice-read-frame : tie.Need-shared-slice-read-frame Inv-loop μ-loop
 shared-slice-read-frame c = search needs
@@ -42,8 +48,8 @@ frame-requires c κs =
     let p = c .before .before .before .before .before .before .before .pre in
     (p .tables .most, p .tables .arity (c .before .before .loop .j) (c .before .loop-test .taken))
 
-add-sum-4 : tie.Need-add-sum-4 Inv-loop μ-loop
-add-sum-4 c =
+add-sum-5 : tie.Need-add-sum-5 Inv-loop μ-loop
+add-sum-5 c =
     let k = c .before .before in
     omega (arith, summed-next _ _ _ (k .before .before .before .before .before .before .pre) _ _ _ (k .before .loop .inv) (k .loop-test .taken) (c .frame .ensures))
 
@@ -68,13 +74,15 @@ text-length-spec =
     cast-digits
     digits-requires
     add-sum
-    figures-requires
     add-sum-2
-    loop-holds
+    second-digits-requires
+    cast-sum
     add-sum-3
+    loop-holds
+    add-sum-4
     shared-slice-read-frame
     frame-requires
-    add-sum-4
+    add-sum-5
     add-j
     loop-less
     loop-again
