@@ -1,18 +1,16 @@
 -- How long what is written is: a number has one digit at least, and a byte three at most.
-use Prim.Native.Nat.{ℕ, suc, _+_, _-_, _*_, _≤_, _<_}
+use Prim.Native.Nat.{ℕ, suc, _+_, _*_, _≤_, _<_}
 use mathlib.Core.List.{List, [], _∷_, _++_}
-use mathlib.Core.Path.{_≡_, refl, ap, sym, _∙_}
+use mathlib.Core.Path.{_≡_, ap, sym, _∙_}
 use native.Mathlib.Decide.{decLt}
 use native.Mathlib.Omega.{arith}
-use lib.ListN.{length, getD, take, drop, length-append, length-drop, take-append-drop}
-use lib.Seq.{drop-cons, take-all}
+use lib.ListN.{length, getD, take, drop, length-append, take-append-drop}
+use lib.Seq.{drop-cons}
 use Rattle.reader.specs.Reading.{ascii}
-use Rattle.reader.specs.Laying.{Laid}
-use Rattle.writer.specs.InnerRoom.{LaidOpen}
 use Rattle.writer.specs.Numerals.{decimal}
 use Rattle.writer.specs.Lines.{gapBytes, spaced, bracketed}
 use Rattle.writer.proofs.Digits.{decimal-one, decimal-two, decimal-three, decimal-some}
-use Rattle.writer.proofs.Spacing.{Spaced, spaced-append, bracketed-parts}
+use Rattle.writer.proofs.Spacing.{Spaced, spaced-append}
 
 -- one digit below 10, two from there on
 pub one-digit-long : (v : ℕ) → v < 10 → length (decimal v) ≡ 1
@@ -46,25 +44,17 @@ spaced-short [] b = omega arith
 spaced-short (x ∷ rest) b =
     omega (arith, spaced-length x rest, decimal-short x (b 0), spaced-short rest (λ i. b (suc i)))
 
--- a bracket, its numbers as a slice has them
-pub bracketed-length : (m : List ℕ) → 0 < length m
-    → length (bracketed m) ≡ 2 + length (decimal (getD m 0 0)) + length (spaced (take (length m - 1) (drop 1 m)))
-bracketed-length m h =
-    let e : take (length m - 1) (drop 1 m) ≡ drop 1 m = take-all (length m - 1) (drop 1 m) (rw length-drop (omega arith)) in
-    rw (bracketed-parts m h, e)
-    (omega (arith, length-append (decimal (getD m 0 0)) (spaced (drop 1 m) ++ (93 ∷ [])), length-append (spaced (drop 1 m)) (93 ∷ [])))
+-- a bracket has one byte more than its numbers, each after a space
+bracketed-length : (m : List ℕ) → 0 < length m → length (bracketed m) ≡ length (spaced m) + 1
+unfolding bracketed spaced gapBytes ascii
+bracketed-length [] h = absurd (omega arith)
+bracketed-length (x ∷ rest) h = omega (arith, length-append (decimal x ++ spaced rest) (93 ∷ []))
+
+pub bracket-fits : (m out : List ℕ) (put : ℕ) → 0 < length m → put + length (bracketed m) + 1 ≤ length out → put + length (spaced m) + 2 ≤ length out
+bracket-fits m out put some room = omega (arith, bracketed-length m some)
 
 pub bracketed-short : (m : List ℕ) → 0 < length m → Bytes m → length (bracketed m) ≤ 4 * length m + 1
-unfolding bracketed ascii
-bracketed-short [] h b = absurd (omega arith)
-bracketed-short (x ∷ rest) h b =
-    omega (
-      arith,
-      length-append (decimal x ++ spaced rest) (93 ∷ []),
-      length-append (decimal x) (spaced rest),
-      decimal-short x (b 0),
-      spaced-short rest (λ i. b (suc i)),
-    )
+bracketed-short m h b = omega (arith, bracketed-length m h, spaced-short m b)
 
 -- a number after a space has two bytes at least
 pub number-fits : (v put : ℕ) (out : List ℕ) → put + length (spaced (v ∷ [])) + 2 ≤ length out → put + 4 ≤ length out
@@ -82,16 +72,3 @@ spaced-room m i h =
 pub spaced-fits : (lent : List ℕ) (put : ℕ) (m out : List ℕ) (at i : ℕ) → put + length (spaced m) + 2 ≤ length lent → Spaced lent put m out at i → i < length m
     → at + length (spaced (getD m i 0 ∷ [])) + 2 ≤ length out
 spaced-fits lent put m out at i room p h = omega (arith, room, p .laid .place, p .laid .long, spaced-room m i h)
-
--- a bracket, piece by piece: there is room for each
-module _ (m lent : List ℕ) (put : ℕ) (some : 0 < length m) (room : put + length (bracketed m) + 1 ≤ length lent) (mid : List ℕ) (at : ℕ)
-    (p : Laid lent put (91 ∷ []) mid at) where
-  pub bracket-number-fits : at + 3 ≤ length mid
-  bracket-number-fits = omega (arith, room, bracketed-length m some, decimal-some (getD m 0 0), p .place, p .long)
-
-  module _ (mid′ : List ℕ) (at′ : ℕ) (q : Laid mid at (decimal (getD m 0 0)) mid′ at′) where
-    pub bracket-rest-fits : at′ + length (spaced (take (length m - 1) (drop 1 m))) + 2 ≤ length mid′
-    bracket-rest-fits = omega (arith, room, bracketed-length m some, p .place, p .long, q .place, q .long)
-
-    pub bracket-end-fits : (mid″ : List ℕ) (at″ : ℕ) → LaidOpen mid′ at′ (spaced (take (length m - 1) (drop 1 m))) mid″ at″ → at″ < length mid″
-    bracket-end-fits mid″ at″ r = omega (arith, r .within, r .long)

@@ -1,12 +1,12 @@
--- Bytes laid with one open byte behind them: nothing yet, one number more, and what closes them.
-use Prim.Native.Nat.{ℕ, suc, _+_, _-_, _/_, _%_, _≤_, _<_}
+-- Bytes laid with one open byte behind them: nothing yet, one number more, what closes them, and their first byte replaced.
+use Prim.Native.Nat.{ℕ, suc, _+_, _≤_, _<_}
 use mathlib.Core.List.{List, [], _∷_, _++_, append-assoc}
 use mathlib.Core.Path.{_≡_, refl, ap, sym, _∙_}
 use native.Mathlib.Omega.{arith}
-use lib.ListN.{length, getD, set, length-append}
-use lib.Seq.{set-getD, set-set}
+use lib.ListN.{length, getD, take, drop, set, length-append}
+use lib.Seq.{set-getD, set-set, set-append-seam, length-take-le}
 use Rattle.equivalence.specs.Lent.{laid}
-use Rattle.equivalence.proofs.Laying.{laid-byte, laid-length, laid-laid}
+use Rattle.equivalence.proofs.Laying.{laid-parts, laid-byte, laid-length, laid-laid}
 use Rattle.reader.specs.Laying.{Laid}
 use Rattle.reader.proofs.Laying.{laid-more}
 use Rattle.writer.specs.InnerRoom.{LaidOpen}
@@ -85,3 +85,20 @@ module _ (lent : List ℕ) (put : ℕ) where
       let x : ℕ = q .over in
       laid-cut lent put (a ++ (b ∷ rest)) x after end
       (rw (append-assoc a (b ∷ rest) (x ∷ [])) (open-closed a mid at b (rest ++ (x ∷ [])) after (end + 1) p (open-laid q)))
+
+  -- the first of the bytes that were laid, replaced
+  pub first-replaced : (b c : ℕ) (rest mid : List ℕ) (end : ℕ) (after : List ℕ) (at : ℕ) → Laid lent put (b ∷ rest) mid end → Laid mid put (c ∷ []) after at
+      → Laid lent put (c ∷ rest) after end
+  first-replaced b c rest mid end after at p q =
+      let front : List ℕ = take put lent in
+      let back : List ℕ = rest ++ drop (put + suc (length rest)) lent in
+      let e : length front ≡ put = length-take-le put lent (omega (arith, p .place, p .within)) in
+      let seam : set (front ++ (b ∷ back)) put c ≡ front ++ (c ∷ back) = rw e at (set-append-seam front b back c) in
+      record {
+        place = omega (arith, p .place);
+        within = p .within;
+        long = q .long ∙ p .long;
+        bytes =
+            q .bytes ∙ sym (laid-byte mid put c (omega (arith, q .place, q .within)))
+            ∙ ap (λ (l : List ℕ). set l put c) (p .bytes ∙ laid-parts lent put (b ∷ rest)) ∙ seam ∙ sym (laid-parts lent put (c ∷ rest));
+      }

@@ -5,7 +5,7 @@ use mathlib.Core.Path.{_≡_, refl, ap, sym, _∙_}
 use native.Mathlib.Nat.{zero-mul, suc-mul, mul-le-mul-right}
 use native.Mathlib.Numerals.{add-one}
 use native.Mathlib.Omega.{arith}
-use lib.ListN.{length, getD, take, drop, length-drop, length-take}
+use lib.ListN.{length, getD, take, drop, length-take}
 use lib.Seq.{take-suc, take-all}
 use Rattle.equivalence.specs.Lists.{upTo}
 use Rattle.equivalence.specs.Lent.{stretch}
@@ -19,7 +19,7 @@ use Rattle.writer.specs.Lines.{gapBytes, spaced, bracketed, spacedBracke
 use Rattle.reader.specs.Laying.{Laid}
 use Rattle.reader.proofs.Laying.{laid-none, laid-more}
 use Rattle.writer.specs.InnerRoom.{LaidOpen, DigitTable}
-use Rattle.writer.proofs.Opening.{laid-cut, open-of, open-closed, open-more}
+use Rattle.writer.proofs.Opening.{laid-cut, open-of, open-closed, open-more, first-replaced}
 use Rattle.writer.proofs.Digits.{decimal-one, decimal-two, decimal-three}
 
 pub spaced-one : (v : ℕ) → spaced (v ∷ []) ≡ gapBytes ++ decimal v
@@ -133,15 +133,13 @@ module _ (lent : List ℕ) (put : ℕ) (mid : List ℕ) (at : ℕ) (after : List
         (rw (append-assoc gapBytes (getD digits (2 * v) 0 ∷ []) (getD digits (2 * v + 1) 0 ∷ [])) at laid-three))
         (omega arith)
 
-  pub numbers-in-bracket : (m mid′ : List ℕ) (at′ : ℕ) (mid″ : List ℕ) (at″ : ℕ) → 0 < length m
-      → Laid lent put (91 ∷ []) mid at → Laid mid at (decimal (getD m 0 0)) mid′ at′ → LaidOpen mid′ at′ (spaced (take (length m - 1) (drop 1 m))) mid″ at″
-      → Laid mid″ at″ (93 ∷ []) after end → Laid lent put (bracketed m) after end
-  numbers-in-bracket m mid′ at′ mid″ at″ h p q r s =
-      let e : take (length m - 1) (drop 1 m) ≡ drop 1 m = take-all (length m - 1) (drop 1 m) (rw length-drop (omega arith)) in
-      rw (bracketed-parts m h)
-      (laid-more lent put (91 ∷ []) mid at (decimal (getD m 0 0) ++ (spaced (drop 1 m) ++ (93 ∷ []))) after end p
-      (laid-more mid at (decimal (getD m 0 0)) mid′ at′ (spaced (drop 1 m) ++ (93 ∷ [])) after end q
-      (open-closed mid′ at′ (spaced (drop 1 m)) mid″ at″ 93 [] after end (rw e at r) s)))
+  pub numbers-in-bracket : (m mid′ : List ℕ) (at′ : ℕ) → 0 < length m → LaidOpen lent put (spaced m) mid at → Laid mid at (93 ∷ []) mid′ end
+      → Laid mid′ put (91 ∷ []) after at′ → Laid lent put (bracketed m) after end
+  unfolding bracketed spaced gapBytes ascii
+  numbers-in-bracket [] mid′ at′ h p q r = absurd (omega arith)
+  numbers-in-bracket (x ∷ rest) mid′ at′ h p q r =
+      first-replaced lent put 32 91 ((decimal x ++ spaced rest) ++ (93 ∷ [])) mid′ end after at′
+      (open-closed lent put (32 ∷ (decimal x ++ spaced rest)) mid at 93 [] mid′ end p q) r
 
   pub bracket-after-space : (m : List ℕ) → Laid lent put gapBytes mid at → Laid mid at (bracketed m) after end
       → Laid lent put (spacedBrackets (m ∷ [])) after end

@@ -128,16 +128,16 @@ fn write_spaced(m: &[u8], out: &mut [u8], put: usize) -> usize
     write_by_table(m, digits, out, put)
 }
 
-// Numbers in a bracket, parted by one space.
+// Numbers in a bracket, parted by one space: the bracket opens where the gap before the first number stood.
 pub fn write_bracketed(m: &[u8], out: &mut [u8], put: usize) -> usize
     requires { ⌜ (0 < length (now m)) × (put + length (bracketed (now m)) + 1 ≤ length (now out)) ⌝ }
     ensures { λ r. ⌜ Laid (now (out .entry)) put (bracketed (now (m .entry))) (now (out .exit)) r ⌝ }
     ensures short { λ r. ⌜ r ≤ put + 4 * length (now (m .entry)) + 1 ⌝ }
 {
-    let first = write_byte(b'[', out, put);
-    let rest = write_number(m[0], out, first);
-    let end = write_spaced(&m[1..], out, rest);
-    write_byte(b']', out, end)
+    let end = write_spaced(m, out, put);
+    let after = write_byte(b']', out, end);
+    write_byte(b'[', out, put);
+    after
 }
 
 // Numbers in a bracket after a space.
