@@ -1,4 +1,4 @@
--- What writers promise of a line, and what they ask of the room that they are lent.
+-- What writers promise of a line and of bytes that others overwrite next, what they ask of the room that they are lent, and of a table of digits.
 use Prim.Native.Nat.{ℕ, _+_, _*_, _/_, _%_, _≤_, _<_}
 use mathlib.Core.List.{List, [], _∷_, _++_}
 use mathlib.Core.Path.{_≡_}

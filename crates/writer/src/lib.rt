@@ -69,7 +69,8 @@ pub fn write_spaced_number(v: u8, out: &mut [u8], put: usize) -> usize
     write_number(v, out, after)
 }
 
-// A number below 64 after a gap, without a branch on its digits: where it has one digit, a byte too many is written, which stands open behind it.
+// A number below 64 after a gap, without a branch on its digits: where it has one digit, a byte too many is written, which stands open behind it. Both bytes are
+// read before the first is written, so that they can be moved at once.
 fn write_small(v: u8, digits: &[u8], out: &mut [u8], put: usize) -> usize
     requires { ⌜ (v < 64) × (put + 4 ≤ length (now out)) ⌝ }
     requires { ⌜ DigitTable (now digits) ⌝ }
@@ -101,7 +102,7 @@ fn write_open(v: u8, digits: &[u8], out: &mut [u8], put: usize) -> usize
     write_spaced_number(v, out, put)
 }
 
-// Numbers, each after a space, with an open byte behind them.
+// Numbers, each after a space, with an open byte behind them. The table is lent, so that it is laid out once and not for each number.
 fn write_by_table(m: &[u8], digits: &[u8], out: &mut [u8], put: usize) -> usize
     requires { ⌜ put + length (spaced (now m)) + 2 ≤ length (now out) ⌝ }
     requires { ⌜ DigitTable (now digits) ⌝ }
