@@ -7,7 +7,7 @@ use native.Mathlib.Decide.{ℕ-discrete}
 use native.Mathlib.Numerals.{sub-one}
 use native.Mathlib.Omega.{arith}
 use lib.ListN.{length, getD, take, drop, length-append, length-drop}
-use lib.Seq.{length-take-le, take-all}
+use lib.Seq.{drop-drop, length-take-le, take-all}
 use Rattle.reader.specs.Reading.{ascii}
 use Rattle.reader.specs.Laying.{Laid}
 use Rattle.reader.proofs.Laying.{laid-more}
@@ -188,3 +188,78 @@ module _ (n s left : ℕ) (cells : List ℕ) (put : ℕ) (lent : List ℕ) (f : 
               let rest = partedTexts (tableText n s) (n ^ s) (left - 1) (drop (n ^ s) cells) in
               rw (more-text h)
               (laid-more lent put (tableText n s cells) mid at (gapBytes ++ rest) out end p (laid-more mid at gapBytes mid′ at′ rest out end q (rw others-all at r)))
+
+-- rows of numbers, one by one: those that are left begin at `from`, and whoever writes them has written all
+pub record RowsLeft (n left : ℕ) (cells lent : List ℕ) (put : ℕ) (out : List ℕ) (at from more : ℕ) : Type 0 where
+  pub within : from ≤ length cells
+  pub long : length out ≡ length lent
+  pub fit : RowsFit n 1 more (drop from cells) at out
+  pub joins : (after : List ℕ) (end : ℕ) → Laid out at (partedTexts (tableText n 1) (n ^ 1) more (drop from cells)) after end
+      → Laid lent put (partedTexts (tableText n 1) (n ^ 1) left cells) after end
+
+pub rows-left-all : (n left : ℕ) (cells lent : List ℕ) (put : ℕ) → RowsFit n 1 left cells put lent → RowsLeft n left cells lent put lent put 0 left
+rows-left-all n left cells lent put f = record { within = omega arith; long = refl; fit = f; joins = λ after end l. l }
+
+module _ (n left : ℕ) (cells lent : List ℕ) (put : ℕ) (out : List ℕ) (at from more : ℕ) (p : RowsLeft n left cells lent put out at from more) where
+  one : n ^ 1 ≡ n
+  one = pow-succ' n 0 ∙ ap (λ (k : ℕ). n * k) (pow-zero n) ∙ mul-one n
+
+  next-fits : TableFits n 1 (drop from cells) at out
+  next-fits = first-fits n 1 more (drop from cells) at out (p .fit)
+
+  pub next-row-within : from + n ≤ length cells
+  next-row-within = omega (arith, row-there n 1 (drop from cells) at out next-fits refl, length-drop from cells, p .within)
+
+  -- the next row, as a slice has it
+  abbrev row : List ℕ
+  row = take (from + n - from) (drop from cells)
+
+  same-row : row ≡ take (n - 0) (drop 0 (drop from cells))
+  same-row = let e : from + n - from ≡ n - 0 = omega arith in ap (λ (k : ℕ). take k (drop from cells)) e
+
+  pub next-row-some : 0 < length row
+  next-row-some = rw same-row (row-some n 1 (drop from cells) at out next-fits refl)
+
+  pub next-row-fits : at + length (bracketed row) + 1 ≤ length out
+  next-row-fits = rw same-row (row-fits n 1 (drop from cells) at out next-fits refl)
+
+  module _ (mid : List ℕ) (end : ℕ) (q : Laid out at (bracketed row) mid end) where
+    row-laid : Laid out at (tableText n 1 (drop from cells)) mid end
+    row-laid = row-written n 1 (drop from cells) at out next-fits refl mid end (rw same-row at q)
+
+    -- the last of them
+    pub last-row-written : more ≤ 1 → Laid lent put (partedTexts (tableText n 1) (n ^ 1) left cells) mid end
+    last-row-written h = p .joins mid end (last-written n 1 more (drop from cells) at out (p .fit) mid end row-laid (omega (arith, p .fit .shape .rows)))
+
+    module _ (h : 1 < more) where
+      pub row-gap-fits : end < length mid
+      row-gap-fits = gap-fits n 1 more (drop from cells) at out (p .fit) mid end row-laid (λ e. omega arith)
+
+      rest-same : take (length (drop from cells) - n ^ 1) (drop (n ^ 1) (drop from cells)) ≡ drop (from + n) cells
+      rest-same =
+          take-all (length (drop from cells) - n ^ 1) (drop (n ^ 1) (drop from cells)) (rw length-drop (omega arith))
+          ∙ drop-drop (n ^ 1) from cells
+          ∙ ap (λ (k : ℕ). drop (from + k) cells) one
+
+      pub rows-left-more : (mid′ : List ℕ) (at′ : ℕ) → Laid mid end gapBytes mid′ at′ → RowsLeft n left cells lent put mid′ at′ (from + n) (more - 1)
+      rows-left-more mid′ at′ r =
+          let f = p .fit in
+          let d = drop from cells in
+          let g : more ≡ 1 → ⊥ = λ e. omega arith in
+          record {
+            within = next-row-within;
+            long = r .long ∙ q .long ∙ p .long;
+            fit = rw rest-same at (others-fit n 1 more d at out f mid end row-laid g (n ^ 1) refl mid′ at′ r);
+            joins =
+                λ after last l.
+                p .joins after last (others-written n 1 more d at out f mid end row-laid g (n ^ 1) refl mid′ at′ r after last (rw (← rest-same) at l));
+          }
+
+-- rows of arity 1 are rows of numbers
+module _ (n s left : ℕ) (cells : List ℕ) (put : ℕ) (lent : List ℕ) (e : s ≡ 1) where
+  pub number-rows-fit : RowsFit n s left cells put lent → RowsFit n 1 left cells put lent
+  number-rows-fit f = rw e at f
+
+  pub number-rows-written : (out : List ℕ) (end : ℕ) → Laid lent put (partedTexts (tableText n 1) (n ^ 1) left cells) out end
+      → Laid lent put (partedTexts (tableText n s) (n ^ s) left cells) out end
+  number-rows-written out end l = rw e l

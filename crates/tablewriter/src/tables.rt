@@ -9,6 +9,25 @@ ghost use Rattle.reader.specs.Laying.{Laid};
 ghost use Rattle.tablewriter.specs.Texts.{partedTexts, tableText};
 ghost use Rattle.tablewriter.specs.InnerFits.{RowsFit, TableFits};
 
+// So many rows of n numbers, parted by gaps: `write_rows` over tables of arity 1, without a call for each.
+fn write_number_rows(n: usize, left: usize, cells: &[u8], out: &mut [u8], put: usize) -> usize
+    requires { ⌜ RowsFit n 1 left (now cells) put (now out) ⌝ }
+    ensures { λ r. ⌜ Laid (now (out .entry)) put (partedTexts (tableText n 1) (n ^ 1) left (now (cells .entry))) (now (out .exit)) r ⌝ }
+{
+    let mut at = put;
+    let mut from = 0;
+    let mut more = left;
+    while 1 < more {
+        let to = from + n;
+        let end = write_bracketed(&cells[from..to], out, at);
+        at = write_gap(out, end);
+        from = to;
+        more -= 1;
+    }
+    let to = from + n;
+    write_bracketed(&cells[from..to], out, at)
+}
+
 // The table of an arity that the cells begin with: a number, a bracket of numbers, or a bracket of n tables of the arity below.
 pub fn write_table(n: usize, arity: u8, cells: &[u8], out: &mut [u8], put: usize) -> usize
     requires { ⌜ TableFits n arity (now cells) put (now out) ⌝ }
@@ -30,6 +49,9 @@ fn write_rows(n: usize, arity: u8, left: usize, cells: &[u8], out: &mut [u8], pu
     requires { ⌜ RowsFit n arity left (now cells) put (now out) ⌝ }
     ensures { λ r. ⌜ Laid (now (out .entry)) put (partedTexts (tableText n arity) (n ^ arity) left (now (cells .entry))) (now (out .exit)) r ⌝ }
 {
+    if arity == 1 {
+        return write_number_rows(n, left, cells, out, put);
+    }
     let end = write_table(n, arity, cells, out, put);
     if left == 1 {
         return end;

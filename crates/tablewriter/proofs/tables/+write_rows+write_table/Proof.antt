@@ -1,7 +1,7 @@
 -- `tables::write_rows` and `tables::write_table` meet their contracts, by the laws of Tabling. The measure is the arity, then the tables left.
 use native.Mathlib.Omega.{arith}
 use borrow.Author.Needs.{needs}
-use Rattle.tablewriter.proofs.Tabling.{number-there, number-fits, number-written, row-there, row-some, row-fits, row-written}
+use Rattle.tablewriter.proofs.Tabling.{number-there, number-fits, number-written, row-there, row-some, row-fits, row-written, number-rows-fit, number-rows-written}
 use Rattle.tablewriter.proofs.Tabling.{rows-fit, close-fits, rows-written, first-fits, last-written, gap-fits, width-within, others-fit, others-written}
 use Prim.Native.Nat.{ℕ, _+_, _*_, _<_}
 use borrow.Fn.Kinds.{In}
@@ -13,6 +13,7 @@ use Rattle.tablewriter.proofs.tables.write_table.Reads as write-table
 use Rattle.tablewriter.proofs.tables.write_table.Kinds as write-table-kinds
 use Rattle.tablewriter.proofs.tables.+write_rows+write_table.Lts-write_table as write-table-lts
 use Rattle.algebra.proofs.power.Reads as power-reads
+use Rattle.tablewriter.proofs.tables.write_number_rows.Reads as write-number-rows-reads
 use Rattle.writer.proofs.write_bracketed.Reads as write-bracketed-reads
 use Rattle.writer.proofs.write_byte.Reads as write-byte-reads
 use Rattle.writer.proofs.write_gap.Reads as write-gap-reads
@@ -42,7 +43,9 @@ abbrev write-table-below : ℕ → In 2 write-table-kinds.ps
 write-table-below t =
     and 2 write-table-kinds.ps (falls 2 write-table-kinds.ps _<_ μ-write-table t) write-table.Pre
 
-write-rows-write-table-requires : (t : ℕ) → write-rows-lts.Need-write-table-requires (
+write-rows-write-number-rows-requires : (t : ℕ) → write-rows-lts.Need-write-number-rows-requires (
+  write-number-rows-reads.Asked,
+  write-number-rows-reads.Learnt,
   write-table-below t,
   write-table.Post,
   power-reads.Asked,
@@ -52,9 +55,11 @@ write-rows-write-table-requires : (t : ℕ) → write-rows-lts.Need-write-table-
   write-rows-below t,
   write-rows.Post,
 ) (write-rows-at t) write-rows.Post
-write-rows-write-table-requires t c κs = (omega arith, search first-fits)
+write-rows-write-number-rows-requires t c κs = search number-rows-fit
 
 write-rows-same-length : (t : ℕ) → write-rows-lts.Need-same-length (
+  write-number-rows-reads.Asked,
+  write-number-rows-reads.Learnt,
   write-table-below t,
   write-table.Post,
   power-reads.Asked,
@@ -67,6 +72,8 @@ write-rows-same-length : (t : ℕ) → write-rows-lts.Need-same-length (
 write-rows-same-length t c = search needs
 
 write-rows-returns : (t : ℕ) → write-rows-lts.Need-returns (
+  write-number-rows-reads.Asked,
+  write-number-rows-reads.Learnt,
   write-table-below t,
   write-table.Post,
   power-reads.Asked,
@@ -76,9 +83,11 @@ write-rows-returns : (t : ℕ) → write-rows-lts.Need-returns (
   write-rows-below t,
   write-rows.Post,
 ) (write-rows-at t) write-rows.Post
-write-rows-returns t c = search last-written
+write-rows-returns t c = search number-rows-written
 
-write-rows-power-requires : (t : ℕ) → write-rows-lts.Need-power-requires (
+write-rows-write-table-requires : (t : ℕ) → write-rows-lts.Need-write-table-requires (
+  write-number-rows-reads.Asked,
+  write-number-rows-reads.Learnt,
   write-table-below t,
   write-table.Post,
   power-reads.Asked,
@@ -88,81 +97,11 @@ write-rows-power-requires : (t : ℕ) → write-rows-lts.Need-power-requires (
   write-rows-below t,
   write-rows.Post,
 ) (write-rows-at t) write-rows.Post
-write-rows-power-requires t c κs = search needs
-
-write-rows-write-gap-requires : (t : ℕ) → write-rows-lts.Need-write-gap-requires (
-  write-table-below t,
-  write-table.Post,
-  power-reads.Asked,
-  power-reads.Learnt,
-  write-gap-reads.Asked,
-  write-gap-reads.Learnt,
-  write-rows-below t,
-  write-rows.Post,
-) (write-rows-at t) write-rows.Post
-write-rows-write-gap-requires t c κs = search gap-fits
-
-write-rows-sub-write-rows : (t : ℕ) → write-rows-lts.Need-sub-write-rows (
-  write-table-below t,
-  write-table.Post,
-  power-reads.Asked,
-  power-reads.Learnt,
-  write-gap-reads.Asked,
-  write-gap-reads.Learnt,
-  write-rows-below t,
-  write-rows.Post,
-) (write-rows-at t) write-rows.Post
-write-rows-sub-write-rows t c = search needs
-
-write-rows-sub-write-rows-2 : (t : ℕ) → write-rows-lts.Need-sub-write-rows-2 (
-  write-table-below t,
-  write-table.Post,
-  power-reads.Asked,
-  power-reads.Learnt,
-  write-gap-reads.Asked,
-  write-gap-reads.Learnt,
-  write-rows-below t,
-  write-rows.Post,
-) (write-rows-at t) write-rows.Post
-write-rows-sub-write-rows-2 t c = search width-within
-
-write-rows-part-write-rows-start : (t : ℕ) → write-rows-lts.Need-part-write-rows-start (
-  write-table-below t,
-  write-table.Post,
-  power-reads.Asked,
-  power-reads.Learnt,
-  write-gap-reads.Asked,
-  write-gap-reads.Learnt,
-  write-rows-below t,
-  write-rows.Post,
-) (write-rows-at t) write-rows.Post
-write-rows-part-write-rows-start t c = search width-within
-
-write-rows-part-write-rows-end : (t : ℕ) → write-rows-lts.Need-part-write-rows-end (
-  write-table-below t,
-  write-table.Post,
-  power-reads.Asked,
-  power-reads.Learnt,
-  write-gap-reads.Asked,
-  write-gap-reads.Learnt,
-  write-rows-below t,
-  write-rows.Post,
-) (write-rows-at t) write-rows.Post
-write-rows-part-write-rows-end t c = search needs
-
-write-rows-write-rows-requires : (t : ℕ) → write-rows-lts.Need-write-rows-requires (
-  write-table-below t,
-  write-table.Post,
-  power-reads.Asked,
-  power-reads.Learnt,
-  write-gap-reads.Asked,
-  write-gap-reads.Learnt,
-  write-rows-below t,
-  write-rows.Post,
-) (write-rows-at t) write-rows.Post
-write-rows-write-rows-requires t c κs = (omega arith, search others-fit)
+write-rows-write-table-requires t c κs = (omega arith, search first-fits)
 
 write-rows-same-length-2 : (t : ℕ) → write-rows-lts.Need-same-length-2 (
+  write-number-rows-reads.Asked,
+  write-number-rows-reads.Learnt,
   write-table-below t,
   write-table.Post,
   power-reads.Asked,
@@ -175,6 +114,8 @@ write-rows-same-length-2 : (t : ℕ) → write-rows-lts.Need-same-length-2 (
 write-rows-same-length-2 t c = search needs
 
 write-rows-returns-2 : (t : ℕ) → write-rows-lts.Need-returns-2 (
+  write-number-rows-reads.Asked,
+  write-number-rows-reads.Learnt,
   write-table-below t,
   write-table.Post,
   power-reads.Asked,
@@ -184,7 +125,133 @@ write-rows-returns-2 : (t : ℕ) → write-rows-lts.Need-returns-2 (
   write-rows-below t,
   write-rows.Post,
 ) (write-rows-at t) write-rows.Post
-write-rows-returns-2 t c = search others-written
+write-rows-returns-2 t c = search last-written
+
+write-rows-power-requires : (t : ℕ) → write-rows-lts.Need-power-requires (
+  write-number-rows-reads.Asked,
+  write-number-rows-reads.Learnt,
+  write-table-below t,
+  write-table.Post,
+  power-reads.Asked,
+  power-reads.Learnt,
+  write-gap-reads.Asked,
+  write-gap-reads.Learnt,
+  write-rows-below t,
+  write-rows.Post,
+) (write-rows-at t) write-rows.Post
+write-rows-power-requires t c κs = search needs
+
+write-rows-write-gap-requires : (t : ℕ) → write-rows-lts.Need-write-gap-requires (
+  write-number-rows-reads.Asked,
+  write-number-rows-reads.Learnt,
+  write-table-below t,
+  write-table.Post,
+  power-reads.Asked,
+  power-reads.Learnt,
+  write-gap-reads.Asked,
+  write-gap-reads.Learnt,
+  write-rows-below t,
+  write-rows.Post,
+) (write-rows-at t) write-rows.Post
+write-rows-write-gap-requires t c κs = search gap-fits
+
+write-rows-sub-write-rows : (t : ℕ) → write-rows-lts.Need-sub-write-rows (
+  write-number-rows-reads.Asked,
+  write-number-rows-reads.Learnt,
+  write-table-below t,
+  write-table.Post,
+  power-reads.Asked,
+  power-reads.Learnt,
+  write-gap-reads.Asked,
+  write-gap-reads.Learnt,
+  write-rows-below t,
+  write-rows.Post,
+) (write-rows-at t) write-rows.Post
+write-rows-sub-write-rows t c = search needs
+
+write-rows-sub-write-rows-2 : (t : ℕ) → write-rows-lts.Need-sub-write-rows-2 (
+  write-number-rows-reads.Asked,
+  write-number-rows-reads.Learnt,
+  write-table-below t,
+  write-table.Post,
+  power-reads.Asked,
+  power-reads.Learnt,
+  write-gap-reads.Asked,
+  write-gap-reads.Learnt,
+  write-rows-below t,
+  write-rows.Post,
+) (write-rows-at t) write-rows.Post
+write-rows-sub-write-rows-2 t c = search width-within
+
+write-rows-part-write-rows-start : (t : ℕ) → write-rows-lts.Need-part-write-rows-start (
+  write-number-rows-reads.Asked,
+  write-number-rows-reads.Learnt,
+  write-table-below t,
+  write-table.Post,
+  power-reads.Asked,
+  power-reads.Learnt,
+  write-gap-reads.Asked,
+  write-gap-reads.Learnt,
+  write-rows-below t,
+  write-rows.Post,
+) (write-rows-at t) write-rows.Post
+write-rows-part-write-rows-start t c = search width-within
+
+write-rows-part-write-rows-end : (t : ℕ) → write-rows-lts.Need-part-write-rows-end (
+  write-number-rows-reads.Asked,
+  write-number-rows-reads.Learnt,
+  write-table-below t,
+  write-table.Post,
+  power-reads.Asked,
+  power-reads.Learnt,
+  write-gap-reads.Asked,
+  write-gap-reads.Learnt,
+  write-rows-below t,
+  write-rows.Post,
+) (write-rows-at t) write-rows.Post
+write-rows-part-write-rows-end t c = search needs
+
+write-rows-write-rows-requires : (t : ℕ) → write-rows-lts.Need-write-rows-requires (
+  write-number-rows-reads.Asked,
+  write-number-rows-reads.Learnt,
+  write-table-below t,
+  write-table.Post,
+  power-reads.Asked,
+  power-reads.Learnt,
+  write-gap-reads.Asked,
+  write-gap-reads.Learnt,
+  write-rows-below t,
+  write-rows.Post,
+) (write-rows-at t) write-rows.Post
+write-rows-write-rows-requires t c κs = (omega arith, search others-fit)
+
+write-rows-same-length-3 : (t : ℕ) → write-rows-lts.Need-same-length-3 (
+  write-number-rows-reads.Asked,
+  write-number-rows-reads.Learnt,
+  write-table-below t,
+  write-table.Post,
+  power-reads.Asked,
+  power-reads.Learnt,
+  write-gap-reads.Asked,
+  write-gap-reads.Learnt,
+  write-rows-below t,
+  write-rows.Post,
+) (write-rows-at t) write-rows.Post
+write-rows-same-length-3 t c = search needs
+
+write-rows-returns-3 : (t : ℕ) → write-rows-lts.Need-returns-3 (
+  write-number-rows-reads.Asked,
+  write-number-rows-reads.Learnt,
+  write-table-below t,
+  write-table.Post,
+  power-reads.Asked,
+  power-reads.Learnt,
+  write-gap-reads.Asked,
+  write-gap-reads.Learnt,
+  write-rows-below t,
+  write-rows.Post,
+) (write-rows-at t) write-rows.Post
+write-rows-returns-3 t c = search others-written
 
 write-table-shared-slice-read-write-number :
     (t : ℕ) → write-table-lts.Need-shared-slice-read-write-number (
@@ -381,6 +448,8 @@ write-table-returns-3 t c = search rows-written
 
 pub +write-rows+write-table-spec : {M : Type 1} → statement M
 +write-rows+write-table-spec = close μ-write-rows μ-write-table (λ t. write-rows-lts.spec (
+  write-number-rows-reads.Asked,
+  write-number-rows-reads.Learnt,
   write-table-below t,
   write-table.Post,
   power-reads.Asked,
@@ -392,9 +461,12 @@ pub +write-rows+write-table-spec : {M : Type 1} → statement M
 )
     (write-rows-at t)
     write-rows.Post
-    (write-rows-write-table-requires t)
+    (write-rows-write-number-rows-requires t)
     (write-rows-same-length t)
     (write-rows-returns t)
+    (write-rows-write-table-requires t)
+    (write-rows-same-length-2 t)
+    (write-rows-returns-2 t)
     (write-rows-power-requires t)
     (write-rows-write-gap-requires t)
     (write-rows-sub-write-rows t)
@@ -402,8 +474,8 @@ pub +write-rows+write-table-spec : {M : Type 1} → statement M
     (write-rows-part-write-rows-start t)
     (write-rows-part-write-rows-end t)
     (write-rows-write-rows-requires t)
-    (write-rows-same-length-2 t)
-    (write-rows-returns-2 t))
+    (write-rows-same-length-3 t)
+    (write-rows-returns-3 t))
     λ t. write-table-lts.spec (
       write-number-reads.Asked,
       write-number-reads.Learnt,
