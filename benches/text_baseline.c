@@ -1,9 +1,9 @@
 /* The optimized writer and reader of algebra texts (see text_baseline.h).
  *
  * The writer makes one pass over the cells for reason 6 and the text's length,
- * and one that writes: four bytes from a table for each number. The reader goes
- * through the text once, byte by byte, into an array of its own; the cells are
- * lent theirs when the whole text is accepted. */
+ * and one that writes, digit by digit. The reader goes through the text once,
+ * byte by byte, into an array of its own; the cells are lent theirs when the
+ * whole text is accepted. */
 #include "text_baseline.h"
 
 #include <string.h>
@@ -11,16 +11,6 @@
 enum { MAX_SIZE = 64, MAX_OPERATIONS = 16, MAX_ARITY = 3, MAX_CELLS = 32768, HEAD = 2 + MAX_OPERATIONS, NO_HEAD = 255 };
 
 /* ---- the writer --------------------------------------------------------- */
-
-/* Each number below 64 with the space behind it, and how many bytes these are. */
-#define ONE(d) {'0' + d, ' ', 0, 2}
-#define TWO(t, d) {'0' + t, '0' + d, ' ', 3}
-#define FIVE(t, d) TWO(t, d), TWO(t, d + 1), TWO(t, d + 2), TWO(t, d + 3), TWO(t, d + 4)
-#define TEN(t) FIVE(t, 0), FIVE(t, 5)
-static const uint8_t item[MAX_SIZE + 6][4] = {
-    ONE(0), ONE(1), ONE(2), ONE(3), ONE(4), ONE(5), ONE(6), ONE(7), ONE(8), ONE(9),
-    TEN(1), TEN(2), TEN(3), TEN(4), TEN(5), TEN(6),
-};
 
 static uint8_t *put(uint8_t *p, const char *bytes, size_t count)
 {
@@ -37,15 +27,12 @@ static uint8_t *put_number(uint8_t *p, size_t value)
     return p;
 }
 
-/* Four bytes are stored for each item, of which the next one overwrites what it
- * does not need. Behind the last there still are a bracket and "]\n". */
 static uint8_t *put_row(uint8_t *p, const uint8_t *cells, size_t n)
 {
     *p++ = '[';
     for (size_t i = 0; i < n; i++) {
-        const uint8_t *next = item[cells[i]];
-        memcpy(p, next, 4);
-        p += next[3];
+        p = put_number(p, cells[i]);
+        *p++ = ' ';
     }
     p[-1] = ']';
     return p;

@@ -24,10 +24,10 @@ pub record RunWritten (text : List ℕ) (s : Standing) (arities room out : List 
   pub enough : Enough text arities room out
   pub within : written ≤ length (transcript text)
   pub rest : drop written (transcript text) ≡ remaining text (positionOf s arities room)
-  pub bounded : written + 163840 * distance text (positionOf s arities room) ≤ 163840 * (length text + 2)
+  pub bounded : written + 147840 * distance text (positionOf s arities room) ≤ 147840 * (length text + 2)
 
 -- no line wants more than the program lends
-room-enough : (at n cells : ℕ) → n ≤ 64 → cells ≤ 32768 → roomFrom at n cells ≤ 163840
+room-enough : (at n cells : ℕ) → n ≤ 64 → cells ≤ 32768 → roomFrom at n cells ≤ 147840
 room-enough zero n cells h l = omega arith
 room-enough (suc at) n cells h l = omega arith
 
@@ -80,7 +80,7 @@ module _ (text : List ℕ) (s : Standing) (arities room out : List ℕ) (written
       (goes-far text s arities room g)
       (filling .fill)
 
-  few : length (filling .bytes) ≤ 163840
+  few : length (filling .bytes) ≤ 147840
   few = omega (arith, filling .laid .place, filling .laid .within, w .enough .long)
 
   -- so that the count stays small

@@ -9,4 +9,4 @@ pub record Enough (text arities room out : List ℕ) : Type 0 where
   pub most : length text ≤ 65537
   pub sixteen : 16 ≤ length arities
   pub storage : length text ≤ length room
-  pub long : 163840 ≡ length out
+  pub long : 147840 ≡ length out

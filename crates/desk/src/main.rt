@@ -14,11 +14,11 @@ fn text_space() -> [u8; 65537]
     [0; 65537]
 }
 
-// More than a line may want over 64 elements and 32,768 cells, which is 147,840.
-fn out_space() -> [u8; 163840]
-    ensures { λ r. ⌜ 163840 ≡ length r ⌝ }
+// What a line may want over 64 elements and 32,768 cells; most algebras want far less, and fill it with many lines.
+fn out_space() -> [u8; 147840]
+    ensures { λ r. ⌜ 147840 ≡ length r ⌝ }
 {
-    [0; 163840]
+    [0; 147840]
 }
 
 // Writes out the part that comes next, behind the `written` bytes before it; how many are written then.
