@@ -11,6 +11,7 @@ use Rattle.tablewriter.specs.Texts.{algebraText}
 use Rattle.algebratext.specs.declared.TextWritten.the-variants.{Length}
 use Rattle.algebratext.specs.Calls.{writeCall, readCall, algebraRead}
 
+-- what holds of an accepted algebra and lent bytes that are enough for its text
 pub record RoundTrip (a : Algebra) (accepted : Accepted a) (out : List ℕ) (enough : length (algebraText a) ≤ length out) : Type 0 where
   -- lent enough, the writer writes the text, and nothing behind it
   pub writes : writeCall a out ≡ (Length (length (algebraText a)), written (algebraText a) out)

@@ -16,7 +16,7 @@ use Rattle.reader.specs.Lines.{defined, sized, withOperation, operation}
 use Rattle.reader.proofs.Readers.{within-text}
 use Rattle.writer.proofs.Numerals.{first-byte}
 use Rattle.tablewriter.specs.Texts.{sizeText, operationText, algebraText}
-use Rattle.tablewriter.proofs.ReadBack.{begins-left, begins-right, begins-here, CellsBelow, below-drop}
+use Rattle.tablewriter.proofs.ReadBack.{begins-left, begins-right, begins-here, NumbersBelow, below-drop}
 use Rattle.tablewriter.proofs.LinesBack.{sized-back, MayFollow, operation-opens, operation-past, operation-back}
 
 -- an operation line takes an algebra to one with an operation more, and its place to the place behind it
@@ -53,7 +53,7 @@ record Following (a : Algebra) (arities cells : List ℕ) : Type 0 where
   pub arity : (i : ℕ) → i < length arities → getD arities i 0 ≤ 3
   pub room : length (a .cells) + length cells ≤ 32768
   pub full : length cells ≡ cellCount (a .size) arities
-  pub below : CellsBelow (a .size) cells
+  pub below : NumbersBelow (a .size) cells
 
 -- those of a well-formed algebra, behind its size line
 all-follow : (a : Algebra) → WellFormed a → Following (algebraOf (a .size) [] []) (a .arities) (a .cells)

@@ -99,7 +99,7 @@ pub record Summed (n : ℕ) (arities cells : List ℕ) (sum j : ℕ) : Type 0 wh
   pub small : sum ≤ 10 + 65536 + 270473 * j
 
 module _ (n : ℕ) (arities cells : List ℕ) (m : Measurable n arities cells) where
-  pub summed-none : (d f : ℕ) → d ≡ length (decimal n) → f + length cells ≡ figures cells → Summed n arities cells (8 + d + length cells + f) 0
+  pub summed-none : (d f : ℕ) → d + 1 ≡ length (decimal n) → f + length cells ≡ figures cells → Summed n arities cells (9 + d + length cells + f) 0
   unfolding frames
   summed-none d f e g =
       record {

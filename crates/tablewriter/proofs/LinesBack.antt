@@ -25,7 +25,7 @@ use Rattle.writer.specs.Lines.{gapBytes, spaced, line}
 use Rattle.writer.proofs.Numerals.{stands-number}
 use Rattle.writer.proofs.Spacing.{spaced-one}
 use Rattle.tablewriter.specs.Texts.{tableText, sizeText, operationText}
-use Rattle.tablewriter.proofs.ReadBack.{begins-left, begins-right, StandsApart, gap-back, gapped-length, gap-between, before-gap, behind-gap, before-close, CellsBelow, table-back}
+use Rattle.tablewriter.proofs.ReadBack.{begins-left, begins-right, StandsApart, gap-back, gapped-length, gap-between, before-gap, behind-gap, before-close, NumbersBelow, table-back}
 
 -- a number after a gap
 spaced-number-back : (text : List ℕ) (at v : ℕ) → v ≤ 255 → StandsApart text at (spaced (v ∷ [])) → spacedNumber text at ≡ found v (at + length (spaced (v ∷ [])))
@@ -95,20 +95,20 @@ pub record MayFollow (a : Algebra) (f : Operation) : Type 0 where
   pub most : a .size ≤ 64
   pub tests : Fitting (a .size) (length (a .arities)) (length (a .cells)) (f .arity)
   pub full : length (f .table) ≡ a .size ^ f .arity
-  pub below : CellsBelow (a .size) (f .table)
+  pub below : NumbersBelow (a .size) (f .table)
 
 -- 2, 3 and 4 pass over what fits
 fitting-passes : (n operations cells s : ℕ) → Fitting n operations cells s → lowest (operationTests n operations cells s) ≡ Passed
 fitting-passes n operations cells s f = sym (passed n operations cells s (f .few) (f .arity) (n ^ s) refl (f .room))
 
 -- 6 passes over cells below n
-cell-test-passes : (n : ℕ) (cells : List ℕ) → CellsBelow n cells → lowest (cellTest n cells ∷ []) ≡ Passed
+cell-test-passes : (n : ℕ) (cells : List ℕ) → NumbersBelow n cells → lowest (cellTest n cells ∷ []) ≡ Passed
 unfolding cellTest
 cell-test-passes n cells h =
     lowest-next (cellTest n cells) [] (not-yes (every (λ c. ltb c n) cells) (every-by (λ c. ltb c n) cells (λ i l. lt→ltb (getD cells i 0) n (h i l)))) ∙ lowest-none
 
 -- the table of an operation line, and the line's end
-last-table-back : (text : List ℕ) (at n s : ℕ) (cells : List ℕ) → 0 < n → length cells ≡ n ^ s → CellsBelow 256 cells → StandsApart text at (tableText n s cells)
+last-table-back : (text : List ℕ) (at n s : ℕ) (cells : List ℕ) → 0 < n → length cells ≡ n ^ s → NumbersBelow 256 cells → StandsApart text at (tableText n s cells)
     → begins text (at + length (tableText n s cells)) (ascii "]\n") ≡ true → lastTable n s text at ≡ found cells (at + length (tableText n s cells) + 2)
 unfolding lastTable
 last-table-back text at n s cells p l h a e =
@@ -145,7 +145,7 @@ module _ (text : List ℕ) (at : ℕ) (a : Algebra) (f : Operation) (fits : MayF
       let next = at + 3 + length number + length gapBytes in
       let end : next + length rows + 2 ≡ at + length (operationText n f) = ap (λ (k : ℕ). k + 2) (gapped-length text number rows (at + 3)) ∙ p .end in
       let closing : begins text (next + length rows) (ascii "]\n") ≡ true = rw (gapped-length text number rows (at + 3)) (p .closing) in
-      let bytes : CellsBelow 256 cells = λ i l. omega (arith, fits .below i l, fits .most) in
+      let bytes : NumbersBelow 256 cells = λ i l. omega (arith, fits .below i l, fits .most) in
       rw (
         arity-back text rows (at + 3) s (omega (arith, fits .tests .arity)) (p .body .here),
         fitting-passes n (length (a .arities)) (length (a .cells)) s (fits .tests),

@@ -82,16 +82,16 @@ before-close text word rest at e =
     record { here = begins-left text word (93 ∷ rest) at e; end = omega (arith, digit-above text (at + length word) (omega arith)) }
 
 -- every member is below n
-abbrev pub CellsBelow : ℕ → List ℕ → Type 0
-CellsBelow n l = (i : ℕ) → i < length l → getD l i 0 < n
+abbrev pub NumbersBelow : ℕ → List ℕ → Type 0
+NumbersBelow n l = (i : ℕ) → i < length l → getD l i 0 < n
 
-pub below-drop : (n k : ℕ) (l : List ℕ) → CellsBelow n l → CellsBelow n (drop k l)
+pub below-drop : (n k : ℕ) (l : List ℕ) → NumbersBelow n l → NumbersBelow n (drop k l)
 below-drop n k l h i j = rw (getD-drop k l i 0) (h (k + i) (omega (arith, length-drop k l)))
 
 -- what is written of cells that are bytes, with no digit behind it, is read as the first w of them
 abbrev pub ReadsBack : List ℕ → Reader (List ℕ) → (List ℕ → List ℕ) → ℕ → Type 0
 ReadsBack text item write w =
-    (at : ℕ) (cells : List ℕ) → w ≤ length cells → CellsBelow 256 cells → StandsApart text at (write cells) → item text at ≡ found (take w cells) (at + length (write cells))
+    (at : ℕ) (cells : List ℕ) → w ≤ length cells → NumbersBelow 256 cells → StandsApart text at (write cells) → item text at ≡ found (take w cells) (at + length (write cells))
 
 -- one cell
 cell-back : (text : List ℕ) → ReadsBack text cell (λ cells. decimal (getD cells 0 0)) 1

@@ -7,14 +7,6 @@ ghost use Rattle.writer.specs.Numerals.{decimal};
 ghost use Rattle.tablewriter.specs.Texts.{algebraText};
 ghost use Rattle.tablewriter.specs.InnerLengths.{frame as frameOf, figures, TwoDigits, Measurable};
 
-// How many digits a number below 100 has.
-fn digits(v: u8) -> usize
-    requires { ⌜ v < 100 ⌝ }
-    ensures { λ r. ⌜ r ≡ length (decimal v) ⌝ }
-{
-    if v < 10 { 1 } else { 2 }
-}
-
 // 1 for a number from 10 on, else 0.
 fn second_digit(v: u8) -> u16
     requires { ⌜ v < 100 ⌝ }
@@ -58,7 +50,7 @@ pub fn text_length(n: usize, arities: &[u8], cells: &[u8]) -> usize
     requires { ⌜ Measurable n (now arities) (now cells) ⌝ }
     ensures { λ r. ⌜ r ≡ length (algebraText (algebraIn n (arities .entry) (cells .entry))) ⌝ }
 {
-    let mut sum = 8 + digits(n as u8) + cells.len() + second_digits(cells) as usize;
+    let mut sum = 9 + second_digit(n as u8) as usize + cells.len() + second_digits(cells) as usize;
     let mut j = 0;
     while j < arities.len() {
         sum = sum + 8 + frame(n, arities[j]);

@@ -13,26 +13,29 @@ Inv-loop n arities cells sum₀ j₀ sum j = Summed n arities cells sum j
 abbrev μ-loop : tie.MeasureT-loop
 μ-loop n arities cells sum₀ j₀ sum j = length arities - j
 
-cast-digits : tie.Need-cast-digits Inv-loop μ-loop
-cast-digits c = search needs
+cast-second-digit : tie.Need-cast-second-digit Inv-loop μ-loop
+cast-second-digit c = search needs
 
-digits-requires : tie.Need-digits-requires Inv-loop μ-loop
-digits-requires c κs = search needs
-
-add-sum : tie.Need-add-sum Inv-loop μ-loop
-add-sum c = omega (arith, digits-few (c .before .before .before .args .n) (omega arith), c .digits .ensures)
-
-add-sum-2 : tie.Need-add-sum-2 Inv-loop μ-loop
-add-sum-2 c = omega (arith, digits-few (c .before .before .before .args .n) (omega arith), c .digits .ensures)
-
-second-digits-requires : tie.Need-second-digits-requires Inv-loop μ-loop
-second-digits-requires c κs = search needs
+second-digit-requires : tie.Need-second-digit-requires Inv-loop μ-loop
+second-digit-requires c κs = search needs
 
 cast-sum : tie.Need-cast-sum Inv-loop μ-loop
 cast-sum c = search needs
 
+add-sum : tie.Need-add-sum Inv-loop μ-loop
+add-sum c = omega (arith, digits-few (c .before .before .before .args .n) (omega arith), c .second-digit .ensures)
+
+add-sum-2 : tie.Need-add-sum-2 Inv-loop μ-loop
+add-sum-2 c = omega (arith, digits-few (c .before .before .before .args .n) (omega arith), c .second-digit .ensures)
+
+second-digits-requires : tie.Need-second-digits-requires Inv-loop μ-loop
+second-digits-requires c κs = search needs
+
+cast-sum-2 : tie.Need-cast-sum-2 Inv-loop μ-loop
+cast-sum-2 c = search needs
+
 add-sum-3 : tie.Need-add-sum-3 Inv-loop μ-loop
-add-sum-3 c = omega (arith, summed-none _ _ _ (c .before .before .before .before .pre) _ _ (c .before .digits .ensures) (c .second-digits .ensures))
+add-sum-3 c = omega (arith, summed-none _ _ _ (c .before .before .before .before .pre) _ _ (c .before .second-digit .ensures) (c .second-digits .ensures))
 
 loop-holds : tie.Need-loop-holds Inv-loop μ-loop
 loop-holds c = search summed-none
@@ -71,12 +74,13 @@ text-length-spec =
     (tie.spec
     Inv-loop
     μ-loop
-    cast-digits
-    digits-requires
+    cast-second-digit
+    second-digit-requires
+    cast-sum
     add-sum
     add-sum-2
     second-digits-requires
-    cast-sum
+    cast-sum-2
     add-sum-3
     loop-holds
     add-sum-4
