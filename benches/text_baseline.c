@@ -1,16 +1,29 @@
 /* The optimized writer and reader of algebra texts (see text_baseline.h).
  *
  * The writer makes one pass over the cells for reason 6 and the text's length,
- * and one that writes, digit by digit. The reader goes through the text once,
- * byte by byte, into an array of its own; the cells are lent theirs when the
- * whole text is accepted. */
+ * and one that writes. The reader goes through the text once and keeps the cells
+ * in an array of its own until the whole text is accepted. Rows are read by the
+ * quickest way that fits them, and by the plain way where none does: it alone
+ * says what is faulty. */
 #include "text_baseline.h"
 
 #include <string.h>
 
 enum { MAX_SIZE = 64, MAX_OPERATIONS = 16, MAX_ARITY = 3, MAX_CELLS = 32768, HEAD = 2 + MAX_OPERATIONS, NO_HEAD = 255 };
 
+#define INLINE static inline __attribute__((always_inline))
+
 /* ---- the writer --------------------------------------------------------- */
+
+/* Each number below 64 with the space behind it, and how many bytes these are. */
+#define ONE(d) {'0' + d, ' ', 0, 2}
+#define TWO(t, d) {'0' + t, '0' + d, ' ', 3}
+#define FIVE(t, d) TWO(t, d), TWO(t, d + 1), TWO(t, d + 2), TWO(t, d + 3), TWO(t, d + 4)
+#define TEN(t) FIVE(t, 0), FIVE(t, 5)
+static const uint8_t item[MAX_SIZE + 6][4] = {
+    ONE(0), ONE(1), ONE(2), ONE(3), ONE(4), ONE(5), ONE(6), ONE(7), ONE(8), ONE(9),
+    TEN(1), TEN(2), TEN(3), TEN(4), TEN(5), TEN(6),
+};
 
 static uint8_t *put(uint8_t *p, const char *bytes, size_t count)
 {
@@ -27,26 +40,42 @@ static uint8_t *put_number(uint8_t *p, size_t value)
     return p;
 }
 
+/* Four bytes are stored for each item, of which the next one overwrites what it
+ * does not need. Behind the last there still are a bracket and "]\n". */
 static uint8_t *put_row(uint8_t *p, const uint8_t *cells, size_t n)
 {
     *p++ = '[';
     for (size_t i = 0; i < n; i++) {
-        p = put_number(p, cells[i]);
-        *p++ = ' ';
+        const uint8_t *next = item[cells[i]];
+        memcpy(p, next, 4);
+        p += next[3];
     }
     p[-1] = ']';
     return p;
 }
 
+/* All cells below 10. */
+static uint8_t *put_short_row(uint8_t *restrict p, const uint8_t *restrict cells, size_t n)
+{
+    *p++ = '[';
+    for (size_t i = 0; i < n; i++) {
+        p[2 * i] = (uint8_t)('0' + cells[i]);
+        p[2 * i + 1] = ' ';
+    }
+    p += 2 * n;
+    p[-1] = ']';
+    return p;
+}
+
 /* A table of arity 1 or more. `step` is the number of cells of the tables in it. */
-static uint8_t *put_table(uint8_t *p, const uint8_t *cells, size_t n, unsigned arity, size_t step)
+static uint8_t *put_table(uint8_t *p, const uint8_t *cells, size_t n, unsigned arity, size_t step, int is_short)
 {
     if (arity == 1) {
-        return put_row(p, cells, n);
+        return is_short ? put_short_row(p, cells, n) : put_row(p, cells, n);
     }
     *p++ = '[';
     for (size_t i = 0; i < n; i++) {
-        p = put_table(p, cells + i * step, n, arity - 1, step / n);
+        p = put_table(p, cells + i * step, n, arity - 1, step / n, is_short);
         *p++ = ' ';
     }
     p[-1] = ']';
@@ -103,7 +132,7 @@ uint64_t text_baseline_write(size_t n, const uint8_t *arities, size_t arities_le
         if (arities[i] == 0) {
             p = put_number(p, *cells);
         } else {
-            p = put_table(p, cells, n, arities[i], power[arities[i] - 1]);
+            p = put_table(p, cells, n, arities[i], power[arities[i] - 1], wide == 0);
         }
         p = put(p, "]\n", 2);
         cells += power[arities[i]];
@@ -152,7 +181,7 @@ static unsigned take_number(struct reading *r)
     return value;
 }
 
-static int take_row(struct reading *r)
+static int take_plain_row(struct reading *r)
 {
     if (!take_byte(r, '[')) {
         return 0;
@@ -165,6 +194,170 @@ static int take_row(struct reading *r)
         *r->cell++ = (uint8_t)value;
     }
     return 1;
+}
+
+/* A row of numbers below 10 is 2n + 1 bytes long; only the last ends it. */
+static int take_short_row(struct reading *r)
+{
+    const uint8_t *restrict p = r->at + 1;
+    uint8_t *restrict cell = r->cell;
+    const size_t n = r->n;
+    uint8_t bad = 0;
+    for (size_t i = 0; i + 1 < n; i++) {
+        const uint8_t d = (uint8_t)(p[2 * i] - '0');
+        cell[i] = d;
+        bad |= (uint8_t)((d > 9) | (p[2 * i + 1] ^ ' '));
+    }
+    const uint8_t d = (uint8_t)(p[2 * n - 2] - '0');
+    cell[n - 1] = d;
+    if (bad | (d > 9)) {
+        return 0;
+    }
+    r->at += 2 * n + 1;
+    r->cell += n;
+    return 1;
+}
+
+/* Eight bytes, the first one lowest. */
+INLINE uint64_t eight_bytes(const uint8_t *p)
+{
+    uint64_t w;
+    memcpy(&w, p, 8);
+#if defined(__BYTE_ORDER__) && __BYTE_ORDER__ == __ORDER_BIG_ENDIAN__
+    w = __builtin_bswap64(w);
+#endif
+    return w;
+}
+
+/* A row of numbers from 10 to 99 is 3n + 1 bytes long. Two numbers, each with a
+ * space behind it, are taken at a time: ten times a digit goes to the next byte.
+ * The text has 3n + 8 bytes more at least. */
+static int take_long_row(struct reading *r)
+{
+    const uint8_t *p = r->at + 1;
+    uint8_t *cell = r->cell, *const last = cell + r->n - 1;
+    uint64_t bad = 0;
+    for (; cell < last; cell += 2, p += 6) {
+        const uint64_t w = eight_bytes(p), d = w & 0x0F0F000F0Fu, v = d * (1 + (10 << 8));
+        cell[0] = (uint8_t)(v >> 8);
+        cell[1] = (uint8_t)(v >> 32);
+        /* A last pair has a bracket behind it: which was seen before. */
+        const uint64_t form = cell + 1 < last ? 0xFFF0F0FFF0F0u : 0x00F0F0FFF0F0u;
+        bad |= (w ^ 0x203030203030u) & form;
+        bad |= (d + 0x0606000606u) & 0x1010001010u;
+        bad |= ~(d + 0x0F00000Fu) & 0x10000010u;
+    }
+    if (cell == last) {
+        const unsigned t = p[0] - (unsigned)'1', one = p[1] - (unsigned)'0';
+        *cell = (uint8_t)(10 * t + 10 + one);
+        bad |= (t > 8) | (one > 9);
+    }
+    if (bad) {
+        return 0;
+    }
+    r->at += 3 * r->n + 1;
+    r->cell += r->n;
+    return 1;
+}
+
+/* What a byte is worth as the last digit of a number, and as the one before;
+ * where that is a space, there is none before. NO for every other byte. */
+enum { NO = 128 };
+#define NO8 NO, NO, NO, NO, NO, NO, NO, NO
+#define NO32 NO8, NO8, NO8, NO8
+#define NO48 NO32, NO8, NO8
+static const uint8_t ones[256] = {
+    NO48, 0, 1, 2, 3, 4, 5, 6, 7, 8, 9, NO, NO, NO, NO, NO, NO, NO32, NO32, NO32, NO32, NO32, NO32,
+};
+static const uint8_t tens[256] = {
+    NO32, 0, NO, NO, NO, NO, NO, NO, NO, NO8,
+    NO, 10, 20, 30, 40, 50, 60, 70, 80, 90, NO, NO, NO, NO, NO, NO,
+    NO32, NO32, NO32, NO32, NO32, NO32,
+};
+
+/* Bit i tells whether byte i is a space, of eight. */
+INLINE uint64_t spaces_of_eight(const uint8_t *p)
+{
+    const uint64_t seven = 0x7F7F7F7F7F7F7F7Fu;
+    uint64_t w = eight_bytes(p) ^ 0x2020202020202020u;
+    w = ~(((w & seven) + seven) | w | seven);
+    return (w >> 7) * 0x0102040810204080u >> 56;
+}
+
+INLINE uint64_t spaces_of_64(const uint8_t *p)
+{
+    uint64_t mask = 0;
+    for (unsigned i = 0; i < 8; i++) {
+        mask |= spaces_of_eight(p + 8 * i) << (8 * i);
+    }
+    return mask;
+}
+
+/* Numbers on their way: what was seen of their bytes, and what of their lengths. */
+struct numbers {
+    unsigned seen;
+    size_t far;
+};
+
+/* The number between a byte and the next one or two bytes on, which is `end`;
+ * without a branch, since either length may come. Gives where it ends. */
+INLINE const uint8_t *take_edge(struct numbers *s, const uint8_t *before, uint8_t end, uint8_t *cell)
+{
+    const size_t two = before[2] != end;
+    const unsigned one = ones[before[1 + two]], ten = tens[two ? before[1] : ' '];
+    *cell = (uint8_t)(one + ten);
+    s->seen |= one | ten | ones[before[1]];
+    s->far |= before[2 + two] ^ end;
+    return before + 2 + two;
+}
+
+/* A row of two or more numbers below 100: where the spaces are is found for 64
+ * bytes at a time, so that no number waits for the one before it. The text has
+ * 3n + 128 bytes more at least. */
+static int take_mixed_row(struct reading *r)
+{
+    struct numbers s = {0, 0};
+    uint8_t *cell = r->cell, *const last = cell + r->n - 1;
+    const uint8_t *before = take_edge(&s, r->at, ' ', cell++), *block = before + 1;
+    while (cell < last && (size_t)(block - r->at) <= 3 * r->n) {
+        for (uint64_t mask = spaces_of_64(block); mask != 0 && cell < last; mask &= mask - 1) {
+            const uint8_t *space = block + __builtin_ctzll(mask);
+            const unsigned one = ones[space[-1]], ten = tens[space[-2]];
+            *cell++ = (uint8_t)(one + ten);
+            s.seen |= one | ten;
+            s.far |= (size_t)(space - before - 2) >> 1; /* 0 for one digit or two */
+            before = space;
+        }
+        block += 64;
+    }
+    if (cell < last) {
+        return 0;
+    }
+    before = take_edge(&s, before, ']', cell);
+    if (s.far || (s.seen & NO)) {
+        return 0;
+    }
+    r->cell = cell + 1;
+    r->at = before + 1;
+    return 1;
+}
+
+/* The bracket at its end tells how long a row is, and so which way fits it. */
+static int take_row(struct reading *r)
+{
+    const size_t n = r->n, left = (size_t)(r->end - r->at);
+    if (left > 3 * n && r->at[0] == '[') {
+        if (r->at[2 * n] == ']' && take_short_row(r)) {
+            return 1;
+        }
+        if (left >= 3 * n + 8 && r->at[3 * n] == ']' && take_long_row(r)) {
+            return 1;
+        }
+        if (n > 1 && left > 3 * n + 128 && take_mixed_row(r)) {
+            return 1;
+        }
+    }
+    return take_plain_row(r);
 }
 
 static int take_table(struct reading *r, unsigned arity)
