@@ -116,6 +116,15 @@ module _ (text : List ℕ) (s : Standing) (arities room lent : List ℕ) where
         },
       )
 
+  -- the run goes on, and there is room for its line
+  module _ (t : able ≡ true) where
+    pub goes-able : s .goes ≡ true
+    unfolding canFill
+    goes-able = and-left (s .goes) _ t
+
+    pub room-able : standingRoom s ≤ length lent
+    room-able = within-bounds t .1 .line
+
   module _ (b : Bool) (eb : b ≡ able) where
     pub able-sound : not b ≡ false → Sound text s
     able-sound h = within-bounds (sym eb ∙ not-false b h) .0
@@ -134,10 +143,9 @@ module _ (text : List ℕ) (s : Standing) (arities room lent : List ℕ) where
 
 -- from a sound standing, with enough lent, a run that goes on can be filled from
 pub sound-able : (text : List ℕ) (s : Standing) (arities room lent : List ℕ) → s .goes ≡ true → Sound text s → Lent text s arities room lent
-    → T (canFill (length text) s (length arities) (length room) (length lent))
+    → canFill (length text) s (length arities) (length room) (length lent) ≡ true
 sound-able text s arities room lent g w l =
-    subst T
+    sym
     (sym (le-leb (standingRoom s) (length lent) (l .line))
     ∙ last-test (length text) s (length arities) (length room) (length lent) (ap not g) (w .within) (w .some) (w .most) (w .few) (w .counted) (w .fit) (w .paced) (l .sixteen)
     (l .storage) (standingRoom s) refl)
-    tt

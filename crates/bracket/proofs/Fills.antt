@@ -11,6 +11,7 @@ use Rattle.equivalence.specs.declared.Refusal.the-variants.{Text}
 use Rattle.writer.specs.Lines.{refusedLine}
 use Rattle.bracket.specs.Transcript.{State, Step, goes, ends, textLimit, firstStep, step, output, run, transcript}
 use Rattle.bracket.specs.Fills.{roomAt, Position, fresh, midway, over, due, pieceOf, positionAfter, Fill, ended, short, takes, Fills, finished, onwards}
+use Rattle.bracket.specs.InnerRemaining.{remaining, distance}
 use Rattle.bracket.proofs.Advancing.{Ahead, step-ahead}
 
 module _ (text : List ℕ) where
@@ -50,12 +51,8 @@ module _ (text : List ℕ) where
   unfolding positionAfter
   after-over piece s h = simp (positionAfter, le-leb (length text) (s .at) h)
 
-  -- what a run still writes from a position on
-  unfoldable pub remaining : Position → List ℕ
-  remaining p = output (due text p) (run (length text) text)
-
   -- what a step writes, and what remains after it
-  step-remaining : (d : Step) → output d (run (length text) text) ≡ pieceOf d ++ remaining (positionAfter text d)
+  step-remaining : (d : Step) → output d (run (length text) text) ≡ pieceOf d ++ remaining text (positionAfter text d)
   unfolding output pieceOf remaining due positionAfter
   step-remaining (goes piece s) =
       elim (decLt (s .at) (length text)) [
@@ -67,16 +64,16 @@ module _ (text : List ℕ) where
   step-remaining (ends piece) = sym (append-nil piece)
 
   -- a fill lays the first of what remains, and leaves the rest
-  pub fill-remaining : {room : ℕ} {p q : Position} {bytes : List ℕ} → Fill text room p bytes q → remaining p ≡ bytes ++ remaining q
+  pub fill-remaining : {room : ℕ} {p q : Position} {bytes : List ℕ} → Fill text room p bytes q → remaining text p ≡ bytes ++ remaining text q
   unfolding remaining
   fill-remaining ended = refl
   fill-remaining (short h) = refl
   fill-remaining {q = q} (takes {p = p} {more = more} h f) =
       step-remaining (due text p)
       ∙ ap (λ (w : List ℕ). pieceOf (due text p) ++ w) (fill-remaining f)
-      ∙ sym (append-assoc (pieceOf (due text p)) more (remaining q))
+      ∙ sym (append-assoc (pieceOf (due text p)) more (remaining text q))
 
-  fills-remaining : {p : Position} {parts : List (List ℕ)} → Fills text p parts → concat parts ≡ remaining p
+  fills-remaining : {p : Position} {parts : List (List ℕ)} → Fills text p parts → concat parts ≡ remaining text p
   unfolding remaining concat output due
   fills-remaining finished = refl
   fills-remaining (onwards {bytes = bytes} f g) = ap (λ (w : List ℕ). bytes ++ w) (fills-remaining g) ∙ sym (fill-remaining f)
@@ -86,14 +83,8 @@ module _ (text : List ℕ) where
   unfolding remaining transcript due
   fills-transcript parts f = fills-remaining f
 
-  -- how far a position is from the end of the run
-  abbrev pub distance : Position → ℕ
-  distance fresh = length text + 2
-  distance (midway s) = length text - s .at + 1
-  distance over = 0
-
   after-distance : (k : ℕ) (d : Step) → 0 < k → ((piece : List ℕ) (s : State) → d ≡ goes piece s → s .at < length text → length text - s .at + 1 < k)
-      → distance (positionAfter text d) < k
+      → distance text (positionAfter text d) < k
   unfolding positionAfter
   after-distance k (goes piece s) h near =
       elim (decLt (s .at) (length text)) [
@@ -103,7 +94,7 @@ module _ (text : List ℕ) where
   after-distance k (ends piece) h near = h
 
   -- each step gets nearer
-  pub step-less : (p : Position) → 0 < distance p → distance (positionAfter text (due text p)) < distance p
+  pub step-less : (p : Position) → 0 < distance text p → distance text (positionAfter text (due text p)) < distance text p
   unfolding due
   step-less fresh h = after-distance (length text + 2) (firstStep text) h (λ piece s e l. omega arith)
   step-less (midway t) h =
@@ -111,19 +102,19 @@ module _ (text : List ℕ) where
       (λ piece s e l. let a : t .at < s .at = rw e at (step-ahead text t) in omega arith)
   step-less over h = absurd (omega arith)
 
-  step-no-more : (p : Position) → distance (positionAfter text (due text p)) ≤ distance p
+  step-no-more : (p : Position) → distance text (positionAfter text (due text p)) ≤ distance text p
   unfolding due positionAfter
   step-no-more fresh = let h = step-less fresh (omega arith) in omega arith
   step-no-more (midway s) = let h = step-less (midway s) (omega arith) in omega arith
   step-no-more over = omega arith
 
-  fill-no-more : {room : ℕ} {p q : Position} {bytes : List ℕ} → Fill text room p bytes q → distance q ≤ distance p
+  fill-no-more : {room : ℕ} {p q : Position} {bytes : List ℕ} → Fill text room p bytes q → distance text q ≤ distance text p
   fill-no-more ended = omega arith
   fill-no-more (short h) = omega arith
   fill-no-more (takes {p = p} h f) = omega (arith, fill-no-more f, step-no-more p)
 
   -- and so does each fill
-  pub fill-less : {room : ℕ} {p q : Position} {bytes : List ℕ} → roomAt p ≤ room → 0 < distance p → Fill text room p bytes q → distance q < distance p
+  pub fill-less : {room : ℕ} {p q : Position} {bytes : List ℕ} → roomAt p ≤ room → 0 < distance text p → Fill text room p bytes q → distance text q < distance text p
   fill-less r h ended = absurd (omega arith)
   fill-less r h (short l) = absurd (omega arith)
   fill-less r h (takes {p = p} l f) = omega (arith, fill-no-more f, step-less p h)

@@ -18,9 +18,10 @@ use Rattle.bracket.specs.Transcript.{State, goes}
 use Rattle.bracket.specs.Fills.{roomAt, Position, over, due, pieceOf, positionAfter, Fill, ended, short, takes}
 use Rattle.bracket.specs.Standings.{stateOf, positionBy, positionOf, roomFrom, standingRoom, Sound, Kept, Filling}
 use Rattle.bracket.specs.InnerSteps.{stepOf, Lent, Stepping, closedAt, Lined}
+use Rattle.bracket.specs.InnerRemaining.{distance}
 use Rattle.bracket.specs.declared.run.Standing.{Standing}
 use Rattle.bracket.specs.declared.run.Stepped.{Stepped}
-use Rattle.bracket.proofs.Fills.{after-midway, after-over, distance, step-less}
+use Rattle.bracket.proofs.Fills.{after-midway, after-over, step-less}
 
 -- a standing whose run is over
 abbrev stopped : Standing → Standing

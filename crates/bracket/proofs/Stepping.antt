@@ -105,8 +105,12 @@ later-room (suc at) n cells h = refl
 pub first-line-room : (s : Standing) → s .at ≡ 0 → 514 ≡ standingRoom s
 first-line-room s e = rw e
 
-pub later-line-room : (s : Standing) → (s .at ≡ 0 → ⊥) → 258 * s .size + 4 * s .cells + 256 ≡ standingRoom s
-later-line-room s h = later-room (s .at) (s .size) (s .cells) (omega arith)
+module _ (s : Standing) (h : s .at ≡ 0 → ⊥) where
+  pub cells-line-room : 258 * s .size < 4 * s .cells → 4 * s .cells + 256 ≡ standingRoom s
+  cells-line-room l = omega (arith, later-room (s .at) (s .size) (s .cells) (omega arith))
+
+  pub maps-line-room : 4 * s .cells ≤ 258 * s .size → 258 * s .size + 256 ≡ standingRoom s
+  maps-line-room l = omega (arith, later-room (s .at) (s .size) (s .cells) (omega arith))
 
 -- the storage of a run, which is as long as the text, has room for what comes
 module _ (text : List ℕ) (s : Standing) (arities room lent : List ℕ) (sound : Sound text s) (w : Lent text s arities room lent) where

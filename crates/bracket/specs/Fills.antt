@@ -6,9 +6,13 @@ use lib.Dec.{leb}
 use lib.ListN.{length}
 use Rattle.bracket.specs.Transcript.{State, Step, goes, ends, firstStep, step}
 
--- the room that a line may want over n elements and so many cells: n maps of 64 numbers at most, or the lines of as many cells
+-- the larger of two numbers
+abbrev pub larger : ℕ → ℕ → ℕ
+larger a b = a + (b - a)
+
+-- the room that a line may want over n elements and so many cells: for n maps of 64 numbers, or for the lines of as many cells, and for its words
 abbrev pub lineRoom : ℕ → ℕ → ℕ
-lineRoom n cells = 258 * n + 4 * cells + 256
+lineRoom n cells = larger (258 * n) (4 * cells) + 256
 
 -- where a run stands: before its first line, before another, or at its end
 pub data Position : Type 0 where

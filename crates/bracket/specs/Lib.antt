@@ -5,3 +5,4 @@ pub mod FedBack
 pub mod Standings
 pub mod InnerPromises
 pub mod InnerSteps
+pub mod InnerRemaining

@@ -9,7 +9,7 @@ ghost use Prim.Native.Nat.{_≤_};
 ghost use Rattle.bracket.specs.Standings.{Sound, FillPromiseIn, unread as unreadAs, standingRoom, canFill};
 ghost use Rattle.bracket.specs.InnerSteps.{Lent, LinedIn, FillingIn, closedAt};
 
-// What a line may want of room: for each element, a map of 64 numbers in a bracket; for each cell, three bytes and a share of the brackets around it; and what is left of a line.
+// What a line may want of room: for each element, a map of 64 numbers in a bracket, or for each cell, three bytes and a share of the brackets around it; and for its words.
 const MAP_ROOM: usize = 258;
 
 const CELL_ROOM: usize = 4;
@@ -72,7 +72,12 @@ fn line_room(standing: Standing) -> usize
     if standing.at == 0 {
         return MAP_ROOM + WORD_ROOM;
     }
-    MAP_ROOM * (standing.size as usize) + CELL_ROOM * standing.cells + WORD_ROOM
+    let maps = MAP_ROOM * (standing.size as usize);
+    let tables = CELL_ROOM * standing.cells;
+    if maps < tables {
+        return tables + WORD_ROOM;
+    }
+    maps + WORD_ROOM
 }
 
 // Takes the line at which a run stands.
@@ -129,8 +134,8 @@ fn take_lines(
     }
 }
 
-// Whether a fill can be made: the run goes on, from a standing that a run can come to, and enough is lent.
-fn can_fill(text: usize, standing: Standing, arities: usize, room: usize, out: usize) -> bool
+// Whether a fill can be made: the run goes on, from a standing that a run can come to, and slices of these lengths are enough.
+pub fn can_fill(text: usize, standing: Standing, arities: usize, room: usize, out: usize) -> bool
     ensures { λ r. ⌜ r ≡ canFill text standing arities room out ⌝ }
 {
     if !standing.goes {
@@ -167,7 +172,7 @@ fn can_fill(text: usize, standing: Standing, arities: usize, room: usize, out: u
 }
 
 // Fills `out` from its start with what the lines from a standing on write: whole lines, until the run is over or the next line may want more room than is left.
-// For the line at the standing it wants 258 bytes for each element, 4 for each cell and 256 more, before the first line 514; 147,840 are always enough. A run
+// For the line at the standing it wants 258 bytes for each element or 4 for each cell, and 256 more, before the first line 514; 131,328 are always enough. A run
 // begins at `unread(true)`, and is over where `goes` is false. `arities`, of 16 bytes, and `room`, as long as the text, are lent to every fill of a run and left
 // as they are between fills: the arities and the cells of the algebra stand first in them, and the cells behind those in use are left open. With less lent, or
 // from a standing that no run comes to, nothing is done and the run is over.

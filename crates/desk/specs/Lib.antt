@@ -1,2 +1,2 @@
 pub mod Writing
-pub mod InnerRoom
+pub mod InnerRuns

@@ -3,14 +3,15 @@ use mathlib.Core.Path.{_≡_, refl}
 use borrow.Author.Needs.{needs}
 use lib.ListN.{length}
 use Rattle.bracket.specs.Standings.{positionOf}
-use Rattle.bracket.proofs.Fills.{distance}
-use Rattle.desk.proofs.Running.{RunWritten, run-written-begins, part-next, part-within, count-fits, fill-nearer, run-written-on, run-written-ends}
+use Rattle.bracket.specs.InnerRemaining.{distance}
+use Rattle.desk.specs.InnerRuns.{Lends, WrittenOut}
+use Rattle.desk.proofs.Running.{pausedAt, written-begins, part-next, part-within, count-fits, fill-nearer, written-on, lends-on}
 use Rattle.desk.proofs.run.Statement.{statement}
 use Rattle.desk.proofs.run.Tie as tie
 
 abbrev Inv-loop : tie.InvT-loop
 Inv-loop text arities₀ room₀ out₀ standing₀ written₀ arities room out standing written =
-    RunWritten text standing arities room out written × ((length arities ≡ length arities₀) × (length room ≡ length room₀))
+    WrittenOut text arities room (pausedAt standing written) × (Lends text arities room out × ((length arities ≡ length arities₀) × ((length room ≡ length room₀) × (length out ≡ length out₀))))
 
 abbrev μ-loop : tie.MeasureT-loop
 μ-loop text arities₀ room₀ out₀ standing₀ written₀ arities room out standing written = distance text (positionOf standing arities room)
@@ -19,7 +20,10 @@ unread-requires : tie.Need-unread-requires Inv-loop μ-loop
 unread-requires c κs = search needs
 
 loop-holds : tie.Need-loop-holds Inv-loop μ-loop
-loop-holds c = (search run-written-begins, (refl, refl))
+loop-holds c = (search written-begins, (search needs, (refl, (refl, refl))))
+
+can-fill-requires : tie.Need-can-fill-requires Inv-loop μ-loop
+can-fill-requires c κs = search needs
 
 fill-requires : tie.Need-fill-requires Inv-loop μ-loop
 fill-requires c κs = search needs
@@ -36,14 +40,15 @@ part-write-next-end c = search part-within
 write-next-requires : tie.Need-write-next-requires Inv-loop μ-loop
 write-next-requires c κs =
     let f = c .before .before .before .before .before .before .before .before in
-    let l = f .before .before .before .before .before in
-    (part-next _ _ _ _ _ _ (l .loop .inv .0) (f .before .before .before .before .loop-test .taken) _ _ _ _ (f .fill .ensures), search count-fits)
+    let t = f .before .before .before .before in
+    let l = t .before .before .loop .inv in
+    (part-next _ _ _ _ _ _ (l .0) (l .1 .0) _ (t .before .can-fill .ensures) (t .if1 .taken) _ _ _ _ (f .fill .ensures), search count-fits)
 
 loop-less : tie.Need-loop-less Inv-loop μ-loop
 loop-less c = search fill-nearer
 
 loop-again : tie.Need-loop-again Inv-loop μ-loop
-loop-again c = (search run-written-on, search needs)
+loop-again c = (search written-on, (search lends-on, search needs))
 
 same-length : tie.Need-same-length Inv-loop μ-loop
 same-length c = search needs
@@ -55,7 +60,7 @@ same-length-3 : tie.Need-same-length-3 Inv-loop μ-loop
 same-length-3 c = search needs
 
 returns : tie.Need-returns Inv-loop μ-loop
-returns c = search run-written-ends
+returns c = search needs
 
 pub run-spec : {M : Type 1} → statement M
 run-spec =
@@ -65,6 +70,7 @@ run-spec =
     μ-loop
     unread-requires
     loop-holds
+    can-fill-requires
     fill-requires
     sub-write-next
     part-write-next-start

@@ -2,7 +2,7 @@
 use Prim.Native.Nat.{_+_, _≤_}
 use native.Mathlib.Omega.{arith}
 use lib.ListN.{length}
-use Rattle.bracket.proofs.Fills.{distance}
+use Rattle.bracket.specs.InnerRemaining.{distance}
 use Rattle.bracket.proofs.Gathering.{LinesGathered, lines-gathered-none, lines-gathered-more, lines-gathered-over, lines-gathered-short, lines-gathered-fits, lines-gathered-lent, line-less}
 use Rattle.bracket.specs.Standings.{positionOf}
 use borrow.Author.Needs.{needs}
