@@ -153,6 +153,36 @@ fn long_quotients(s: &mut Suite, program: &str) {
     compare(s, program, format!("{}{}", algebra_text(&wide), request.repeat(1500)).as_bytes());
 }
 
+/// Where the program's storage for short texts ends, and a run goes on in another: texts of 32,768 bytes, algebras of
+/// 9,152 cells, and some on either side, with requests behind them that need every table.
+fn long_runs(s: &mut Suite, program: &str) {
+    for length in 32_764..=32_772 {
+        compare(s, program, &texts::of_length(length));
+    }
+    let shapes: [(usize, Vec<u8>); 8] = [
+        (16, [vec![3; 2], vec![2; 3], vec![1; 11]].concat()), // 9,136 cells
+        (18, [vec![3], vec![2; 10], vec![1; 4], vec![0]].concat()), // 9,145
+        (39, [vec![2; 6], vec![1]].concat()),                 // 9,165
+        (21, [vec![3], vec![1; 5]].concat()),                 // 9,366
+        (56, vec![2; 3]),
+        (22, [vec![0], vec![3], vec![1]].concat()),
+        (64, [vec![2; 2], vec![1; 14]].concat()),
+        (1, vec![3; 16]),
+    ];
+    for (n, arities) in shapes {
+        for blocks in [2.min(n), n] {
+            let algebra = algebras::lifted(n, blocks, &arities, &mut s.rng);
+            let mut text = String::from_utf8(with_quotients(&algebra, 2, &mut s.rng)).unwrap();
+            for _ in 0..12 {
+                text += &texts::request(&algebra, &mut s.rng);
+            }
+            compare(s, program, text.as_bytes());
+            text.truncate(text.len() - 1);
+            compare(s, program, text.as_bytes());
+        }
+    }
+}
+
 /// Decompose, Quotient by each factor, and Decompose on what was written: 11.
 fn fed_back(s: &mut Suite, program: &str) {
     let mut list: Vec<Algebra> =
@@ -235,6 +265,7 @@ pub fn suites(run: &mut Run, program: &str) {
         changed_everywhere(s, program, text.as_bytes());
     });
     run.suite("desk: quotients with long answers", |s| long_quotients(s, program));
+    run.suite("desk: runs that outgrow the storage for short texts", |s| long_runs(s, program));
     run.suite("desk: factors fed back", |s| fed_back(s, program));
     run.suite("desk: damaged texts", |s| {
         for _ in 0..8000 {
