@@ -10,10 +10,10 @@ use lib.ListN.{length}
 use Rattle.equivalence.specs.Calls.{twoMapsTests, twoMapsCheck, twoMapsCall, meetCall, joinCall}
 use Rattle.equivalence.specs.Equivalence.{Map}
 use Rattle.equivalence.specs.Outcome.{Injective}
-use Rattle.equivalence.specs.Ranks.{rank, rises, ReasonRight}
+use Rattle.equivalence.specs.Ranks.{rank, rises}
 use Rattle.equivalence.specs.Refusal.{Test, numberOf, lowest, sizeTest, pairsTest, elementsTest, mapTest, spaceTest, equalTest, answered, serve}
 use Rattle.equivalence.specs.Lent.{lentAfter, written}
-use Rattle.equivalence.proofs.Ranks.{lowest-reason, answered-reason}
+use Rattle.equivalence.proofs.Ranks.{answered-reason, serve-refusal}
 use Rattle.equivalence.proofs.Tests.{T?, pick}
 use Rattle.equivalence.specs.declared.Check.{Check}
 use Rattle.equivalence.specs.declared.Check.the-variants.{Passed, Failed}
@@ -27,7 +27,7 @@ use Rattle.theory.specs.Decompose.{reducible}
 use Rattle.congruence.specs.Calls.{congruenceTest, mapsIn, mapsTest, generateTests, generateCall, containedTests, containedCall, separateTests}
 use Rattle.congruence.specs.Calls.{separateCall, quotientTests, quotientCall, decomposed, factorBytes, decomposeTests, decomposeCall}
 use Rattle.congruence.specs.Calls.{certifyTests, certifyCall}
-use Rattle.congruence.specs.Reasons.{RefusalRight, Reasons}
+use Rattle.congruence.specs.Reasons.{Reasons}
 use Rattle.congruence.proofs.Decomposing.{decomposed-yes, decomposed-no, factorBytes-no}
 use Rattle.congruence.specs.declared.Generated.the-variants.{Merges, Refused as GenerateRefused}
 use Rattle.congruence.specs.declared.Divided.the-variants.{Blocks, Refused as DivideRefused}
@@ -101,22 +101,6 @@ decomposed-never a r e =
 certified-never : (b : Bool) (r : Refusal) → ¬ (pick b Yes No ≡ CertifyRefused r)
 certified-never true r e = let z : _≡_ {A = ℕ} 0 1 = cc in omega arith
 certified-never false r e = let z : _≡_ {A = ℕ} 0 1 = cc in omega arith
-
--- ---- a call that writes
-
-lent-kept : (r : Refusal) (new lent : List ℕ) → lentAfter (Failed r) new lent ≡ lent
-unfolding lentAfter
-lent-kept r new lent = refl
-
-module _ {A : Type 0} (refused : Refusal → A) (answer : A) (apart : Injective refused) (never : (r : Refusal) → ¬ (answer ≡ refused r)) where
-  serve-refusal : (tests : List Test) (new lent : List ℕ) → T (rises tests) → RefusalRight refused (serve refused tests answer new lent) tests lent
-  unfolding serve
-  serve-refusal tests new lent up =
-      let right : ReasonRight refused (answered refused (lowest tests) answer) tests = answered-reason refused answer apart never tests up in
-      record {
-        reason = right;
-        unwritten = λ r e. ap (λ (c : Check). lentAfter c new lent) (lowest-reason tests up r .1 (right r .0 e)) ∙ lent-kept r new lent;
-      }
 
 -- 11 writes nothing
 module _ (a : Algebra) (lent : List ℕ) (x y : Element) where

@@ -5,10 +5,8 @@ use mathlib.Core.Path.{_≡_}
 use lib.ListN.{length}
 use Rattle.equivalence.specs.Calls.{twoMapsTests, meetCall, joinCall}
 use Rattle.equivalence.specs.Equivalence.{Map}
-use Rattle.equivalence.specs.Ranks.{ReasonRight}
-use Rattle.equivalence.specs.Refusal.{Test}
+use Rattle.equivalence.specs.Ranks.{ReasonRight, RefusalRight}
 use Rattle.equivalence.specs.declared.Element.{Element}
-use Rattle.equivalence.specs.declared.Refusal.{Refusal}
 use Rattle.equivalence.specs.declared.Written.the-variants.{Refused as WriteRefused}
 use Rattle.algebra.specs.Algebra.{Algebra}
 use Rattle.congruence.specs.Calls.{generateTests, generateCall, containedTests, containedCall, separateTests, separateCall, quotientTests, quotientCall, decomposeTests, decomposeCall, certifyTests, certifyCall}
@@ -16,11 +14,6 @@ use Rattle.congruence.specs.declared.Generated.the-variants.{Refused as 
 use Rattle.congruence.specs.declared.Divided.the-variants.{Refused as DivideRefused}
 use Rattle.congruence.specs.declared.Decomposed.the-variants.{Irreducible, Refused as DecomposeRefused}
 use Rattle.congruence.specs.declared.Certified.the-variants.{Refused as CertifyRefused}
-
--- a call that writes is refused with the lowest reason among its tests, and only so; refused, it leaves every lent byte
-pub record RefusalRight {A : Type 0} (refused : Refusal → A) (call : A × List ℕ) (tests : List Test) (lent : List ℕ) : Type 0 where
-  pub reason : ReasonRight refused (call .0) tests
-  pub unwritten : (r : Refusal) → call .0 ≡ refused r → call .1 ≡ lent
 
 -- every service, whatever it is handed
 pub record Reasons : Type 0 where

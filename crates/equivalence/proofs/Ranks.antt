@@ -8,8 +8,9 @@ use native.Mathlib.Omega.{arith}
 use lib.Dec.{T, eqb, leb, leb→le}
 use Rattle.equivalence.specs.Lists.{first}
 use Rattle.equivalence.specs.Outcome.{Injective}
-use Rattle.equivalence.specs.Ranks.{rank, rises, LowestReason, ReasonRight}
-use Rattle.equivalence.specs.Refusal.{Test, numberOf, lowest, answered}
+use Rattle.equivalence.specs.Lent.{lentAfter}
+use Rattle.equivalence.specs.Ranks.{rank, rises, LowestReason, ReasonRight, RefusalRight}
+use Rattle.equivalence.specs.Refusal.{Test, numberOf, lowest, answered, serve}
 use Rattle.equivalence.proofs.Refusals.{lowest-none, lowest-here, lowest-next}
 use Rattle.equivalence.proofs.Tests.{T?, left, right}
 use Rattle.equivalence.specs.declared.Refusal.{Refusal}
@@ -136,3 +137,10 @@ module _ {A : Type 0} (refused : Refusal → A) (answer : A) (apart : Injective 
     λ e. found-lowest tests up r (failed-of r (lowest tests) e),
     λ l. ap (λ (c : Check). answered refused c answer) (lowest-found tests up r l),
   )
+
+  -- and where it writes, a refusal leaves every lent byte
+  pub serve-refusal : (tests : List Test) (new lent : List ℕ) → T (rises tests) → RefusalRight refused (serve refused tests answer new lent) tests lent
+  unfolding serve lentAfter
+  serve-refusal tests new lent up =
+      let right : ReasonRight refused (answered refused (lowest tests) answer) tests = answered-reason tests up in
+      record { reason = right; unwritten = λ r e. ap (λ (c : Check). lentAfter c new lent) (lowest-found tests up r (right r .0 e)) }

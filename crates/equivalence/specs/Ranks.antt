@@ -30,3 +30,8 @@ pub record LowestReason (tests : List Test) (r : Refusal) : Type 0 where
 -- a call's answer is the refusal r if and only if r is the lowest reason among its tests
 abbrev pub ReasonRight : {A : Type 0} → (Refusal → A) → A → List Test → Type 0
 ReasonRight refused answer tests = (r : Refusal) → (answer ≡ refused r) ↔ LowestReason tests r
+
+-- a call that writes is refused with the lowest reason among its tests, and only so; refused, it leaves every lent byte
+pub record RefusalRight {A : Type 0} (refused : Refusal → A) (call : A × List ℕ) (tests : List Test) (lent : List ℕ) : Type 0 where
+  pub reason : ReasonRight refused (call .0) tests
+  pub unwritten : (r : Refusal) → call .0 ≡ refused r → call .1 ≡ lent
