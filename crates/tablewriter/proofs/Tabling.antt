@@ -7,13 +7,14 @@ use native.Mathlib.Decide.{ℕ-discrete}
 use native.Mathlib.Numerals.{sub-one}
 use native.Mathlib.Omega.{arith}
 use lib.ListN.{length, getD, take, drop, length-append, length-drop}
-use lib.Seq.{drop-drop, length-take-le, take-all}
+use lib.Seq.{drop-drop, length-take-le, take-all, getD-take, getD-drop}
 use Rattle.reader.specs.Reading.{ascii}
 use Rattle.reader.specs.Laying.{Laid}
 use Rattle.reader.proofs.Laying.{laid-more}
 use Rattle.reader.proofs.RoomLeft.{part-less}
 use Rattle.writer.specs.Numerals.{decimal}
 use Rattle.writer.specs.Lines.{gapBytes, spaced, bracketed}
+use Rattle.writer.specs.InnerRoom.{AtMost}
 use Rattle.writer.proofs.Digits.{decimal-some}
 use Rattle.tablewriter.specs.Texts.{partedTexts, tableText}
 use Rattle.tablewriter.specs.InnerFits.{RowsFit, TableFits}
@@ -192,18 +193,22 @@ module _ (n s left : ℕ) (cells : List ℕ) (put : ℕ) (lent : List ℕ) (f : 
 -- rows of numbers, one by one: those that are left begin at `from`, and whoever writes them has written all
 pub record RowsLeft (n left : ℕ) (cells lent : List ℕ) (put : ℕ) (out : List ℕ) (at from more : ℕ) : Type 0 where
   pub within : from ≤ length cells
+  pub behind : from + more * n ≡ left * n
   pub long : length out ≡ length lent
   pub fit : RowsFit n 1 more (drop from cells) at out
   pub joins : (after : List ℕ) (end : ℕ) → Laid out at (partedTexts (tableText n 1) (n ^ 1) more (drop from cells)) after end
       → Laid lent put (partedTexts (tableText n 1) (n ^ 1) left cells) after end
 
 pub rows-left-all : (n left : ℕ) (cells lent : List ℕ) (put : ℕ) → RowsFit n 1 left cells put lent → RowsLeft n left cells lent put lent put 0 left
-rows-left-all n left cells lent put f = record { within = omega arith; long = refl; fit = f; joins = λ after end l. l }
+rows-left-all n left cells lent put f = record { within = omega arith; behind = omega arith; long = refl; fit = f; joins = λ after end l. l }
+
+pow-one : (n : ℕ) → n ^ 1 ≡ n
+pow-one n = pow-succ' n 0 ∙ ap (λ (k : ℕ). n * k) (pow-zero n) ∙ mul-one n
+
+pub rows-there : (n left : ℕ) (cells : List ℕ) (put : ℕ) (lent : List ℕ) → RowsFit n 1 left cells put lent → left * n ≤ length cells
+rows-there n left cells put lent f = rw (pow-one n) at (f .there)
 
 module _ (n left : ℕ) (cells lent : List ℕ) (put : ℕ) (out : List ℕ) (at from more : ℕ) (p : RowsLeft n left cells lent put out at from more) where
-  one : n ^ 1 ≡ n
-  one = pow-succ' n 0 ∙ ap (λ (k : ℕ). n * k) (pow-zero n) ∙ mul-one n
-
   next-fits : TableFits n 1 (drop from cells) at out
   next-fits = first-fits n 1 more (drop from cells) at out (p .fit)
 
@@ -219,6 +224,21 @@ module _ (n left : ℕ) (cells lent : List ℕ) (put : ℕ) (out : List ℕ) (at
 
   pub next-row-some : 0 < length row
   next-row-some = rw same-row (row-some n 1 (drop from cells) at out next-fits refl)
+
+  -- what none of all rows is above, none of the next is
+  pub next-row-below : (top : ℕ) → AtMost top (take (left * n - 0) (drop 0 cells)) → AtMost top row
+  next-row-below top h =
+      let e : from + n - from ≡ n = omega arith in
+      let k : left * n - 0 ≡ left * n = omega arith in
+      let there : left * n ≤ length cells = omega (arith, p .behind, rows-there n more (drop from cells) at out (p .fit), length-drop from cells, p .within) in
+      let l : from + n ≤ left * n = omega (arith, p .behind, part-less more n (p .fit .shape .rows)) in
+      let long : length row ≡ n = length-take-le (from + n - from) (drop from cells) (rw length-drop (omega (arith, next-row-within))) ∙ e in
+      record {
+        above =
+            λ i s.
+            rw (e, getD-take n (drop from cells) i 0 (omega arith), getD-drop from cells i 0, ← getD-take (left * n) cells (from + i) 0 (omega arith))
+            (rw k at (h .above (from + i) (rw (k, length-take-le (left * n) cells there) (omega arith))));
+      }
 
   pub next-row-fits : at + length (bracketed row) + 1 ≤ length out
   next-row-fits = rw same-row (row-fits n 1 (drop from cells) at out next-fits refl)
@@ -239,7 +259,7 @@ module _ (n left : ℕ) (cells lent : List ℕ) (put : ℕ) (out : List ℕ) (at
       rest-same =
           take-all (length (drop from cells) - n ^ 1) (drop (n ^ 1) (drop from cells)) (rw length-drop (omega arith))
           ∙ drop-drop (n ^ 1) from cells
-          ∙ ap (λ (k : ℕ). drop (from + k) cells) one
+          ∙ ap (λ (k : ℕ). drop (from + k) cells) (pow-one n)
 
       pub rows-left-more : (mid′ : List ℕ) (at′ : ℕ) → Laid mid end gapBytes mid′ at′ → RowsLeft n left cells lent put mid′ at′ (from + n) (more - 1)
       rows-left-more mid′ at′ r =
@@ -248,6 +268,7 @@ module _ (n left : ℕ) (cells lent : List ℕ) (put : ℕ) (out : List ℕ) (at
           let g : more ≡ 1 → ⊥ = λ e. omega arith in
           record {
             within = next-row-within;
+            behind = omega (arith, p .behind, part-less more n (f .shape .rows));
             long = r .long ∙ q .long ∙ p .long;
             fit = rw rest-same at (others-fit n 1 more d at out f mid end row-laid g (n ^ 1) refl mid′ at′ r);
             joins =

@@ -1,31 +1,35 @@
 // Writing tables: `reader::reading` reads them back.
 use algebra::power;
+use writer::short::largest;
 use writer::write_bracketed;
 use writer::write_byte;
 use writer::write_gap;
 use writer::write_number;
+use writer::write_row;
 ghost use Prim.Native.Nat.{_^_};
 ghost use Rattle.reader.specs.Laying.{Laid};
 ghost use Rattle.tablewriter.specs.Texts.{partedTexts, tableText};
 ghost use Rattle.tablewriter.specs.InnerFits.{RowsFit, TableFits};
 
-// So many rows of n numbers, parted by gaps: `write_rows` over tables of arity 1, without a call for each.
+// So many rows of n numbers, parted by gaps: `write_rows` over tables of arity 1, without a call for each. Which number is the largest is asked once for all.
 fn write_number_rows(n: usize, left: usize, cells: &[u8], out: &mut [u8], put: usize) -> usize
     requires { ⌜ RowsFit n 1 left (now cells) put (now out) ⌝ }
     ensures { λ r. ⌜ Laid (now (out .entry)) put (partedTexts (tableText n 1) (n ^ 1) left (now (cells .entry))) (now (out .exit)) r ⌝ }
 {
+    let all = left * n;
+    let top = largest(&cells[0..all]);
     let mut at = put;
     let mut from = 0;
     let mut more = left;
     while 1 < more {
         let to = from + n;
-        let end = write_bracketed(&cells[from..to], out, at);
+        let end = write_row(top, &cells[from..to], out, at);
         at = write_gap(out, end);
         from = to;
         more -= 1;
     }
     let to = from + n;
-    write_bracketed(&cells[from..to], out, at)
+    write_row(top, &cells[from..to], out, at)
 }
 
 // The table of an arity that the cells begin with: a number, a bracket of numbers, or a bracket of n tables of the arity below.

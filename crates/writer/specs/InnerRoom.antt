@@ -1,4 +1,4 @@
--- What writers promise of a line and of bytes that others overwrite next, what they ask of the room that they are lent, and of a table of digits.
+-- What writers promise of a line and of bytes that others overwrite next, what they ask of the room that they are lent, of a table of digits, and of numbers.
 use Prim.Native.Nat.{ℕ, _+_, _*_, _/_, _%_, _≤_, _<_}
 use mathlib.Core.List.{List, [], _∷_, _++_}
 use mathlib.Core.Path.{_≡_}
@@ -32,3 +32,7 @@ pub record DigitTable (digits : List ℕ) : Type 0 where
   pub one : (v : ℕ) → v < 10 → getD digits (2 * v) 0 ≡ 48 + v
   pub first : (v : ℕ) → 10 ≤ v → v < 64 → getD digits (2 * v) 0 ≡ 48 + v / 10
   pub second : (v : ℕ) → 10 ≤ v → v < 64 → getD digits (2 * v + 1) 0 ≡ 48 + v % 10
+
+-- no number is above this one
+pub record AtMost (top : ℕ) (m : List ℕ) : Type 0 where
+  pub above : (i : ℕ) → i < length m → getD m i 0 ≤ top

@@ -8,7 +8,9 @@ ghost use Rattle.equivalence.specs.Lent.{stretch};
 ghost use Rattle.reader.specs.Reading.{ascii};
 ghost use Rattle.writer.specs.Lines.{gapBytes, spaced, bracketed, spacedBrackets, refusedLine};
 ghost use Rattle.reader.specs.Laying.{Laid};
-ghost use Rattle.writer.specs.InnerRoom.{LaidLine, LaidOpen, DigitTable, FactorsRoom};
+ghost use Rattle.writer.specs.InnerRoom.{LaidLine, LaidOpen, DigitTable, FactorsRoom, AtMost};
+
+pub mod short;
 
 // One byte.
 pub fn write_byte(b: u8, out: &mut [u8], put: usize) -> usize
@@ -118,8 +120,8 @@ fn write_by_table(m: &[u8], digits: &[u8], out: &mut [u8], put: usize) -> usize
     at
 }
 
-// Numbers, each after a space, with an open byte behind them: the caller writes there next.
-fn write_spaced(m: &[u8], out: &mut [u8], put: usize) -> usize
+// Numbers, each after a space, with an open byte behind them.
+fn write_mixed(m: &[u8], out: &mut [u8], put: usize) -> usize
     requires { ⌜ put + length (spaced (now m)) + 2 ≤ length (now out) ⌝ }
     ensures { λ r. ⌜ LaidOpen (now (out .entry)) put (spaced (now (m .entry))) (now (out .exit)) r ⌝ }
     ensures short { λ r. ⌜ r ≤ put + 4 * length (now (m .entry)) ⌝ }
@@ -129,16 +131,40 @@ fn write_spaced(m: &[u8], out: &mut [u8], put: usize) -> usize
     write_by_table(m, digits, out, put)
 }
 
-// Numbers in a bracket, parted by one space: the bracket opens where the gap before the first number stood.
+// Numbers, none above top, each after a space, with an open byte behind them: the caller writes there next.
+fn write_spaced(top: u8, m: &[u8], out: &mut [u8], put: usize) -> usize
+    requires { ⌜ put + length (spaced (now m)) + 2 ≤ length (now out) ⌝ }
+    requires { ⌜ AtMost top (now m) ⌝ }
+    ensures { λ r. ⌜ LaidOpen (now (out .entry)) put (spaced (now (m .entry))) (now (out .exit)) r ⌝ }
+    ensures short { λ r. ⌜ r ≤ put + 4 * length (now (m .entry)) ⌝ }
+{
+    if top < 10 {
+        return short::write_digits(m, out, put);
+    }
+    write_mixed(m, out, put)
+}
+
+// A row of numbers, none above top: in a bracket, parted by one space. The bracket opens where the gap before the first number stood.
+pub fn write_row(top: u8, m: &[u8], out: &mut [u8], put: usize) -> usize
+    requires { ⌜ (0 < length (now m)) × (put + length (bracketed (now m)) + 1 ≤ length (now out)) ⌝ }
+    requires { ⌜ AtMost top (now m) ⌝ }
+    ensures { λ r. ⌜ Laid (now (out .entry)) put (bracketed (now (m .entry))) (now (out .exit)) r ⌝ }
+    ensures short { λ r. ⌜ r ≤ put + 4 * length (now (m .entry)) + 1 ⌝ }
+{
+    let end = write_spaced(top, m, out, put);
+    let after = write_byte(b']', out, end);
+    write_byte(b'[', out, put);
+    after
+}
+
+// Numbers in a bracket, parted by one space.
 pub fn write_bracketed(m: &[u8], out: &mut [u8], put: usize) -> usize
     requires { ⌜ (0 < length (now m)) × (put + length (bracketed (now m)) + 1 ≤ length (now out)) ⌝ }
     ensures { λ r. ⌜ Laid (now (out .entry)) put (bracketed (now (m .entry))) (now (out .exit)) r ⌝ }
     ensures short { λ r. ⌜ r ≤ put + 4 * length (now (m .entry)) + 1 ⌝ }
 {
-    let end = write_spaced(m, out, put);
-    let after = write_byte(b']', out, end);
-    write_byte(b'[', out, put);
-    after
+    let top = short::largest(m);
+    write_row(top, m, out, put)
 }
 
 // Numbers in a bracket after a space.
@@ -214,8 +240,9 @@ pub fn write_map(m: &[u8], out: &mut [u8]) -> usize
     requires { ⌜ 4 * length (now m) + 6 ≤ length (now out) ⌝ }
     ensures { λ e. ⌜ LaidLine (ascii "[map") (spaced (now (m .entry))) (out .entry) (out .exit) e ⌝ }
 {
+    let top = short::largest(m);
     let word = write_word(b"[map", out, 0);
-    let end = write_spaced(m, out, word);
+    let end = write_spaced(top, m, out, word);
     write_close(out, end)
 }
 

@@ -8,6 +8,9 @@ use borrow.Author.Needs.{needs}
 use Rattle.writer.proofs.write_map.Statement.{statement}
 use Rattle.writer.proofs.write_map.Tie as tie
 
+largest-requires : tie.Need-largest-requires
+largest-requires c κs = search needs
+
 slice-aggregate-write-word : tie.Need-slice-aggregate-write-word
 slice-aggregate-write-word c = search needs
 
@@ -16,8 +19,8 @@ write-word-requires c κs = search needs
 
 write-spaced-requires : tie.Need-write-spaced-requires
 write-spaced-requires c κs =
-    let k = c .before .before .before .before .before .before .before in
-    omega (arith, spaced-short (now (k .before .args .m)) (λ i. omega (arith, k .shared-slice-known .given i)))
+    let k = c .before .before .before .before .before .before .before .before in
+    (omega (arith, spaced-short (now (k .before .args .m)) (λ i. omega (arith, k .shared-slice-known .given i))), search needs)
 
 write-close-requires : tie.Need-write-close-requires
 write-close-requires c κs = search needs
@@ -33,6 +36,7 @@ pub write-map-spec : {M : Type 1} → statement M
 write-map-spec =
     tie.close
     (tie.spec
+    largest-requires
     slice-aggregate-write-word
     write-word-requires
     write-spaced-requires

@@ -1,13 +1,11 @@
--- `write_spaced` meets its contract: its table has the digits that it should.
-use Rattle.reader.specs.Reading.{ascii}
-use Rattle.writer.proofs.DigitTable.{digit-table}
+-- `write_spaced` meets its contract: where the largest number is below 10, all are.
 use borrow.Author.Needs.{needs}
+use Rattle.writer.proofs.OneDigit.{below-ten}
 use Rattle.writer.proofs.write_spaced.Statement.{statement}
 use Rattle.writer.proofs.write_spaced.Tie as tie
 
-write-by-table-requires : tie.Need-write-by-table-requires
-unfolding ascii
-write-by-table-requires c κs = (search needs, digit-table)
+write-digits-requires : tie.Need-write-digits-requires
+write-digits-requires c κs = (search needs, search below-ten)
 
 same-length : tie.Need-same-length
 same-length c = search needs
@@ -15,5 +13,14 @@ same-length c = search needs
 returns : tie.Need-returns
 returns c = search needs
 
+write-mixed-requires : tie.Need-write-mixed-requires
+write-mixed-requires c κs = search needs
+
+same-length-2 : tie.Need-same-length-2
+same-length-2 c = search needs
+
+returns-2 : tie.Need-returns-2
+returns-2 c = search needs
+
 pub write-spaced-spec : {M : Type 1} → statement M
-write-spaced-spec = tie.close (tie.spec write-by-table-requires same-length returns)
+write-spaced-spec = tie.close (tie.spec write-digits-requires same-length returns write-mixed-requires same-length-2 returns-2)
