@@ -45,6 +45,7 @@ static const char *const faults[] = {
     "write-behind",         /* the text is ended by a byte 0 */
     "write-round",          /* 9 by a round figure and not by the text's length */
     "write-order",          /* 9 is tested before 6 */
+    "write-last",           /* a row is of one digit where all but its last number are */
     "read-nine-early",      /* 32,768 bytes are too few */
     "read-nine-late",       /* 32,767 bytes are enough */
     "read-exact",           /* as many bytes as there are cells are enough */
@@ -613,8 +614,24 @@ static void put_number(struct output *o, size_t value)
     put(o, (char)('0' + value % 10));
 }
 
+static int is_short(const uint8_t *cells, size_t count)
+{
+    while (count > 0 && cells[count - 1] < 10) {
+        count--;
+    }
+    return count == 0;
+}
+
 static void put_table(struct output *o, size_t n, unsigned arity, const uint8_t *cells)
 {
+    if (arity == 1 && fault("write-last") && is_short(cells, n - 1)) {
+        for (size_t i = 0; i < n; i++) {
+            put(o, i > 0 ? ' ' : '[');
+            put(o, (char)('0' + cells[i]));
+        }
+        put(o, ']');
+        return;
+    }
     if (arity == 0) {
         put_number(o, *cells);
         return;

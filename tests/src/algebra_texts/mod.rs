@@ -101,6 +101,13 @@ impl Comparison<'_> {
         wanted
     }
 
+    /// Two calls of the writer: lent as many bytes as the text has, and one more.
+    fn write_to_the_byte(&mut self, a: &Algebra) {
+        let exact = algebra_text(a).len();
+        self.write(a, exact);
+        self.write(a, exact + 1);
+    }
+
     /// One call of the reader, lent these bytes.
     fn read_into(&mut self, text: &[u8], lent: &[u8]) -> Read {
         let wanted = read(text, lent);

@@ -168,6 +168,30 @@ fn writes_into_any_length(library: Texts, s: &mut Suite) {
     c.end("lent lengths");
 }
 
+/// A row and a table of numbers below 10, and each with one number changed, at
+/// every place of a row: a writer may take such rows by a way of its own.
+fn writes_short_rows(library: Texts, s: &mut Suite) {
+    let mut c = Comparison::new(library, s);
+    for n in 1..=64 {
+        for s in 1..=2 {
+            let mut a = random(n, &[s], &mut c.suite.rng);
+            a.cells.iter_mut().for_each(|cell| *cell %= 10);
+            c.write_to_the_byte(&a);
+            for place in 0..n {
+                let row = c.suite.rng.below(a.cells.len() / n);
+                for value in [9, 10, n - 1] {
+                    let mut other = a.clone();
+                    other.cells[n * row + place] = value.min(n - 1) as u8;
+                    c.write_to_the_byte(&other);
+                }
+            }
+        }
+        if c.is_over() {
+            break;
+        }
+    }
+}
+
 fn declines_to_write(library: Texts, s: &mut Suite) {
     let mut c = Comparison::new(library, s);
     let mut seen = [0; 10];
@@ -197,8 +221,9 @@ pub fn suites(run: &mut Run, library: Texts) {
     run.suite(&format!("{} writer: examples and the longest text", library.name), |s| {
         expect_written(s, |a, lent, rng| written(library, a, lent, rng))
     });
-    let writer: [(&str, fn(Texts, &mut Suite)); 4] = [
+    let writer: [(&str, fn(Texts, &mut Suite)); 5] = [
         ("lent lengths", writes_into_any_length),
+        ("rows of numbers below 10, and of nearly such", writes_short_rows),
         ("refusals 1 to 6", declines_to_write),
         ("all sizes, and back", writes_all_sizes),
         ("random algebras, and back", writes_any),
