@@ -14,7 +14,7 @@ use Rattle.reader.proofs.Laying.{laid-more}
 use Rattle.reader.proofs.RoomLeft.{part-less}
 use Rattle.writer.specs.Numerals.{decimal}
 use Rattle.writer.specs.Lines.{gapBytes, spaced, bracketed}
-use Rattle.writer.specs.InnerRoom.{AtMost}
+use Rattle.writer.specs.InnerRoom.{Below}
 use Rattle.writer.proofs.Digits.{decimal-some}
 use Rattle.tablewriter.specs.Texts.{partedTexts, tableText}
 use Rattle.tablewriter.specs.InnerFits.{RowsFit, TableFits}
@@ -225,19 +225,19 @@ module _ (n left : ℕ) (cells lent : List ℕ) (put : ℕ) (out : List ℕ) (at
   pub next-row-some : 0 < length row
   next-row-some = rw same-row (row-some n 1 (drop from cells) at out next-fits refl)
 
-  -- what none of all rows is above, none of the next is
-  pub next-row-below : (top : ℕ) → AtMost top (take (left * n - 0) (drop 0 cells)) → AtMost top row
-  next-row-below top h =
+  -- what all numbers are below, those of the next row are
+  pub next-row-below : (k : ℕ) → Below k (take (left * n - 0) (drop 0 cells)) → Below k row
+  next-row-below k h =
       let e : from + n - from ≡ n = omega arith in
-      let k : left * n - 0 ≡ left * n = omega arith in
+      let all : left * n - 0 ≡ left * n = omega arith in
       let there : left * n ≤ length cells = omega (arith, p .behind, rows-there n more (drop from cells) at out (p .fit), length-drop from cells, p .within) in
       let l : from + n ≤ left * n = omega (arith, p .behind, part-less more n (p .fit .shape .rows)) in
       let long : length row ≡ n = length-take-le (from + n - from) (drop from cells) (rw length-drop (omega (arith, next-row-within))) ∙ e in
       record {
-        above =
+        each =
             λ i s.
             rw (e, getD-take n (drop from cells) i 0 (omega arith), getD-drop from cells i 0, ← getD-take (left * n) cells (from + i) 0 (omega arith))
-            (rw k at (h .above (from + i) (rw (k, length-take-le (left * n) cells there) (omega arith))));
+            (rw all at (h .each (from + i) (rw (all, length-take-le (left * n) cells there) (omega arith))));
       }
 
   pub next-row-fits : at + length (bracketed row) + 1 ≤ length out

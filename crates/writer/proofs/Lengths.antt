@@ -7,10 +7,12 @@ use native.Mathlib.Omega.{arith}
 use lib.ListN.{length, getD, take, drop, length-append, take-append-drop}
 use lib.Seq.{drop-cons}
 use Rattle.reader.specs.Reading.{ascii}
+use Rattle.reader.specs.Laying.{Laid}
 use Rattle.writer.specs.Numerals.{decimal}
 use Rattle.writer.specs.Lines.{gapBytes, spaced, bracketed}
 use Rattle.writer.proofs.Digits.{decimal-one, decimal-two, decimal-three, decimal-some}
-use Rattle.writer.proofs.Spacing.{Spaced, spaced-append}
+use Rattle.writer.proofs.Opening.{open-in-room}
+use Rattle.writer.proofs.Spacing.{Spaced, spaced-append, spaced-more}
 
 -- one digit below 10, two from there on
 pub one-digit-long : (v : ℕ) → v < 10 → length (decimal v) ≡ 1
@@ -57,7 +59,7 @@ pub bracketed-short : (m : List ℕ) → 0 < length m → Bytes m → length (br
 bracketed-short m h b = omega (arith, bracketed-length m h, spaced-short m b)
 
 -- a number after a space has two bytes at least
-pub number-fits : (v put : ℕ) (out : List ℕ) → put + length (spaced (v ∷ [])) + 2 ≤ length out → put + 4 ≤ length out
+number-fits : (v put : ℕ) (out : List ℕ) → put + length (spaced (v ∷ [])) + 2 ≤ length out → put + 4 ≤ length out
 number-fits v put out room = omega (arith, spaced-length v [], decimal-some v)
 
 -- behind the first i numbers there is room for another, where there is room for all of them
@@ -69,6 +71,15 @@ spaced-room m i h =
     let x = getD m i 0 in
     omega (arith, ap length e, length-append (spaced (take i m)) (spaced (x ∷ drop (suc i) m)), spaced-length x (drop (suc i) m), spaced-length x [])
 
-pub spaced-fits : (lent : List ℕ) (put : ℕ) (m out : List ℕ) (at i : ℕ) → put + length (spaced m) + 2 ≤ length lent → Spaced lent put m out at i → i < length m
-    → at + length (spaced (getD m i 0 ∷ [])) + 2 ≤ length out
-spaced-fits lent put m out at i room p h = omega (arith, room, p .laid .place, p .laid .long, spaced-room m i h)
+module _ (lent : List ℕ) (put : ℕ) (m : List ℕ) (room : put + length (spaced m) + 2 ≤ length lent) (out : List ℕ) (at i : ℕ) (p : Spaced lent put m out at i)
+    (h : i < length m) where
+  next-fits : at + length (spaced (getD m i 0 ∷ [])) + 2 ≤ length out
+  next-fits = omega (arith, room, p .laid .place, p .laid .long, spaced-room m i h)
+
+  pub next-room : at + 4 ≤ length out
+  next-room = number-fits (getD m i 0) at out next-fits
+
+  -- the next number, laid exactly
+  pub spaced-next : (out′ : List ℕ) (at′ : ℕ) → Laid out at (spaced (getD m i 0 ∷ [])) out′ at′ → at′ ≤ at + 4 → Spaced lent put m out′ at′ (i + 1)
+  spaced-next out′ at′ q l =
+      spaced-more lent put m room out at i out′ at′ p h (open-in-room out at (spaced (getD m i 0 ∷ [])) out′ at′ next-fits q) l

@@ -33,6 +33,6 @@ pub record DigitTable (digits : List ℕ) : Type 0 where
   pub first : (v : ℕ) → 10 ≤ v → v < 64 → getD digits (2 * v) 0 ≡ 48 + v / 10
   pub second : (v : ℕ) → 10 ≤ v → v < 64 → getD digits (2 * v + 1) 0 ≡ 48 + v % 10
 
--- no number is above this one
-pub record AtMost (top : ℕ) (m : List ℕ) : Type 0 where
-  pub above : (i : ℕ) → i < length m → getD m i 0 ≤ top
+-- every number is below k
+pub record Below (k : ℕ) (m : List ℕ) : Type 0 where
+  pub each : (i : ℕ) → i < length m → getD m i 0 < k

@@ -8,7 +8,7 @@ ghost use Rattle.equivalence.specs.Lent.{stretch};
 ghost use Rattle.reader.specs.Reading.{ascii};
 ghost use Rattle.writer.specs.Lines.{gapBytes, spaced, bracketed, spacedBrackets, refusedLine};
 ghost use Rattle.reader.specs.Laying.{Laid};
-ghost use Rattle.writer.specs.InnerRoom.{LaidLine, LaidOpen, DigitTable, FactorsRoom, AtMost};
+ghost use Rattle.writer.specs.InnerRoom.{LaidLine, LaidOpen, DigitTable, FactorsRoom, Below};
 
 pub mod short;
 
@@ -91,22 +91,10 @@ fn write_small(v: u8, digits: &[u8], out: &mut [u8], put: usize) -> usize
     put + 3
 }
 
-// A number after a gap, with an open byte behind it.
-fn write_open(v: u8, digits: &[u8], out: &mut [u8], put: usize) -> usize
-    requires { ⌜ put + length (spaced (v ∷ [])) + 2 ≤ length (now out) ⌝ }
-    requires { ⌜ DigitTable (now digits) ⌝ }
-    ensures { λ r. ⌜ LaidOpen (now (out .entry)) put (spaced (v ∷ [])) (now (out .exit)) r ⌝ }
-    ensures short { λ r. ⌜ r ≤ put + 4 ⌝ }
-{
-    if v < 64 {
-        return write_small(v, digits, out, put);
-    }
-    write_spaced_number(v, out, put)
-}
-
-// Numbers, each after a space, with an open byte behind them. The table is lent, so that it is laid out once and not for each number.
+// Numbers below 64, each after a space, with an open byte behind them. The table is lent, so that it is laid out once and not for each number.
 fn write_by_table(m: &[u8], digits: &[u8], out: &mut [u8], put: usize) -> usize
     requires { ⌜ put + length (spaced (now m)) + 2 ≤ length (now out) ⌝ }
+    requires { ⌜ Below 64 (now m) ⌝ }
     requires { ⌜ DigitTable (now digits) ⌝ }
     ensures { λ r. ⌜ LaidOpen (now (out .entry)) put (spaced (now (m .entry))) (now (out .exit)) r ⌝ }
     ensures short { λ r. ⌜ r ≤ put + 4 * length (now (m .entry)) ⌝ }
@@ -114,15 +102,16 @@ fn write_by_table(m: &[u8], digits: &[u8], out: &mut [u8], put: usize) -> usize
     let mut at = put;
     let mut i = 0;
     while i < m.len() {
-        at = write_open(m[i], digits, out, at);
+        at = write_small(m[i], digits, out, at);
         i += 1;
     }
     at
 }
 
-// Numbers, each after a space, with an open byte behind them.
+// The same, by a table that is laid out here.
 fn write_mixed(m: &[u8], out: &mut [u8], put: usize) -> usize
     requires { ⌜ put + length (spaced (now m)) + 2 ≤ length (now out) ⌝ }
+    requires { ⌜ Below 64 (now m) ⌝ }
     ensures { λ r. ⌜ LaidOpen (now (out .entry)) put (spaced (now (m .entry))) (now (out .exit)) r ⌝ }
     ensures short { λ r. ⌜ r ≤ put + 4 * length (now (m .entry)) ⌝ }
 {
@@ -131,23 +120,41 @@ fn write_mixed(m: &[u8], out: &mut [u8], put: usize) -> usize
     write_by_table(m, digits, out, put)
 }
 
-// Numbers, none above top, each after a space, with an open byte behind them: the caller writes there next.
+// Numbers, each after a space.
+fn write_numbers(m: &[u8], out: &mut [u8], put: usize) -> usize
+    requires { ⌜ put + length (spaced (now m)) + 2 ≤ length (now out) ⌝ }
+    ensures { λ r. ⌜ LaidOpen (now (out .entry)) put (spaced (now (m .entry))) (now (out .exit)) r ⌝ }
+    ensures short { λ r. ⌜ r ≤ put + 4 * length (now (m .entry)) ⌝ }
+{
+    let mut at = put;
+    let mut i = 0;
+    while i < m.len() {
+        at = write_spaced_number(m[i], out, at);
+        i += 1;
+    }
+    at
+}
+
+// Numbers, none above top, each after a space, with an open byte behind them: the caller writes there next. Which way fits is asked once, and not for each number.
 fn write_spaced(top: u8, m: &[u8], out: &mut [u8], put: usize) -> usize
     requires { ⌜ put + length (spaced (now m)) + 2 ≤ length (now out) ⌝ }
-    requires { ⌜ AtMost top (now m) ⌝ }
+    requires { ⌜ Below (top + 1) (now m) ⌝ }
     ensures { λ r. ⌜ LaidOpen (now (out .entry)) put (spaced (now (m .entry))) (now (out .exit)) r ⌝ }
     ensures short { λ r. ⌜ r ≤ put + 4 * length (now (m .entry)) ⌝ }
 {
     if top < 10 {
         return short::write_digits(m, out, put);
     }
-    write_mixed(m, out, put)
+    if top < 64 {
+        return write_mixed(m, out, put);
+    }
+    write_numbers(m, out, put)
 }
 
 // A row of numbers, none above top: in a bracket, parted by one space. The bracket opens where the gap before the first number stood.
 pub fn write_row(top: u8, m: &[u8], out: &mut [u8], put: usize) -> usize
     requires { ⌜ (0 < length (now m)) × (put + length (bracketed (now m)) + 1 ≤ length (now out)) ⌝ }
-    requires { ⌜ AtMost top (now m) ⌝ }
+    requires { ⌜ Below (top + 1) (now m) ⌝ }
     ensures { λ r. ⌜ Laid (now (out .entry)) put (bracketed (now (m .entry))) (now (out .exit)) r ⌝ }
     ensures short { λ r. ⌜ r ≤ put + 4 * length (now (m .entry)) + 1 ⌝ }
 {

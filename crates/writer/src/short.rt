@@ -4,12 +4,13 @@ use crate::write_gap;
 ghost use mathlib.Core.List.{[], _∷_};
 ghost use Prim.Native.Nat.{_+_, _*_, _≤_, _<_};
 ghost use lib.ListN.{length};
+ghost use Rattle.reader.specs.Laying.{Laid};
 ghost use Rattle.writer.specs.Lines.{spaced};
-ghost use Rattle.writer.specs.InnerRoom.{LaidOpen, AtMost};
+ghost use Rattle.writer.specs.InnerRoom.{LaidOpen, Below};
 
 // The largest of the numbers, or 0. They are read without an early exit, so that the loop can take many at a time.
 pub fn largest(m: &[u8]) -> u8
-    ensures { λ r. ⌜ AtMost r (now (m .entry)) ⌝ }
+    ensures { λ r. ⌜ Below (r + 1) (now (m .entry)) ⌝ }
 {
     let mut top = 0u8;
     let mut i = 0;
@@ -22,9 +23,8 @@ pub fn largest(m: &[u8]) -> u8
 
 // A number below 10 after a gap.
 fn write_digit(v: u8, out: &mut [u8], put: usize) -> usize
-    requires { ⌜ put + length (spaced (v ∷ [])) + 2 ≤ length (now out) ⌝ }
-    requires { ⌜ v < 10 ⌝ }
-    ensures { λ r. ⌜ LaidOpen (now (out .entry)) put (spaced (v ∷ [])) (now (out .exit)) r ⌝ }
+    requires { ⌜ (v < 10) × (put + 4 ≤ length (now out)) ⌝ }
+    ensures { λ r. ⌜ Laid (now (out .entry)) put (spaced (v ∷ [])) (now (out .exit)) r ⌝ }
     ensures short { λ r. ⌜ r ≤ put + 4 ⌝ }
 {
     let digit = write_gap(out, put);
@@ -34,7 +34,7 @@ fn write_digit(v: u8, out: &mut [u8], put: usize) -> usize
 // Numbers below 10, each after a space.
 pub fn write_digits(m: &[u8], out: &mut [u8], put: usize) -> usize
     requires { ⌜ put + length (spaced (now m)) + 2 ≤ length (now out) ⌝ }
-    requires { ⌜ AtMost 9 (now m) ⌝ }
+    requires { ⌜ Below 10 (now m) ⌝ }
     ensures { λ r. ⌜ LaidOpen (now (out .entry)) put (spaced (now (m .entry))) (now (out .exit)) r ⌝ }
     ensures short { λ r. ⌜ r ≤ put + 4 * length (now (m .entry)) ⌝ }
 {

@@ -4,7 +4,8 @@ use native.Mathlib.Omega.{arith}
 use lib.ListN.{length}
 use borrow.Author.Needs.{needs}
 use Rattle.writer.proofs.Spacing.{Spaced, spaced-start, spaced-more, spaced-all}
-use Rattle.writer.proofs.Lengths.{spaced-fits}
+use Rattle.writer.proofs.Lengths.{next-room}
+use Rattle.writer.proofs.OneDigit.{each-below}
 use Rattle.writer.proofs.write_by_table.Statement.{statement}
 use Rattle.writer.proofs.write_by_table.Tie as tie
 
@@ -17,11 +18,11 @@ abbrev μ-loop : tie.MeasureT-loop
 loop-holds : tie.Need-loop-holds Inv-loop μ-loop
 loop-holds c = search spaced-start
 
-shared-slice-read-write-open : tie.Need-shared-slice-read-write-open Inv-loop μ-loop
-shared-slice-read-write-open c = search needs
+shared-slice-read-write-small : tie.Need-shared-slice-read-write-small Inv-loop μ-loop
+shared-slice-read-write-small c = search needs
 
-write-open-requires : tie.Need-write-open-requires Inv-loop μ-loop
-write-open-requires c κs = (search spaced-fits, search needs)
+write-small-requires : tie.Need-write-small-requires Inv-loop μ-loop
+write-small-requires c κs = ((search each-below, search next-room), search needs)
 
 add-i : tie.Need-add-i Inv-loop μ-loop
 add-i c = search needs
@@ -45,8 +46,8 @@ write-by-table-spec =
     Inv-loop
     μ-loop
     loop-holds
-    shared-slice-read-write-open
-    write-open-requires
+    shared-slice-read-write-small
+    write-small-requires
     add-i
     loop-less
     loop-again

@@ -7,7 +7,7 @@ use Rattle.writer.proofs.write_mixed.Tie as tie
 
 write-by-table-requires : tie.Need-write-by-table-requires
 unfolding ascii
-write-by-table-requires c κs = (search needs, digit-table)
+write-by-table-requires c κs = (search needs, (search needs, digit-table))
 
 same-length : tie.Need-same-length
 same-length c = search needs

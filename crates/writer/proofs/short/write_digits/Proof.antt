@@ -3,9 +3,9 @@ use Prim.Native.Nat.{_-_}
 use native.Mathlib.Omega.{arith}
 use lib.ListN.{length}
 use borrow.Author.Needs.{needs}
-use Rattle.writer.proofs.Spacing.{Spaced, spaced-start, spaced-more, spaced-all}
-use Rattle.writer.proofs.Lengths.{spaced-fits}
-use Rattle.writer.proofs.OneDigit.{digit-below}
+use Rattle.writer.proofs.Spacing.{Spaced, spaced-start, spaced-all}
+use Rattle.writer.proofs.Lengths.{next-room, spaced-next}
+use Rattle.writer.proofs.OneDigit.{each-below}
 use Rattle.writer.proofs.short.write_digits.Statement.{statement}
 use Rattle.writer.proofs.short.write_digits.Tie as tie
 
@@ -22,7 +22,7 @@ shared-slice-read-write-digit : tie.Need-shared-slice-read-write-digit Inv-loop 
 shared-slice-read-write-digit c = search needs
 
 write-digit-requires : tie.Need-write-digit-requires Inv-loop μ-loop
-write-digit-requires c κs = (search spaced-fits, search digit-below)
+write-digit-requires c κs = (search each-below, search next-room)
 
 add-i : tie.Need-add-i Inv-loop μ-loop
 add-i c = search needs
@@ -31,7 +31,7 @@ loop-less : tie.Need-loop-less Inv-loop μ-loop
 loop-less c = search needs
 
 loop-again : tie.Need-loop-again Inv-loop μ-loop
-loop-again c = search spaced-more
+loop-again c = search spaced-next
 
 same-length : tie.Need-same-length Inv-loop μ-loop
 same-length c = search needs
