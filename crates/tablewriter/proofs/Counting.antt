@@ -1,19 +1,20 @@
 -- The text's length, summed up: digits of the first numbers, brackets and gaps of the first arities.
-use Prim.Native.Nat.{ℕ, zero, suc, _+_, _*_, _≤_, _<_}
+use Prim.Native.Nat.{ℕ, zero, suc, _+_, _-_, _*_, _≤_, _<_}
 use mathlib.Core.List.{List, [], _∷_, _++_}
 use mathlib.Core.Path.{_≡_, refl, ap, _∙_}
 use native.Mathlib.Decide.{decLt}
 use native.Mathlib.Nat.{mul-zero, mul-le-mul}
 use native.Mathlib.Numerals.{add-one}
 use native.Mathlib.Omega.{arith}
-use lib.ListN.{length, getD, take}
+use lib.ListN.{length, getD, take, drop}
 use lib.Seq.{take-suc, take-all}
 use Rattle.algebra.specs.Algebra.{algebraOf, cellCount}
 use Rattle.writer.specs.Numerals.{decimal}
 use Rattle.writer.proofs.Lengths.{one-digit-long, two-digits-long}
 use Rattle.tablewriter.specs.Texts.{algebraText}
-use Rattle.tablewriter.specs.InnerLengths.{frame, frames, figures, TwoDigits, Measurable}
-use Rattle.tablewriter.proofs.TextLengths.{figures-append, text-length}
+use Rattle.tablewriter.specs.InnerLengths.{frame, frames, figures, TwoDigits, PartEnd, Measurable}
+use Rattle.tablewriter.proofs.TextLengths.{figures-append, figures-parts, text-length}
+use Rattle.tablewriter.proofs.Parts.{part-length, part-member}
 
 -- two digits at most below 100
 pub digits-few : (v : ℕ) → v < 100 → length (decimal v) ≤ 2
@@ -22,6 +23,12 @@ digits-few v h =
       | yes l ↦ omega (arith, one-digit-long v l)
       | no l ↦ omega (arith, two-digits-long v (omega arith) h)
     ]
+
+-- numbers below 100 have two digits each at most
+pub figures-few : (m : List ℕ) → TwoDigits m → figures m ≤ 2 * length m
+unfolding figures
+figures-few [] h = omega arith
+figures-few (x ∷ rest) h = omega (arith, digits-few x (h 0 (omega arith)), figures-few rest (λ i l. h (suc i) (omega arith)))
 
 -- the second digits of the first i numbers are counted
 pub record Counted (m : List ℕ) (count i : ℕ) : Type 0 where
@@ -46,14 +53,31 @@ module _ (m : List ℕ) (short : TwoDigits m) where
   pub second-short : (i : ℕ) → i < length m → getD m i 0 < 100
   second-short i h = short i h
 
+  -- those of a part more
+  module _ (from to : ℕ) (b : PartEnd from (length m) to) where
+    abbrev part : List ℕ
+    part = take (to - from) (drop from m)
+
+    pub part-short : TwoDigits part
+    part-short i l =
+        let h : i < to - from = omega (arith, part-length m from to (b .within)) in
+        rw (part-member m from to i h) (short (from + i) (omega (arith, b .within)))
+
+    pub part-few : length part ≤ 128
+    part-few = omega (arith, part-length m from to (b .within), b .few)
+
+    pub second-part : (count d : ℕ) → Counted m count from → d + length part ≡ figures part → Counted m (count + d) to
+    second-part count d p e =
+        let k : to ≡ from + (to - from) = omega (arith, b .some) in
+        let long = part-length m from to (b .within) in
+        record {
+          passed = b .within;
+          value = omega (arith, p .value, e, long, k, ap (λ (j : ℕ). figures (take j m)) k, figures-parts from (to - from) m);
+          few = omega (arith, p .few, e, long, k, figures-few part part-short);
+        }
+
   pub second-all : (count i : ℕ) → Counted m count i → length m ≤ i → count + length m ≡ figures m
   second-all count i p h = let e : i ≡ length m = omega (arith, p .passed) in omega (arith, p .value, ap figures (take-all i m h))
-
--- numbers below 100 have two digits each at most
-pub figures-few : (m : List ℕ) → TwoDigits m → figures m ≤ 2 * length m
-unfolding figures
-figures-few [] h = omega arith
-figures-few (x ∷ rest) h = omega (arith, digits-few x (h 0 (omega arith)), figures-few rest (λ i l. h (suc i) (omega arith)))
 
 -- the brackets and gaps of a table stay small
 frame-next : (n s b : ℕ) → n ≤ 64 → frame n s ≤ b → frame n (suc s) ≤ 64 * b + 65

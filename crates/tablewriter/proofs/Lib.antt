@@ -1,4 +1,5 @@
 pub mod TextLengths
+pub mod Parts
 pub mod Counting
 pub mod Tabling
 pub mod Lining

@@ -7,7 +7,7 @@ use native.Mathlib.Decide.{ℕ-discrete}
 use native.Mathlib.Numerals.{sub-one}
 use native.Mathlib.Omega.{arith}
 use lib.ListN.{length, getD, take, drop, length-append, length-drop}
-use lib.Seq.{drop-drop, length-take-le, take-all, getD-take, getD-drop}
+use lib.Seq.{drop-drop, length-take-le, take-all}
 use Rattle.reader.specs.Reading.{ascii}
 use Rattle.reader.specs.Laying.{Laid}
 use Rattle.reader.proofs.Laying.{laid-more}
@@ -19,6 +19,7 @@ use Rattle.writer.proofs.Digits.{decimal-some}
 use Rattle.tablewriter.specs.Texts.{partedTexts, tableText}
 use Rattle.tablewriter.specs.InnerFits.{RowsFit, TableFits}
 use Rattle.tablewriter.proofs.TextLengths.{gap-length}
+use Rattle.tablewriter.proofs.Parts.{part-length, part-member}
 
 -- a table of arity 0
 module _ (n s : ℕ) (cells : List ℕ) (put : ℕ) (lent : List ℕ) (f : TableFits n s cells put lent) (e : s ≡ 0) where
@@ -228,16 +229,15 @@ module _ (n left : ℕ) (cells lent : List ℕ) (put : ℕ) (out : List ℕ) (at
   -- what all numbers are below, those of the next row are
   pub next-row-below : (k : ℕ) → Below k (take (left * n - 0) (drop 0 cells)) → Below k row
   next-row-below k h =
-      let e : from + n - from ≡ n = omega arith in
-      let all : left * n - 0 ≡ left * n = omega arith in
       let there : left * n ≤ length cells = omega (arith, p .behind, rows-there n more (drop from cells) at out (p .fit), length-drop from cells, p .within) in
-      let l : from + n ≤ left * n = omega (arith, p .behind, part-less more n (p .fit .shape .rows)) in
-      let long : length row ≡ n = length-take-le (from + n - from) (drop from cells) (rw length-drop (omega (arith, next-row-within))) ∙ e in
       record {
         each =
             λ i s.
-            rw (e, getD-take n (drop from cells) i 0 (omega arith), getD-drop from cells i 0, ← getD-take (left * n) cells (from + i) 0 (omega arith))
-            (rw all at (h .each (from + i) (rw (all, length-take-le (left * n) cells there) (omega arith))));
+            let g : i < from + n - from = omega (arith, part-length cells from (from + n) next-row-within) in
+            let j : from + i < left * n - 0 = omega (arith, p .behind, part-less more n (p .fit .shape .rows)) in
+            let e : getD (take (left * n - 0) (drop 0 cells)) (from + i) 0 ≡ getD cells (from + i) 0 =
+            part-member cells 0 (left * n) (from + i) j ∙ ap (λ (x : ℕ). getD cells x 0) (omega arith) in
+            omega (arith, part-member cells from (from + n) i g, e, h .each (from + i) (omega (arith, part-length cells 0 (left * n) there)));
       }
 
   pub next-row-fits : at + length (bracketed row) + 1 ≤ length out

@@ -22,7 +22,7 @@ figures-append [] ys = omega arith
 figures-append (x ∷ xs) ys = omega (arith, figures-append xs ys)
 
 -- the first cells, and those behind them
-figures-parts : (w v : ℕ) (cells : List ℕ) → figures (take (w + v) cells) ≡ figures (take w cells) + figures (take v (drop w cells))
+pub figures-parts : (w v : ℕ) (cells : List ℕ) → figures (take (w + v) cells) ≡ figures (take w cells) + figures (take v (drop w cells))
 figures-parts w v cells = ap figures (take-add w v cells) ∙ figures-append (take w cells) (take v (drop w cells))
 
 -- a gap is one byte

@@ -26,6 +26,12 @@ figures (x ∷ rest) = length (decimal x) + figures rest
 abbrev pub TwoDigits : List ℕ → Type 0
 TwoDigits m = (i : ℕ) → i < length m → getD m i 0 < 100
 
+-- a part of 128 numbers at most ends here
+pub record PartEnd (from end to : ℕ) : Type 0 where
+  pub some : from < to
+  pub within : to ≤ end
+  pub few : to ≤ from + 128
+
 -- the tables of an algebra whose elements have two digits at most, and no cell behind them
 pub record Measurable (n : ℕ) (arities cells : List ℕ) : Type 0 where
   pub tables : TablesThere n arities cells

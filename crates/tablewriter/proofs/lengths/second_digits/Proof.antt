@@ -1,41 +1,47 @@
--- `lengths::second_digits` meets its contract, by the laws of Counting.
+-- `lengths::second_digits` meets its contract, by the laws of Counting: a part more in each turn.
 use Prim.Native.Nat.{_-_}
 use native.Mathlib.Omega.{arith}
 use lib.ListN.{length}
 use borrow.Author.Needs.{needs}
-use Rattle.tablewriter.proofs.Counting.{Counted, second-none, second-more, second-short, second-all}
+use Rattle.tablewriter.proofs.Counting.{Counted, second-none, part-short, part-few, second-part, second-all}
 use Rattle.tablewriter.proofs.lengths.second_digits.Statement.{statement}
 use Rattle.tablewriter.proofs.lengths.second_digits.Tie as tie
 
 abbrev Inv-loop : tie.InvT-loop
-Inv-loop m count₀ i₀ count i = Counted m count i
+Inv-loop m count₀ from₀ count from = Counted m count from
 
 abbrev μ-loop : tie.MeasureT-loop
-μ-loop m count₀ i₀ count i = length m - i
+μ-loop m count₀ from₀ count from = length m - from
 
 loop-holds : tie.Need-loop-holds Inv-loop μ-loop
 loop-holds c = search second-none
 
-shared-slice-read-second-digit : tie.Need-shared-slice-read-second-digit Inv-loop μ-loop
-shared-slice-read-second-digit c = search needs
+part-end-requires : tie.Need-part-end-requires Inv-loop μ-loop
+part-end-requires c κs = search needs
 
-second-digit-requires : tie.Need-second-digit-requires Inv-loop μ-loop
-second-digit-requires c κs = search second-short
+sub-second-digits-of-few : tie.Need-sub-second-digits-of-few Inv-loop μ-loop
+sub-second-digits-of-few c = search needs
+
+part-second-digits-of-few-start : tie.Need-part-second-digits-of-few-start Inv-loop μ-loop
+part-second-digits-of-few-start c = search needs
+
+part-second-digits-of-few-end : tie.Need-part-second-digits-of-few-end Inv-loop μ-loop
+part-second-digits-of-few-end c = search needs
+
+second-digits-of-few-requires : tie.Need-second-digits-of-few-requires Inv-loop μ-loop
+second-digits-of-few-requires c κs = (search part-short, search part-few)
+
+cast-count : tie.Need-cast-count Inv-loop μ-loop
+cast-count c = search needs
 
 add-count : tie.Need-add-count Inv-loop μ-loop
-add-count c =
-    let k = c .before .before in
-    let p = k .before .before .before .pre in
-    omega (arith, second-more _ (p .0) _ _ _ (k .before .loop .inv) (k .loop-test .taken) (c .second-digit .ensures), p .1)
-
-add-i : tie.Need-add-i Inv-loop μ-loop
-add-i c = search needs
+add-count c = search needs
 
 loop-less : tie.Need-loop-less Inv-loop μ-loop
 loop-less c = search needs
 
 loop-again : tie.Need-loop-again Inv-loop μ-loop
-loop-again c = search second-more
+loop-again c = search second-part
 
 returns : tie.Need-returns Inv-loop μ-loop
 returns c = search second-all
@@ -47,10 +53,13 @@ second-digits-spec =
     Inv-loop
     μ-loop
     loop-holds
-    shared-slice-read-second-digit
-    second-digit-requires
+    part-end-requires
+    sub-second-digits-of-few
+    part-second-digits-of-few-start
+    part-second-digits-of-few-end
+    second-digits-of-few-requires
+    cast-count
     add-count
-    add-i
     loop-less
     loop-again
     returns)
