@@ -1,7 +1,7 @@
 -- The text's length, summed up: digits of the first numbers, brackets and gaps of the first arities.
 use Prim.Native.Nat.{ℕ, zero, suc, _+_, _-_, _*_, _≤_, _<_}
 use mathlib.Core.List.{List, [], _∷_, _++_}
-use mathlib.Core.Path.{_≡_, refl, ap, _∙_}
+use mathlib.Core.Path.{_≡_, refl, ap}
 use native.Mathlib.Decide.{decLt}
 use native.Mathlib.Nat.{mul-zero, mul-le-mul}
 use native.Mathlib.Numerals.{add-one}

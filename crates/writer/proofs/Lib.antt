@@ -4,4 +4,4 @@ pub mod DigitTable
 pub mod Spacing
 pub mod Numerals
 pub mod Lengths
-pub mod OneDigit
+pub mod Bounds

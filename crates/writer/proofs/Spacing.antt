@@ -108,6 +108,9 @@ module _ (lent : List ℕ) (put : ℕ) (mid : List ℕ) (at : ℕ) (after : List
   pub number-after-space : (v : ℕ) → Laid lent put gapBytes mid at → Laid mid at (decimal v) after end → Laid lent put (spaced (v ∷ [])) after end
   number-after-space v p q = rw (spaced-one v) (laid-more lent put gapBytes mid at (decimal v) after end p q)
 
+  pub digit-after-space : (v : ℕ) → v < 10 → Laid lent put gapBytes mid at → Laid mid at ((48 + v) ∷ []) after end → Laid lent put (spaced (v ∷ [])) after end
+  digit-after-space v h p q = number-after-space v p (rw (decimal-one v h) q)
+
   -- a space and two bytes of the table: where there is one digit, the last byte stands open behind it
   module _ (v : ℕ) (digits : List ℕ) (table : DigitTable digits) (mid′ : List ℕ) (at′ : ℕ) (p : Laid lent put gapBytes mid at)
       (q : Laid mid at (getD digits (2 * v) 0 ∷ []) mid′ at′) (r : Laid mid′ at′ (getD digits (2 * v + 1) 0 ∷ []) after end) where

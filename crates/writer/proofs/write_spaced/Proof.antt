@@ -1,6 +1,6 @@
 -- `write_spaced` meets its contract: where the largest number is below 10 or 64, all are.
 use borrow.Author.Needs.{needs}
-use Rattle.writer.proofs.OneDigit.{largest-below}
+use Rattle.writer.proofs.Bounds.{largest-below}
 use Rattle.writer.proofs.write_spaced.Statement.{statement}
 use Rattle.writer.proofs.write_spaced.Tie as tie
 

@@ -1,6 +1,5 @@
 -- `lengths::second_digits` meets its contract, by the laws of Counting: a part more in each turn.
 use Prim.Native.Nat.{_-_}
-use native.Mathlib.Omega.{arith}
 use lib.ListN.{length}
 use borrow.Author.Needs.{needs}
 use Rattle.tablewriter.proofs.Counting.{Counted, second-none, part-short, part-few, second-part, second-all}

@@ -1,5 +1,4 @@
 -- `tables::write_number_rows` meets its contract, by the laws of Tabling.
-use Prim.Native.Nat.{ℕ}
 use native.Mathlib.Omega.{arith}
 use borrow.Author.Needs.{needs}
 use Rattle.tablewriter.proofs.Tabling.{RowsLeft, rows-there, rows-left-all, next-row-within, next-row-some, next-row-fits, next-row-below, last-row-written, row-gap-fits, rows-left-more}

@@ -2,7 +2,7 @@
 use Prim.Native.Nat.{_-_}
 use lib.ListN.{length}
 use borrow.Author.Needs.{needs}
-use Rattle.writer.proofs.OneDigit.{Passed, passed-none, passed-more, passed-all}
+use Rattle.writer.proofs.Bounds.{Passed, passed-none, passed-more, passed-all}
 use Rattle.writer.proofs.short.largest.Statement.{statement}
 use Rattle.writer.proofs.short.largest.Tie as tie
 

@@ -1,7 +1,7 @@
--- `short::write_digit` meets its contract, by a law of OneDigit.
+-- `short::write_digit` meets its contract, by a law of Spacing.
 use native.Mathlib.Omega.{arith}
 use borrow.Author.Needs.{needs}
-use Rattle.writer.proofs.OneDigit.{digit-written}
+use Rattle.writer.proofs.Spacing.{digit-after-space}
 use Rattle.writer.proofs.short.write_digit.Statement.{statement}
 use Rattle.writer.proofs.short.write_digit.Tie as tie
 
@@ -18,7 +18,7 @@ same-length : tie.Need-same-length
 same-length c = search needs
 
 returns : tie.Need-returns
-returns c = (search digit-written, omega arith)
+returns c = (search digit-after-space, omega arith)
 
 pub write-digit-spec : {M : Type 1} → statement M
 write-digit-spec =

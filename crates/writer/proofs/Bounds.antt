@@ -1,32 +1,24 @@
--- Numbers below 10: one written after a gap; and bounds on numbers by the largest of them.
+-- Bounds on numbers by the largest of them: the laws of the loop that finds it, and what it bounds.
 use Prim.Native.Nat.{ℕ, _+_, _≤_, _<_}
-use mathlib.Core.List.{List, [], _∷_}
-use mathlib.Core.Path.{_≡_}
+use mathlib.Core.List.{List}
 use native.Mathlib.Decide.{ℕ-discrete}
 use native.Mathlib.Omega.{arith}
 use lib.ListN.{length, getD}
 use Rattle.kernel.specs.InnerLargest.{Larger}
-use Rattle.reader.specs.Laying.{Laid}
-use Rattle.writer.specs.Lines.{gapBytes, spaced}
 use Rattle.writer.specs.InnerRoom.{Below}
-use Rattle.writer.proofs.Spacing.{number-of-one, number-after-space}
 
-pub digit-written : (lent : List ℕ) (put v : ℕ) (mid : List ℕ) (at : ℕ) (after : List ℕ) (end : ℕ) → v < 10 → Laid lent put gapBytes mid at
-    → Laid mid at ((48 + v) ∷ []) after end → Laid lent put (spaced (v ∷ [])) after end
-digit-written lent put v mid at after end h p q = number-after-space lent put mid at after end v p (number-of-one mid at mid at after end v h q)
-
--- the first i numbers are at most this one
+-- the first i numbers are passed, and none of them is above this one
 pub record Passed (i top : ℕ) (m : List ℕ) : Type 0 where
-  pub some : i ≤ length m
+  pub passed : i ≤ length m
   pub each : (j : ℕ) → j < i → getD m j 0 ≤ top
 
 pub passed-none : (m : List ℕ) → Passed 0 0 m
-passed-none m = record { some = omega arith; each = λ j l. absurd (omega arith) }
+passed-none m = record { passed = omega arith; each = λ j l. absurd (omega arith) }
 
 pub passed-more : (m : List ℕ) (i top top′ : ℕ) → Passed i top m → i < length m → Larger top (getD m i 0) top′ → Passed (i + 1) top′ m
 passed-more m i top top′ p h x =
     record {
-      some = omega arith;
+      passed = omega arith;
       each = λ j l. elim (ℕ-discrete j i) [ yes e ↦ rw e (x .right) | no e ↦ omega (arith, p .each j (omega arith), x .left) ];
     }
 
