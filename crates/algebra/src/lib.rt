@@ -16,7 +16,7 @@ pub const MAX_ARITY: u8 = 3;
 pub const MAX_CELLS: usize = 32768;
 
 // The largest byte of s, or 0. The whole slice is read without an early exit, so that the loop can take many bytes at a time.
-fn largest(s: &[u8]) -> u8
+pub fn largest(s: &[u8]) -> u8
     ensures { λ r. ⌜ Largest (length (now (s .entry))) (now (s .entry)) r ⌝ }
 {
     let mut top = 0u8;

@@ -21,11 +21,11 @@ use Rattle.algebra.proofs.Congruences.{congruence-is}
 use Rattle.congruence.proofs.Meanings.{quotient-gave}
 use Rattle.reader.specs.Laying.{Laid}
 use Rattle.reader.specs.declared.requests.Asked.the-variants.{Quotient}
+use Rattle.writer.specs.InnerRoom.{NumbersBelow}
 use Rattle.writer.specs.Lines.{outcomeLine, refusedLine}
 use Rattle.writer.proofs.Spacing.{outcome-refused}
 use Rattle.tablewriter.specs.Texts.{algebraText}
 use Rattle.tablewriter.specs.InnerFits.{TablesThere, LinesFit}
-use Rattle.tablewriter.specs.InnerLengths.{TwoDigits}
 use Rattle.tablewriter.proofs.Bounds.{text-bound}
 use Rattle.bracket.specs.Answers.{quotientLines, answer}
 use Rattle.bracket.specs.InnerPromises.{QuotientFits, Zeros}
@@ -82,7 +82,7 @@ module _ (a : Algebra) (m : Map) (lent cells : List ℕ) (b : ℕ) (e : quotient
             );
       }
 
-  given-short : TwoDigits (take (cellCount b (a .arities)) cells)
+  given-short : NumbersBelow 100 (take (cellCount b (a .arities)) cells)
   unfolding quotient
   given-short = rw front (λ i l. omega (arith, accepted .below i l, accepted .most))
 

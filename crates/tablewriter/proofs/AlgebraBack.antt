@@ -16,7 +16,8 @@ use Rattle.reader.specs.Lines.{defined, sized, withOperation, operation}
 use Rattle.reader.proofs.Readers.{within-text}
 use Rattle.writer.proofs.Numerals.{first-byte}
 use Rattle.tablewriter.specs.Texts.{sizeText, operationText, algebraText}
-use Rattle.tablewriter.proofs.ReadBack.{begins-left, begins-right, begins-here, NumbersBelow, below-drop}
+use Rattle.tablewriter.proofs.ReadBack.{begins-left, begins-right, begins-here, below-drop}
+use Rattle.writer.specs.InnerRoom.{NumbersBelow}
 use Rattle.tablewriter.proofs.LinesBack.{sized-back, MayFollow, operation-opens, operation-past, operation-back}
 
 -- an operation line takes an algebra to one with an operation more, and its place to the place behind it

@@ -6,10 +6,11 @@ use native.Mathlib.Nat.{mul-add, mul-left-comm, mul-le-mul, mul-comm, pow-zero, 
 use native.Mathlib.Omega.{arith}
 use lib.ListN.{length, getD, take}
 use lib.Seq.{length-take-le}
+use Rattle.writer.specs.InnerRoom.{NumbersBelow}
 use Rattle.algebra.specs.Algebra.{algebraOf, cellCount}
 use Rattle.tablewriter.specs.Texts.{algebraText}
 use Rattle.tablewriter.specs.InnerFits.{TablesThere}
-use Rattle.tablewriter.specs.InnerLengths.{frame, frames, TwoDigits}
+use Rattle.tablewriter.specs.InnerLengths.{frame, frames}
 use Rattle.tablewriter.proofs.TextLengths.{text-length}
 use Rattle.tablewriter.proofs.Counting.{digits-few, figures-few}
 
@@ -54,7 +55,7 @@ frames-bound n h (s ∷ rest) a =
     omega (arith, frame-bound n s h (a 0 (omega arith)), frames-bound n h rest (λ j l. a (suc j) (omega arith)))
 
 -- the text of tables whose cells have two digits at most
-pub text-bound : (n : ℕ) (arities cells : List ℕ) → TablesThere n arities cells → TwoDigits (take (cellCount n arities) cells)
+pub text-bound : (n : ℕ) (arities cells : List ℕ) → TablesThere n arities cells → NumbersBelow 100 (take (cellCount n arities) cells)
     → length (algebraText (algebraOf n arities cells)) ≤ 4 * cellCount n arities + 218
 text-bound n arities cells t short =
     let front = take (cellCount n arities) cells in

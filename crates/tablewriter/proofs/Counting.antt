@@ -8,11 +8,12 @@ use native.Mathlib.Numerals.{add-one}
 use native.Mathlib.Omega.{arith}
 use lib.ListN.{length, getD, take, drop}
 use lib.Seq.{take-suc, take-all}
+use Rattle.writer.specs.InnerRoom.{NumbersBelow}
 use Rattle.algebra.specs.Algebra.{algebraOf, cellCount}
 use Rattle.writer.specs.Numerals.{decimal}
 use Rattle.writer.proofs.Lengths.{one-digit-long, two-digits-long}
 use Rattle.tablewriter.specs.Texts.{algebraText}
-use Rattle.tablewriter.specs.InnerLengths.{frame, frames, figures, TwoDigits, PartEnd, Measurable}
+use Rattle.tablewriter.specs.InnerLengths.{frame, frames, figures, PartEnd, Measurable}
 use Rattle.tablewriter.proofs.TextLengths.{figures-append, figures-parts, text-length}
 use Rattle.tablewriter.proofs.Parts.{part-length, part-member}
 
@@ -25,7 +26,7 @@ digits-few v h =
     ]
 
 -- numbers below 100 have two digits each at most
-pub figures-few : (m : List ℕ) → TwoDigits m → figures m ≤ 2 * length m
+pub figures-few : (m : List ℕ) → NumbersBelow 100 m → figures m ≤ 2 * length m
 unfolding figures
 figures-few [] h = omega arith
 figures-few (x ∷ rest) h = omega (arith, digits-few x (h 0 (omega arith)), figures-few rest (λ i l. h (suc i) (omega arith)))
@@ -36,7 +37,7 @@ pub record Counted (m : List ℕ) (count i : ℕ) : Type 0 where
   pub value : count + i ≡ figures (take i m)
   pub few : count ≤ i
 
-module _ (m : List ℕ) (short : TwoDigits m) where
+module _ (m : List ℕ) (short : NumbersBelow 100 m) where
   pub second-none : Counted m 0 0
   unfolding figures
   second-none = record { passed = omega arith; value = refl; few = omega arith }
@@ -58,7 +59,7 @@ module _ (m : List ℕ) (short : TwoDigits m) where
     abbrev part : List ℕ
     part = take (to - from) (drop from m)
 
-    pub part-short : TwoDigits part
+    pub part-short : NumbersBelow 100 part
     part-short i l =
         let h : i < to - from = omega (arith, part-length m from to (b .within)) in
         rw (part-member m from to i h) (short (from + i) (omega (arith, b .within)))

@@ -25,7 +25,8 @@ use Rattle.writer.specs.Lines.{gapBytes, spaced, line}
 use Rattle.writer.proofs.Numerals.{stands-number}
 use Rattle.writer.proofs.Spacing.{spaced-one}
 use Rattle.tablewriter.specs.Texts.{tableText, sizeText, operationText}
-use Rattle.tablewriter.proofs.ReadBack.{begins-left, begins-right, StandsApart, gap-back, gapped-length, gap-between, before-gap, behind-gap, before-close, NumbersBelow, table-back}
+use Rattle.tablewriter.proofs.ReadBack.{begins-left, begins-right, StandsApart, gap-back, gapped-length, gap-between, before-gap, behind-gap, before-close, table-back}
+use Rattle.writer.specs.InnerRoom.{NumbersBelow}
 
 -- a number after a gap
 spaced-number-back : (text : List ℕ) (at v : ℕ) → v ≤ 255 → StandsApart text at (spaced (v ∷ [])) → spacedNumber text at ≡ found v (at + length (spaced (v ∷ [])))

@@ -8,6 +8,7 @@ use native.Mathlib.Omega.{arith}
 use borrow.Author.Tests.{eq-eqb}
 use lib.ListN.{length, getD, take, drop, length-append, length-drop}
 use lib.Seq.{getD-append-seam, append-snoc, getD-drop, take-add}
+use Rattle.writer.specs.InnerRoom.{NumbersBelow}
 use Rattle.reader.specs.Reading.{ascii, found, Reader, byteAt, _>>=_, _>>_, done, gap, begins}
 use Rattle.reader.specs.Numbers.{digitAt, number}
 use Rattle.reader.specs.Tables.{cell, parted, bracket, table}
@@ -80,10 +81,6 @@ pub before-close : (text word rest : List ℕ) (at : ℕ) → begins text at (wo
 before-close text word rest at e =
     let b : byteAt text (at + length word) ≡ 93 = first-byte text (at + length word) 93 rest (begins-right text word (93 ∷ rest) at e) in
     record { here = begins-left text word (93 ∷ rest) at e; end = omega (arith, digit-above text (at + length word) (omega arith)) }
-
--- every member is below n
-abbrev pub NumbersBelow : ℕ → List ℕ → Type 0
-NumbersBelow n l = (i : ℕ) → i < length l → getD l i 0 < n
 
 pub below-drop : (n k : ℕ) (l : List ℕ) → NumbersBelow n l → NumbersBelow n (drop k l)
 below-drop n k l h i j = rw (getD-drop k l i 0) (h (k + i) (omega (arith, length-drop k l)))

@@ -14,7 +14,8 @@ use Rattle.reader.proofs.Laying.{laid-more}
 use Rattle.reader.proofs.RoomLeft.{part-less}
 use Rattle.writer.specs.Numerals.{decimal}
 use Rattle.writer.specs.Lines.{gapBytes, spaced, bracketed}
-use Rattle.writer.specs.InnerRoom.{Below}
+use Rattle.kernel.specs.InnerLargest.{Largest}
+use Rattle.writer.specs.InnerRoom.{NumbersBelow}
 use Rattle.writer.proofs.Digits.{decimal-some}
 use Rattle.tablewriter.specs.Texts.{partedTexts, tableText}
 use Rattle.tablewriter.specs.InnerFits.{RowsFit, TableFits}
@@ -226,19 +227,15 @@ module _ (n left : ℕ) (cells lent : List ℕ) (put : ℕ) (out : List ℕ) (at
   pub next-row-some : 0 < length row
   next-row-some = rw same-row (row-some n 1 (drop from cells) at out next-fits refl)
 
-  -- what all numbers are below, those of the next row are
-  pub next-row-below : (k : ℕ) → Below k (take (left * n - 0) (drop 0 cells)) → Below k row
-  next-row-below k h =
+  -- the largest of all numbers bounds those of the next row
+  pub next-row-below : (top : ℕ) → Largest (length (take (left * n - 0) (drop 0 cells))) (take (left * n - 0) (drop 0 cells)) top → NumbersBelow (top + 1) row
+  next-row-below top h i s =
       let there : left * n ≤ length cells = omega (arith, p .behind, rows-there n more (drop from cells) at out (p .fit), length-drop from cells, p .within) in
-      record {
-        each =
-            λ i s.
-            let g : i < from + n - from = omega (arith, part-length cells from (from + n) next-row-within) in
-            let j : from + i < left * n - 0 = omega (arith, p .behind, part-less more n (p .fit .shape .rows)) in
-            let e : getD (take (left * n - 0) (drop 0 cells)) (from + i) 0 ≡ getD cells (from + i) 0 =
-            part-member cells 0 (left * n) (from + i) j ∙ ap (λ (x : ℕ). getD cells x 0) (omega arith) in
-            omega (arith, part-member cells from (from + n) i g, e, h .each (from + i) (omega (arith, part-length cells 0 (left * n) there)));
-      }
+      let g : i < from + n - from = omega (arith, part-length cells from (from + n) next-row-within) in
+      let j : from + i < left * n - 0 = omega (arith, p .behind, part-less more n (p .fit .shape .rows)) in
+      let e : getD (take (left * n - 0) (drop 0 cells)) (from + i) 0 ≡ getD cells (from + i) 0 =
+      part-member cells 0 (left * n) (from + i) j ∙ ap (λ (x : ℕ). getD cells x 0) (omega arith) in
+      omega (arith, part-member cells from (from + n) i g, e, h .above (from + i) (omega (arith, part-length cells 0 (left * n) there)))
 
   pub next-row-fits : at + length (bracketed row) + 1 ≤ length out
   next-row-fits = rw same-row (row-fits n 1 (drop from cells) at out next-fits refl)

@@ -2,9 +2,10 @@
 use Prim.Native.Nat.{ℕ, zero, suc, _+_, _*_, _≤_, _<_}
 use mathlib.Core.List.{List, [], _∷_}
 use mathlib.Core.Path.{_≡_}
-use lib.ListN.{length, getD}
+use lib.ListN.{length}
 use Rattle.algebra.specs.Algebra.{cellCount}
 use Rattle.writer.specs.Numerals.{decimal}
+use Rattle.writer.specs.InnerRoom.{NumbersBelow}
 use Rattle.tablewriter.specs.InnerFits.{TablesThere}
 
 -- the brackets and gaps of a table of arity s over n elements
@@ -22,10 +23,6 @@ unfoldable pub figures : List ℕ → ℕ
 figures [] = 0
 figures (x ∷ rest) = length (decimal x) + figures rest
 
--- numbers of two digits at most
-abbrev pub TwoDigits : List ℕ → Type 0
-TwoDigits m = (i : ℕ) → i < length m → getD m i 0 < 100
-
 -- a part of 128 numbers at most ends here
 pub record PartEnd (from end to : ℕ) : Type 0 where
   pub some : from < to
@@ -37,4 +34,4 @@ pub record Measurable (n : ℕ) (arities cells : List ℕ) : Type 0 where
   pub tables : TablesThere n arities cells
   pub all : length cells ≡ cellCount n arities
   pub few : length cells ≤ 32768
-  pub short : TwoDigits cells
+  pub short : NumbersBelow 100 cells

@@ -4,8 +4,9 @@ ghost use Prim.Native.Nat.{_+_, _≤_, _<_};
 ghost use lib.ListN.{length};
 ghost use Rattle.algebra.specs.Algebra.{algebraIn};
 ghost use Rattle.writer.specs.Numerals.{decimal};
+ghost use Rattle.writer.specs.InnerRoom.{NumbersBelow};
 ghost use Rattle.tablewriter.specs.Texts.{algebraText};
-ghost use Rattle.tablewriter.specs.InnerLengths.{frame as frameOf, figures, TwoDigits, PartEnd, Measurable};
+ghost use Rattle.tablewriter.specs.InnerLengths.{frame as frameOf, figures, PartEnd, Measurable};
 
 // 1 for a number from 10 on, else 0.
 fn second_digit(v: u8) -> u8
@@ -17,7 +18,7 @@ fn second_digit(v: u8) -> u8
 
 // How many of a few numbers, all below 100, have two digits. They are read without an early exit and counted in a byte, so that the loop can take many at a time.
 fn second_digits_of_few(m: &[u8]) -> u8
-    requires { ⌜ TwoDigits (now m) ⌝ }
+    requires { ⌜ NumbersBelow 100 (now m) ⌝ }
     requires { ⌜ length (now m) ≤ 128 ⌝ }
     ensures { λ r. ⌜ r + length (now (m .entry)) ≡ figures (now (m .entry)) ⌝ }
 {
@@ -40,7 +41,7 @@ fn part_end(from: usize, end: usize) -> usize
 
 // How many of the numbers, all below 100, have two digits.
 fn second_digits(m: &[u8]) -> u16
-    requires { ⌜ TwoDigits (now m) ⌝ }
+    requires { ⌜ NumbersBelow 100 (now m) ⌝ }
     requires { ⌜ length (now m) ≤ 32768 ⌝ }
     ensures { λ r. ⌜ r + length (now (m .entry)) ≡ figures (now (m .entry)) ⌝ }
 {

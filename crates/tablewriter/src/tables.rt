@@ -1,6 +1,6 @@
 // Writing tables: `reader::reading` reads them back.
+use algebra::largest;
 use algebra::power;
-use writer::short::largest;
 use writer::write_bracketed;
 use writer::write_byte;
 use writer::write_gap;

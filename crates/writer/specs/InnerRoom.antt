@@ -34,5 +34,5 @@ pub record DigitTable (digits : List ℕ) : Type 0 where
   pub second : (v : ℕ) → 10 ≤ v → v < 64 → getD digits (2 * v + 1) 0 ≡ 48 + v % 10
 
 -- every number is below k
-pub record Below (k : ℕ) (m : List ℕ) : Type 0 where
-  pub each : (i : ℕ) → i < length m → getD m i 0 < k
+abbrev pub NumbersBelow : ℕ → List ℕ → Type 0
+NumbersBelow k m = (i : ℕ) → i < length m → getD m i 0 < k

@@ -1,4 +1,5 @@
 // Writing bracket text into a lent buffer: each writer begins at a place and gives the place after what it wrote.
+use algebra::largest;
 ghost use mathlib.Core.List.{[], _∷_, _++_, map};
 ghost use Prim.Native.Nat.{_+_, _*_, _≤_, _<_};
 ghost use lib.ListN.{length};
@@ -8,7 +9,7 @@ ghost use Rattle.equivalence.specs.Lent.{stretch};
 ghost use Rattle.reader.specs.Reading.{ascii};
 ghost use Rattle.writer.specs.Lines.{gapBytes, spaced, bracketed, spacedBrackets, refusedLine};
 ghost use Rattle.reader.specs.Laying.{Laid};
-ghost use Rattle.writer.specs.InnerRoom.{LaidLine, LaidOpen, DigitTable, FactorsRoom, Below};
+ghost use Rattle.writer.specs.InnerRoom.{LaidLine, LaidOpen, DigitTable, FactorsRoom, NumbersBelow};
 
 pub mod short;
 
@@ -94,7 +95,7 @@ fn write_small(v: u8, digits: &[u8], out: &mut [u8], put: usize) -> usize
 // Numbers below 64, each after a space, with an open byte behind them. The table is lent, so that it is laid out once and not for each number.
 fn write_by_table(m: &[u8], digits: &[u8], out: &mut [u8], put: usize) -> usize
     requires { ⌜ put + length (spaced (now m)) + 2 ≤ length (now out) ⌝ }
-    requires { ⌜ Below 64 (now m) ⌝ }
+    requires { ⌜ NumbersBelow 64 (now m) ⌝ }
     requires { ⌜ DigitTable (now digits) ⌝ }
     ensures { λ r. ⌜ LaidOpen (now (out .entry)) put (spaced (now (m .entry))) (now (out .exit)) r ⌝ }
     ensures short { λ r. ⌜ r ≤ put + 4 * length (now (m .entry)) ⌝ }
@@ -111,7 +112,7 @@ fn write_by_table(m: &[u8], digits: &[u8], out: &mut [u8], put: usize) -> usize
 // The same, by a table that is laid out here.
 fn write_mixed(m: &[u8], out: &mut [u8], put: usize) -> usize
     requires { ⌜ put + length (spaced (now m)) + 2 ≤ length (now out) ⌝ }
-    requires { ⌜ Below 64 (now m) ⌝ }
+    requires { ⌜ NumbersBelow 64 (now m) ⌝ }
     ensures { λ r. ⌜ LaidOpen (now (out .entry)) put (spaced (now (m .entry))) (now (out .exit)) r ⌝ }
     ensures short { λ r. ⌜ r ≤ put + 4 * length (now (m .entry)) ⌝ }
 {
@@ -138,7 +139,7 @@ fn write_numbers(m: &[u8], out: &mut [u8], put: usize) -> usize
 // Numbers, none above top, each after a space, with an open byte behind them: the caller writes there next. Which way fits is asked once, and not for each number.
 fn write_spaced(top: u8, m: &[u8], out: &mut [u8], put: usize) -> usize
     requires { ⌜ put + length (spaced (now m)) + 2 ≤ length (now out) ⌝ }
-    requires { ⌜ Below (top + 1) (now m) ⌝ }
+    requires { ⌜ NumbersBelow (top + 1) (now m) ⌝ }
     ensures { λ r. ⌜ LaidOpen (now (out .entry)) put (spaced (now (m .entry))) (now (out .exit)) r ⌝ }
     ensures short { λ r. ⌜ r ≤ put + 4 * length (now (m .entry)) ⌝ }
 {
@@ -154,7 +155,7 @@ fn write_spaced(top: u8, m: &[u8], out: &mut [u8], put: usize) -> usize
 // A row of numbers, none above top: in a bracket, parted by one space. The bracket opens where the gap before the first number stood.
 pub fn write_row(top: u8, m: &[u8], out: &mut [u8], put: usize) -> usize
     requires { ⌜ (0 < length (now m)) × (put + length (bracketed (now m)) + 1 ≤ length (now out)) ⌝ }
-    requires { ⌜ Below (top + 1) (now m) ⌝ }
+    requires { ⌜ NumbersBelow (top + 1) (now m) ⌝ }
     ensures { λ r. ⌜ Laid (now (out .entry)) put (bracketed (now (m .entry))) (now (out .exit)) r ⌝ }
     ensures short { λ r. ⌜ r ≤ put + 4 * length (now (m .entry)) + 1 ⌝ }
 {
@@ -170,7 +171,7 @@ pub fn write_bracketed(m: &[u8], out: &mut [u8], put: usize) -> usize
     ensures { λ r. ⌜ Laid (now (out .entry)) put (bracketed (now (m .entry))) (now (out .exit)) r ⌝ }
     ensures short { λ r. ⌜ r ≤ put + 4 * length (now (m .entry)) + 1 ⌝ }
 {
-    let top = short::largest(m);
+    let top = largest(m);
     write_row(top, m, out, put)
 }
 
@@ -247,7 +248,7 @@ pub fn write_map(m: &[u8], out: &mut [u8]) -> usize
     requires { ⌜ 4 * length (now m) + 6 ≤ length (now out) ⌝ }
     ensures { λ e. ⌜ LaidLine (ascii "[map") (spaced (now (m .entry))) (out .entry) (out .exit) e ⌝ }
 {
-    let top = short::largest(m);
+    let top = largest(m);
     let word = write_word(b"[map", out, 0);
     let end = write_spaced(top, m, out, word);
     write_close(out, end)

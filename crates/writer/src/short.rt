@@ -6,20 +6,7 @@ ghost use Prim.Native.Nat.{_+_, _*_, _≤_, _<_};
 ghost use lib.ListN.{length};
 ghost use Rattle.reader.specs.Laying.{Laid};
 ghost use Rattle.writer.specs.Lines.{spaced};
-ghost use Rattle.writer.specs.InnerRoom.{LaidOpen, Below};
-
-// The largest of the numbers, or 0. They are read without an early exit, so that the loop can take many at a time.
-pub fn largest(m: &[u8]) -> u8
-    ensures { λ r. ⌜ Below (r + 1) (now (m .entry)) ⌝ }
-{
-    let mut top = 0u8;
-    let mut i = 0;
-    while i < m.len() {
-        top = equivalence::blocks::larger(top, m[i]);
-        i += 1;
-    }
-    top
-}
+ghost use Rattle.writer.specs.InnerRoom.{LaidOpen, NumbersBelow};
 
 // A number below 10 after a gap.
 fn write_digit(v: u8, out: &mut [u8], put: usize) -> usize
@@ -34,7 +21,7 @@ fn write_digit(v: u8, out: &mut [u8], put: usize) -> usize
 // Numbers below 10, each after a space.
 pub fn write_digits(m: &[u8], out: &mut [u8], put: usize) -> usize
     requires { ⌜ put + length (spaced (now m)) + 2 ≤ length (now out) ⌝ }
-    requires { ⌜ Below 10 (now m) ⌝ }
+    requires { ⌜ NumbersBelow 10 (now m) ⌝ }
     ensures { λ r. ⌜ LaidOpen (now (out .entry)) put (spaced (now (m .entry))) (now (out .exit)) r ⌝ }
     ensures short { λ r. ⌜ r ≤ put + 4 * length (now (m .entry)) ⌝ }
 {

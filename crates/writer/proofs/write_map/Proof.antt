@@ -4,6 +4,7 @@ use Rattle.reader.specs.Reading.{ascii}
 use denote.Ref.{now}
 use native.Mathlib.Omega.{arith}
 use Rattle.writer.proofs.Lengths.{spaced-short}
+use Rattle.writer.proofs.Bounds.{largest-bounds}
 use borrow.Author.Needs.{needs}
 use Rattle.writer.proofs.write_map.Statement.{statement}
 use Rattle.writer.proofs.write_map.Tie as tie
@@ -20,7 +21,7 @@ write-word-requires c κs = search needs
 write-spaced-requires : tie.Need-write-spaced-requires
 write-spaced-requires c κs =
     let k = c .before .before .before .before .before .before .before .before in
-    (omega (arith, spaced-short (now (k .before .args .m)) (λ i. omega (arith, k .shared-slice-known .given i))), search needs)
+    (omega (arith, spaced-short (now (k .before .args .m)) (λ i. omega (arith, k .shared-slice-known .given i))), search largest-bounds)
 
 write-close-requires : tie.Need-write-close-requires
 write-close-requires c κs = search needs
