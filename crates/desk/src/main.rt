@@ -83,8 +83,8 @@ fn run_on(text: &[u8], paused: Paused, arities: &mut [u8], room: &mut [u8], out:
     written
 }
 
-// What is left of a run, in storage for the longest text; the arities and the cells stand where the run left them. How many bytes are written then.
-// The loop of `run_on` makes this function so long, and two calls of it keep the compiler from making its storage a part of `main`'s.
+// What is left of a run, in storage for the longest text, to which the arities and the cells are carried. How many bytes are written then. It has a loop of its
+// own, and two callers: else the compiler makes its storage a part of `main`'s.
 fn finish(text: &[u8], paused: Paused, arities: &[u8], cells: &[u8]) -> usize
     requires { ⌜ LeftOver (now text) (now arities) (now cells) paused ⌝ }
     ensures { λ r. ⌜ r ≡ length (transcript (now (text .entry))) ⌝ }
