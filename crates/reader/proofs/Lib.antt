@@ -6,7 +6,9 @@ pub mod Lengths
 pub mod Judging
 pub mod RoomLeft
 pub mod Storing
-pub mod Rows
+pub mod Parted
+pub mod Begun
+pub mod Shapes
 pub mod Items
 pub mod SpacedNumbers
 pub mod Defining

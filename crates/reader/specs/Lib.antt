@@ -4,4 +4,5 @@ pub mod Tables
 pub mod Lines
 pub mod Laying
 pub mod InnerPromises
+pub mod InnerRows
 pub mod InnerTaking

@@ -3,4 +3,5 @@
 pub mod lines;
 pub mod reading;
 pub mod requests;
+pub mod rows;
 pub mod taking;

@@ -1,4 +1,5 @@
 // Reading bracket text by places. Past the end of a text every byte counts as 0, which no form has.
+use crate::rows::read_row;
 ghost use mathlib.Core.Path.{_≡_};
 ghost use Prim.Native.Nat.{_+_, _-_, _*_, _^_, _≤_, _<_};
 ghost use lib.ListN.{length};
@@ -32,7 +33,7 @@ pub fn byte_at(text: &[u8], at: usize) -> u8
 }
 
 // Whether a byte is a digit.
-fn is_digit(b: u8) -> bool
+pub fn is_digit(b: u8) -> bool
     ensures { λ r. ⌜ r ≡ isDigit b ⌝ }
 {
     if b < b'0' {
@@ -117,7 +118,7 @@ pub fn read_number(text: &[u8], at: usize) -> Number
 }
 
 // A number, stored as one byte.
-fn read_cell(text: &[u8], at: usize, cells: &mut [u8], put: usize) -> Spot
+pub fn read_cell(text: &[u8], at: usize, cells: &mut [u8], put: usize) -> Spot
     requires { ⌜ RoomFor 1 (now text) at (now cells) put ⌝ }
     ensures { λ r. ⌜ StoredBy cell (text .entry) at (cells .entry) put (cells .exit) r ⌝ }
 {
@@ -132,40 +133,6 @@ fn read_cell(text: &[u8], at: usize, cells: &mut [u8], put: usize) -> Spot
         at: next,
         put: put + 1,
     }
-}
-
-// n numbers, parted by gaps: `read_rows` over tables of arity 0, without a call for each.
-fn read_row(n: u8, text: &[u8], at: usize, cells: &mut [u8], put: usize) -> Spot
-    requires { ⌜ RoomFor n (now text) at (now cells) put ⌝ }
-    requires { ⌜ 0 < n ⌝ }
-    ensures { λ r. ⌜ StoredBy (parted cell n) (text .entry) at (cells .entry) put (cells .exit) r ⌝ }
-{
-    let mut more = n;
-    let mut next = at;
-    let mut so_far = put;
-    while 1 < more {
-        let item = read_cell(text, next, cells, so_far);
-        next = item.at;
-        so_far = item.put;
-        if !item.ok {
-            return Spot {
-                ok: false,
-                at: next,
-                put: so_far,
-            };
-        }
-        let after = gap_end(text, next);
-        if after == next {
-            return Spot {
-                ok: false,
-                at: next,
-                put: so_far,
-            };
-        }
-        next = after;
-        more -= 1;
-    }
-    read_cell(text, next, cells, so_far)
 }
 
 // A table of an arity: a number, or a bracket of n tables of the arity below.

@@ -1,4 +1,4 @@
--- `reading::read_rows` and `reading::read_table` meet their contracts, by the laws of Rows and Storing.
+-- `reading::read_rows` and `reading::read_table` meet their contracts, by the laws of Parted and Storing.
 use denote.Ref.{now}
 use Rattle.reader.proofs.Readers.{within-text}
 use borrow.Author.Needs.{needs}
@@ -6,7 +6,8 @@ use borrow.Author.Tests.{not-true, not-false}
 use native.Mathlib.Omega.{arith}
 use Rattle.reader.specs.Tables.{table}
 use Rattle.reader.specs.InnerPromises.{RoomFor}
-use Rattle.reader.proofs.Rows.{RowsRead, rows-read-none, rows-read-fault, rows-read-unparted, rows-read-more, rows-read-last}
+use Rattle.reader.specs.InnerRows.{RowsRead}
+use Rattle.reader.proofs.Parted.{rows-read-none, rows-read-fault, rows-read-unparted, rows-read-more, rows-read-last}
 use Rattle.reader.proofs.Storing.{table-cell, rows-cells, table-unopened, table-fault, table-unclosed, table-closed}
 use Rattle.reader.proofs.RoomLeft.{room-cell, room-rows, room-row-cells, room-row, room-rest}
 use Prim.Native.Nat.{ℕ, _+_, _-_, _*_, _^_, _<_}
@@ -21,7 +22,7 @@ use Rattle.reader.proofs.reading.+read_rows+read_table.Lts-read_table a
 use Rattle.reader.proofs.reading.byte_at.Reads as byte-at-reads
 use Rattle.reader.proofs.reading.gap_end.Reads as gap-end-reads
 use Rattle.reader.proofs.reading.read_cell.Reads as read-cell-reads
-use Rattle.reader.proofs.reading.read_row.Reads as read-row-reads
+use Rattle.reader.proofs.rows.read_row.Reads as read-row-reads
 use Rattle.reader.proofs.reading.+read_rows+read_table.{statement}
 use Rattle.reader.proofs.reading.+read_rows+read_table.Tie.{close}
 

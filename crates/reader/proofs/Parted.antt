@@ -10,6 +10,7 @@ use Rattle.reader.specs.Reading.{found, fault, Reader, onward, _>>=_, _>
 use Rattle.reader.specs.Tables.{parted}
 use Rattle.reader.specs.InnerPromises.{readOf, GapRead, Reached, RoomFor, Stored}
 use Rattle.reader.specs.Laying.{Laid}
+use Rattle.reader.specs.InnerRows.{RowsRead}
 use Rattle.reader.specs.declared.reading.Spot.{Spot}
 use Rattle.reader.proofs.Laying.{laid-none, laid-more}
 use Rattle.reader.proofs.Readers.{before, before-none, before-twice, before-read, then-found, then-fault, gapped, ungapped}
@@ -45,15 +46,6 @@ module _ (item : Reader (List ℕ)) (text : List ℕ) (at : ℕ) where
     parted-more : (left : ℕ) → 1 < left → (end ≡ next → ⊥) → parted item left text at ≡ before xs (parted item (left - 1) text end)
     unfolding _>>=_
     parted-more left p h = parted-next left p ∙ gapped (_>>=_ (parted item (left - 1)) (λ ys. done (xs ++ ys))) text next end g h
-
--- some items are read, from `at` to `next`, and stored, from `put` to `so-far`; `more` are left, one at least
-pub record RowsRead (text : List ℕ) (at : ℕ) (lent : List ℕ) (put : ℕ) (item : Reader (List ℕ)) (left : ℕ) (cells : List ℕ) (more next so-far : ℕ) : Type 0 where
-  pub new : List ℕ
-  pub value : parted item left text at ≡ before new (parted item more text next)
-  pub some : 0 < more
-  pub laid : Laid lent put new cells so-far
-  pub reached : Reached text at next
-  pub paced : so-far + at ≤ put + next
 
 module _ (text : List ℕ) (at : ℕ) (lent : List ℕ) (put : ℕ) (item : Reader (List ℕ)) (left : ℕ) where
   pub rows-read-none : {need : ℕ} → RoomFor need text at lent put → 0 < left → RowsRead text at lent put item left lent left at put

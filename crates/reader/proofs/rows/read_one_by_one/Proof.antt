@@ -1,12 +1,13 @@
--- `reading::read_row` meets its contract, by the laws of Rows.
+-- `rows::read_one_by_one` meets its contract, by the laws of Parted.
 use borrow.Author.Needs.{needs}
 use borrow.Author.Tests.{not-false}
 use Rattle.reader.specs.Tables.{cell}
 use Rattle.reader.specs.InnerPromises.{RoomFor}
 use Rattle.reader.proofs.RoomLeft.{room-first, room-others}
-use Rattle.reader.proofs.Rows.{RowsRead, rows-read-none, rows-read-fault, rows-read-unparted, rows-read-more, rows-read-last}
-use Rattle.reader.proofs.reading.read_row.Statement.{statement}
-use Rattle.reader.proofs.reading.read_row.Tie as tie
+use Rattle.reader.specs.InnerRows.{RowsRead}
+use Rattle.reader.proofs.Parted.{rows-read-none, rows-read-fault, rows-read-unparted, rows-read-more, rows-read-last}
+use Rattle.reader.proofs.rows.read_one_by_one.Statement.{statement}
+use Rattle.reader.proofs.rows.read_one_by_one.Tie as tie
 
 abbrev Inv-loop : tie.InvT-loop
 Inv-loop n text at cells₀ put more₀ next₀ so-far₀ cells more next so-far =
@@ -54,8 +55,8 @@ same-length-3 c = search needs
 returns-3 : tie.Need-returns-3 Inv-loop μ-loop
 returns-3 c = search rows-read-last
 
-pub read-row-spec : {M : Type 1} → statement M
-read-row-spec =
+pub read-one-by-one-spec : {M : Type 1} → statement M
+read-one-by-one-spec =
     tie.close
     (tie.spec
     Inv-loop

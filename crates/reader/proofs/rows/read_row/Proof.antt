@@ -1,0 +1,28 @@
+use Rattle.reader.proofs.Begun.{begun-rest}
+use borrow.Author.Needs.{needs}
+use Rattle.reader.proofs.rows.read_row.Statement.{statement}
+use Rattle.reader.proofs.rows.read_row.Tie as tie
+use Rattle.reader.proofs.rows.read_row.Reads as reads
+use Rattle.reader.proofs.rows.read_row.Lts as lts
+use Rattle.reader.proofs.rows.read_even.Reads as read-even-reads
+use Rattle.reader.proofs.rows.read_one_by_one.Reads as read-one-by-one-reads
+
+-- src/rows.rt:232:9
+read-even-requires : tie.Need-read-even-requires
+read-even-requires c κs = search needs
+
+-- src/rows.rt:235:5
+read-one-by-one-requires : tie.Need-read-one-by-one-requires
+read-one-by-one-requires c κs = search needs
+
+-- src/rows.rt:227:1
+same-length : tie.Need-same-length
+same-length c = search needs
+
+-- src/rows.rt:227:1
+returns : tie.Need-returns
+returns c = search begun-rest
+
+pub read-row-spec : {M : Type 1} → statement M
+read-row-spec =
+    tie.close (tie.spec read-even-requires read-one-by-one-requires same-length returns)
