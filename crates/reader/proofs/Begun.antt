@@ -9,8 +9,7 @@ use Rattle.reader.specs.Reading.{Reader, byteAt}
 use Rattle.reader.specs.Numbers.{digitAt, number}
 use Rattle.reader.specs.Tables.{cell, parted}
 use Rattle.reader.specs.InnerPromises.{GapRead, NumberRead, RoomFor, Stored}
-use Rattle.reader.specs.InnerRows.{RowsRead, RowBegun, Digit, ShortItem, LongItem, ShortItems, LongItems}
-use Rattle.reader.specs.declared.reading.Number.{Number}
+use Rattle.reader.specs.InnerRows.{RowsRead, RowBegun, Digit, ShortItem, LongItem, ShortItems, LongItems, numberFound, Item}
 use Rattle.reader.specs.declared.reading.Spot.{Spot}
 use Rattle.reader.proofs.Digits.{digit-below, digit-here, number-one, number-two}
 use Rattle.reader.proofs.Laying.{laid-more}
@@ -19,15 +18,6 @@ use Rattle.reader.proofs.Storing.{spot, cell-room, cell-one}
 use Rattle.reader.proofs.Parted.{rows-read-none, rows-read-more}
 use Rattle.reader.proofs.RoomLeft.{room-first, room-others}
 use Rattle.reader.proofs.Shapes.{short-first, long-first}
-
--- a number that was read, and the place after it
-abbrev pub numberFound : ℕ → ℕ → Number
-numberFound v next = record { ok = true; value = v; next = next }
-
--- a number, with a gap behind it
-pub record Item (text : List ℕ) (at v next : ℕ) : Type 0 where
-  pub read : NumberRead text at (number text at) (numberFound v next)
-  pub gap : byteAt text next ≡ 32
 
 pub begun-none : (n : ℕ) (text : List ℕ) (at : ℕ) (lent : List ℕ) (put : ℕ) → RoomFor n text at lent put → 0 < n → RowBegun n text at lent put lent n at put
 begun-none n text at lent put w p = record { rows = rows-read-none text at lent put cell n w p; room = w }
@@ -64,11 +54,11 @@ module _ (n : ℕ) (text : List ℕ) (at : ℕ) (lent : List ℕ) (put : ℕ) (c
         }
 
 -- the digit at a place
-digit-at : (text : List ℕ) (at : ℕ) → Digit (byteAt text at) → byteAt text at - 48 ≡ digitAt text at
+pub digit-at : (text : List ℕ) (at : ℕ) → Digit (byteAt text at) → byteAt text at - 48 ≡ digitAt text at
 digit-at text at d = sym (digit-here text at (d .low) (d .high))
 
 -- no digit
-gap-at : (text : List ℕ) (at : ℕ) → byteAt text at ≡ 32 → 10 ≡ digitAt text at
+pub gap-at : (text : List ℕ) (at : ℕ) → byteAt text at ≡ 32 → 10 ≡ digitAt text at
 gap-at text at e = sym (digit-below text at (omega arith))
 
 module _ (text : List ℕ) (at : ℕ) where

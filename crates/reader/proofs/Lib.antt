@@ -9,6 +9,7 @@ pub mod Storing
 pub mod Parted
 pub mod Begun
 pub mod Shapes
+pub mod Pairs
 pub mod Items
 pub mod SpacedNumbers
 pub mod Defining

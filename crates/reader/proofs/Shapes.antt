@@ -67,7 +67,7 @@ module _ (text : List ℕ) (at k : ℕ) where
   long-rest s = record { each = λ i l. let e : at + 3 + 3 * i ≡ at + 3 * (i + 1) = omega arith in rw e (s .each (i + 1) (omega arith)) }
 
 -- where a test fails, nothing is said
-untrue : {A : Type 0} → false ≡ true → A
+pub untrue : {A : Type 0} → false ≡ true → A
 untrue e = let z : _≡_ {A = ℕ} 0 1 = cc in absurd (omega arith)
 
 -- what stands at the first item stands at each

@@ -10,7 +10,7 @@ ghost use Prim.Native.Nat.{ℕ, _+_, _-_, _*_, _≤_, _<_};
 ghost use lib.ListN.{length};
 ghost use Rattle.reader.specs.Tables.{cell, parted};
 ghost use Rattle.reader.specs.InnerPromises.{RoomFor, StoredBy};
-ghost use Rattle.reader.specs.InnerRows.{RowBegunBy, Alike, Repeats, Unzeroed, ShortItems, LongItems};
+ghost use Rattle.reader.specs.InnerRows.{RowBegunBy, Alike, Digit, Repeats, Unzeroed, ShortItems, LongItems, PairRead, choose, ItemLength, valueOf, Fits};
 
 // How far a row is read: how many numbers are left, and their places in the text and in the storage.
 pub struct RowSoFar {
@@ -189,6 +189,125 @@ fn read_even(n: u8, text: &[u8], at: usize, cells: &mut [u8], put: usize) -> Row
     RowSoFar { more: n, at, put }
 }
 
+// Two numbers, each with a gap behind it, and the place after them; where `ok` is false, nothing.
+pub struct Pair {
+    pub ok: bool,
+    pub first: u8,
+    pub second: u8,
+    pub next: usize,
+}
+
+// One of two bytes. Which one cannot be foreseen, so both are read before and one is chosen without a branch.
+fn chosen(wide: bool, x: u8, y: u8) -> u8
+    ensures { λ r. ⌜ r ≡ choose wide x y ⌝ }
+{
+    if wide { x } else { y }
+}
+
+// The bytes of a number of one digit or two and of the gap behind it.
+fn item_length(wide: bool) -> usize
+    ensures { λ r. ⌜ ItemLength wide r ⌝ }
+{
+    if wide { 3 } else { 2 }
+}
+
+// The number of the digits a and b, or of a alone.
+fn value(wide: bool, a: u8, b: u8) -> u8
+    requires { ⌜ Digit a ⌝ }
+    requires { ⌜ (wide ≡ true → Digit b) ⌝ }
+    ensures { λ r. ⌜ r ≡ valueOf wide a b ⌝ }
+{
+    if wide {
+        10 * (a - b'0') + (b - b'0')
+    } else {
+        a - b'0'
+    }
+}
+
+// Whether a byte is the first digit of a number of one digit or two, with a gap behind that.
+fn fits(wide: bool, a: u8, behind: u8) -> bool
+    ensures { λ r. ⌜ (r ≡ true → Fits wide a behind) ⌝ }
+{
+    if behind != b' ' {
+        return false;
+    }
+    if !is_digit(a) {
+        return false;
+    }
+    if !wide {
+        return true;
+    }
+    a != b'0'
+}
+
+// Two numbers below 100, if they stand here, each with a gap behind it. How many digits each has cannot be foreseen, so nothing branches on it.
+fn read_pair(text: &[u8], at: usize) -> Pair
+    requires { ⌜ at ≤ length (now text) ⌝ }
+    ensures { λ r. ⌜ PairRead (now (text .entry)) at r ⌝ }
+{
+    let none = Pair {
+        ok: false,
+        first: 0,
+        second: 0,
+        next: at,
+    };
+    if text.len() - at < 7 {
+        return none;
+    }
+    let a = text[at];
+    let b = text[at + 1];
+    let wide = is_digit(b);
+    let c = chosen(wide, text[at + 3], text[at + 2]);
+    let d = chosen(wide, text[at + 4], text[at + 3]);
+    let wide_too = is_digit(d);
+    let mid = at + item_length(wide);
+    let next = mid + item_length(wide_too);
+    if !fits(wide, a, text[mid - 1]) {
+        return none;
+    }
+    if !fits(wide_too, c, text[next - 1]) {
+        return none;
+    }
+    Pair {
+        ok: true,
+        first: value(wide, a, b),
+        second: value(wide_too, c, d),
+        next,
+    }
+}
+
+// The numbers two by two, as long as they are below 100 and more than two are left.
+fn read_pairs(n: u8, text: &[u8], at: usize, cells: &mut [u8], put: usize) -> RowSoFar
+    requires { ⌜ RoomFor n (now text) at (now cells) put ⌝ }
+    requires { ⌜ 0 < n ⌝ }
+    ensures { λ r. ⌜ RowBegunBy n (text .entry) at (cells .entry) put (cells .exit) r ⌝ }
+{
+    let mut more = n;
+    let mut next = at;
+    let mut so_far = put;
+    while 2 < more {
+        let pair = read_pair(text, next);
+        let after = pair.next;
+        if !pair.ok {
+            return RowSoFar {
+                more,
+                at: next,
+                put: so_far,
+            };
+        }
+        cells[so_far] = pair.first;
+        cells[so_far + 1] = pair.second;
+        more -= 2;
+        next = after;
+        so_far += 2;
+    }
+    RowSoFar {
+        more,
+        at: next,
+        put: so_far,
+    }
+}
+
 // n numbers one by one.
 fn read_one_by_one(n: u8, text: &[u8], at: usize, cells: &mut [u8], put: usize) -> Spot
     requires { ⌜ RoomFor n (now text) at (now cells) put ⌝ }
@@ -229,8 +348,7 @@ pub fn read_row(n: u8, text: &[u8], at: usize, cells: &mut [u8], put: usize) -> 
     requires { ⌜ 0 < n ⌝ }
     ensures { λ r. ⌜ StoredBy (parted cell n) (text .entry) at (cells .entry) put (cells .exit) r ⌝ }
 {
-    let begun = read_even(n, text, at, cells, put);
-    let next = begun.at;
-    let so_far = begun.put;
-    read_one_by_one(begun.more, text, next, cells, so_far)
+    let even = read_even(n, text, at, cells, put);
+    let paired = read_pairs(even.more, text, even.at, cells, even.put);
+    read_one_by_one(paired.more, text, paired.at, cells, paired.put)
 }
