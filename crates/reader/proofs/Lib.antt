@@ -8,7 +8,6 @@ pub mod RoomLeft
 pub mod Storing
 pub mod Parted
 pub mod Begun
-pub mod Shapes
 pub mod Pairs
 pub mod Items
 pub mod SpacedNumbers

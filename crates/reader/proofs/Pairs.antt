@@ -6,17 +6,20 @@ use mathlib.Core.Path.{_≡_, refl, ap, sym, _∙_}
 use native.Mathlib.Omega.{arith}
 use borrow.Author.Tests.{not-true, not-false, eqb-false}
 use lib.Dec.{eqb}
-use lib.ListN.{length, set, length-set}
+use lib.ListN.{length, set}
 use Rattle.kernel.specs.InnerKernel.{bit}
 use Rattle.reader.specs.Reading.{byteAt}
-use Rattle.reader.specs.Numbers.{digitAt, number}
-use Rattle.reader.specs.InnerPromises.{isDigit, NumberRead}
-use Rattle.reader.specs.InnerRows.{RowBegun, Digit, Item, TwoItems, PairRead, choose, ItemLength, valueOf, Fits}
+use Rattle.reader.specs.Numbers.{number}
+use Rattle.reader.specs.InnerPromises.{isDigit}
+use Rattle.reader.specs.InnerRows.{RowBegun, Digit, LongNumber, Item, TwoItems, PairRead, PairWithin, choose, ItemLength, valueOf, Fits}
 use Rattle.reader.specs.declared.rows.Pair.{Pair}
 use Rattle.reader.proofs.Digits.{digit-low, digit-high, number-one, number-two}
 use Rattle.reader.proofs.Readers.{within-text}
-use Rattle.reader.proofs.Shapes.{untrue}
 use Rattle.reader.proofs.Begun.{digit-at, gap-at, begun-room, begun-more}
+
+-- where a test fails, nothing is said
+pub untrue : {A : Type 0} → false ≡ true → A
+untrue e = let z : _≡_ {A = ℕ} 0 1 = cc in absurd (omega arith)
 
 -- what is chosen, and how long an item is
 module _ (wide : Bool) where
@@ -55,37 +58,38 @@ module _ (wide : Bool) (a behind : ℕ) where
     pub fits-wide : not (eqb a 48) ≡ true → Fits wide a behind
     fits-wide h = record { digit = digit; some = λ _. eqb-false a 48 (not-true (eqb a 48) h); gap = g }
 
--- a number by its first two bytes, where the byte behind it fits
+-- a number by its first bytes, where the byte behind it fits
 module _ (text : List ℕ) (at : ℕ) where
-  item-by : (wide : Bool) (a b behind : ℕ) → a ≡ byteAt text at → b ≡ byteAt text (at + 1) → wide ≡ isDigit b → behind ≡ byteAt text (at + (1 + bit wide))
-      → Fits wide a behind → Item text at (valueOf wide a b) (at + (1 + bit wide))
-  unfolding choose
-  item-by true a b behind ea eb ew eg f =
-      let g : byteAt text (at + 2) ≡ 32 = sym eg ∙ f .gap in
-      let d : Digit (byteAt text at) = rw ea at (f .digit) in
-      let e : Digit b = record { low = digit-low b true ew refl; high = digit-high b true ew refl } in
-      let e′ : Digit (byteAt text (at + 1)) = rw eb at e in
+  narrow-item : Fits false (byteAt text at) (byteAt text (at + 1)) → Item text at (byteAt text at - 48) (at + 1)
+  narrow-item f =
+      record {
+        read = record {
+          value = number-one text at (byteAt text at - 48) (digit-at text at (f .digit)) 10 (gap-at text (at + 1) (f .gap)) (omega (arith, f .digit)) (omega arith);
+          within = omega (arith, within-text text (at + 1) (omega (arith, f .gap)));
+          past = omega arith;
+        };
+        gap = f .gap;
+      }
+
+  wide-item : Digit (byteAt text (at + 1)) → Fits true (byteAt text at) (byteAt text (at + 2))
+      → Item text at (10 * (byteAt text at - 48) + (byteAt text (at + 1) - 48)) (at + 2)
+  wide-item d f =
       record {
         read = record {
           value =
-              number-two text at (a - 48) (ap (λ (x : ℕ). x - 48) ea ∙ digit-at text at d) (b - 48) (ap (λ (x : ℕ). x - 48) eb ∙ digit-at text (at + 1) e′) (omega (arith, f .digit))
-              (λ z. f .some refl (omega (arith, f .digit))) 10 (gap-at text (at + 2) g) (omega (arith, e)) (omega arith);
-          within = omega (arith, within-text text (at + 2) (omega (arith, g)));
+              number-two text at (byteAt text at - 48) (digit-at text at (f .digit)) (byteAt text (at + 1) - 48) (digit-at text (at + 1) d) (omega (arith, f .digit))
+              (λ z. f .some refl (omega (arith, f .digit))) 10 (gap-at text (at + 2) (f .gap)) (omega (arith, d)) (omega arith);
+          within = omega (arith, within-text text (at + 2) (omega (arith, f .gap)));
           past = omega arith;
         };
-        gap = g;
+        gap = f .gap;
       }
-  item-by false a b behind ea eb ew eg f =
-      let g : byteAt text (at + 1) ≡ 32 = sym eg ∙ f .gap in
-      let d : Digit (byteAt text at) = rw ea at (f .digit) in
-      record {
-        read = record {
-          value = number-one text at (a - 48) (ap (λ (x : ℕ). x - 48) ea ∙ digit-at text at d) 10 (gap-at text (at + 1) g) (omega (arith, f .digit)) (omega arith);
-          within = omega (arith, within-text text (at + 1) (omega (arith, g)));
-          past = omega arith;
-        };
-        gap = g;
-      }
+
+  item-by : (wide : Bool) (a b behind : ℕ) → a ≡ byteAt text at → b ≡ byteAt text (at + 1) → wide ≡ isDigit b → behind ≡ byteAt text (at + (1 + bit wide))
+      → Fits wide a behind → Item text at (valueOf wide a b) (at + (1 + bit wide))
+  unfolding choose
+  item-by true a b behind ea eb ew eg f = rw (ea, eb) (wide-item (rw eb at (digit-of true b ew refl)) (rw (ea, eg) at f))
+  item-by false a b behind ea eb ew eg f = rw ea (narrow-item (rw (ea, eg) at f))
 
   -- a byte behind the first number
   behind-first : (wide : Bool) (j : ℕ) → choose wide (byteAt text (at + (j + 1))) (byteAt text (at + j)) ≡ byteAt text (at + (j + bit wide))
@@ -145,3 +149,52 @@ module _ (n : ℕ) (text : List ℕ) (at : ℕ) (lent : List ℕ) (put : ℕ) (c
       let f : so-far + 1 + 1 ≡ so-far + 2 = omega arith in
       rw (← e, ← f, t .last)
       (begun-more n text at lent put (set cells so-far (r .first)) (more - 1) (t .mid + 1) (so-far + 1) after (omega arith) (r .second) (t .end) (t .two))
+
+-- the number of two digits, if both are digits and the byte behind them fits
+pub long-number : (a b behind : ℕ) (d : Bool) → d ≡ isDigit b → not d ≡ false → (f : Bool) → (f ≡ true → Fits true a behind) → not f ≡ false
+    → LongNumber a b behind (10 * (a - 48) + (b - 48))
+long-number a b behind d ed hd f ef hf =
+    let t : Fits true a behind = ef (not-false f hf) in
+    record {
+      first = λ _. t .digit;
+      some = λ _. t .some refl;
+      second = λ _. digit-of d b ed (not-false d hd);
+      gap = λ _. t .gap;
+      value = λ _. refl;
+    }
+
+-- numbers of one digit, and of two
+module _ (text : List ℕ) (at r : ℕ) where
+  long-item : LongNumber (byteAt text at) (byteAt text (at + 1)) (byteAt text (at + 2)) r → 0 < r → Item text at r (at + 2)
+  long-item d h =
+      let f : Fits true (byteAt text at) (byteAt text (at + 2)) = record { digit = d .first h; some = λ _. d .some h; gap = d .gap h } in
+      rw (d .value h) (wide-item text at (d .second h) f)
+
+module _ (text : List ℕ) (at : ℕ) where
+  pub within-none : (width v w : ℕ) → PairWithin width text at (record { ok = false; first = v; second = w; next = at })
+  within-none width v w = record { read = pair-none text at v w at; within = omega arith }
+
+  pub short-found : (f : Bool) → (f ≡ true → Fits false (byteAt text at) (byteAt text (at + 1))) → not f ≡ false
+      → (g : Bool) → (g ≡ true → Fits false (byteAt text (at + 2)) (byteAt text (at + 3))) → not g ≡ false
+      → PairWithin 4 text at (record { ok = true; first = byteAt text at - 48; second = byteAt text (at + 2) - 48; next = at + 4 })
+  short-found f ef hf g eg hg =
+      let a : at + 2 ≡ at + 1 + 1 = omega arith in
+      let b : at + 3 ≡ at + 1 + 1 + 1 = omega arith in
+      let two : Item text (at + 1 + 1) (byteAt text (at + 2) - 48) (at + 1 + 1 + 1) = rw a (narrow-item text (at + 1 + 1) (rw (a, b) at (eg (not-false g hg)))) in
+      record {
+        read = record { some = λ _. record { mid = at + 1; end = at + 1 + 1 + 1; one = narrow-item text at (ef (not-false f hf)); two = two; last = omega arith } };
+        within = omega arith;
+      }
+
+  pub long-found : (v w : ℕ) → LongNumber (byteAt text at) (byteAt text (at + 1)) (byteAt text (at + 2)) v → (v ≡ 0 → ⊥)
+      → LongNumber (byteAt text (at + 3)) (byteAt text (at + 4)) (byteAt text (at + 5)) w → (w ≡ 0 → ⊥)
+      → PairWithin 6 text at (record { ok = true; first = v; second = w; next = at + 6 })
+  long-found v w d h e k =
+      let a : at + 3 ≡ at + 2 + 1 = omega arith in
+      let b : at + 4 ≡ at + 2 + 1 + 1 = omega arith in
+      let c : at + 5 ≡ at + 2 + 1 + 2 = omega arith in
+      let two : Item text (at + 2 + 1) w (at + 2 + 1 + 2) = long-item text (at + 2 + 1) w (rw (a, b, c) at e) (omega (arith, k)) in
+      record {
+        read = record { some = λ _. record { mid = at + 2; end = at + 2 + 1 + 2; one = long-item text at v d (omega (arith, h)); two = two; last = omega arith } };
+        within = omega arith;
+      }

@@ -8,7 +8,7 @@ use native.Mathlib.Omega.{arith}
 use borrow.Author.Tests.{not-true, not-false}
 use Rattle.reader.specs.Reading.{found, fault, Reader, onward, _>>=_, _>>_, done, gap}
 use Rattle.reader.specs.Tables.{parted}
-use Rattle.reader.specs.InnerPromises.{readOf, GapRead, Reached, RoomFor, Stored}
+use Rattle.reader.specs.InnerPromises.{readOf, GapRead, RoomFor, Stored}
 use Rattle.reader.specs.Laying.{Laid}
 use Rattle.reader.specs.InnerRows.{RowsRead}
 use Rattle.reader.specs.declared.reading.Spot.{Spot}

@@ -1,4 +1,4 @@
--- Inner vocabulary of rows of numbers: how far one is read, and the two shapes of rows that are read many bytes at a time.
+-- Inner vocabulary of rows of numbers: how far one is read, and what is read of it two numbers at a time.
 use Prim.Native.Nat.{ℕ, _+_, _-_, _*_, _≤_, _<_}
 use mathlib.Core.Bool.{Bool, true, false}
 use mathlib.Core.List.{List, _++_}
@@ -37,37 +37,13 @@ pub record Digit (b : ℕ) : Type 0 where
   pub low : 48 ≤ b
   pub high : b ≤ 57
 
--- a second byte is a digit if a first one is, and a space if that is
-pub record Alike (first second : ℕ) : Type 0 where
-  pub digits : Digit first → Digit second
-  pub spaces : first ≡ 32 → second ≡ 32
-
--- each of `count` bytes is like the one `step` bytes on
-pub record Repeats (text : List ℕ) (at step count : ℕ) : Type 0 where
-  pub each : (i : ℕ) → i < count → Alike (byteAt text (at + i)) (byteAt text (at + i + step))
-
--- behind none of `count` bytes, if it is a space, a zero stands
-pub record Unzeroed (text : List ℕ) (at count : ℕ) : Type 0 where
-  pub each : (i : ℕ) → i < count → byteAt text (at + i) ≡ 32 → byteAt text (at + i + 1) ≡ 48 → ⊥
-
--- a number of one digit and a space
-pub record ShortItem (text : List ℕ) (at : ℕ) : Type 0 where
-  pub digit : Digit (byteAt text at)
-  pub gap : byteAt text (at + 1) ≡ 32
-
--- a number of two digits and a space
-pub record LongItem (text : List ℕ) (at : ℕ) : Type 0 where
-  pub first : Digit (byteAt text at)
-  pub some : byteAt text at ≡ 48 → ⊥
-  pub second : Digit (byteAt text (at + 1))
-  pub gap : byteAt text (at + 2) ≡ 32
-
--- k such items one after the other
-pub record ShortItems (text : List ℕ) (at k : ℕ) : Type 0 where
-  pub each : (i : ℕ) → i < k → ShortItem text (at + 2 * i)
-
-pub record LongItems (text : List ℕ) (at k : ℕ) : Type 0 where
-  pub each : (i : ℕ) → i < k → LongItem text (at + 3 * i)
+-- r is the number of the digits a and b, if a gap is behind them and a is not 0; it is 0 else
+pub record LongNumber (a b behind r : ℕ) : Type 0 where
+  pub first : 0 < r → Digit a
+  pub some : 0 < r → a ≡ 48 → ⊥
+  pub second : 0 < r → Digit b
+  pub gap : 0 < r → behind ≡ 32
+  pub value : 0 < r → r ≡ 10 * (a - 48) + (b - 48)
 
 -- a number that was read, and the place after it
 abbrev pub numberFound : ℕ → ℕ → Number
@@ -89,6 +65,11 @@ pub record TwoItems (text : List ℕ) (at first second next : ℕ) : Type 0 wher
 -- two numbers were looked for
 pub record PairRead (text : List ℕ) (at : ℕ) (r : Pair) : Type 0 where
   pub some : r .ok ≡ true → TwoItems text at (r .first) (r .second) (r .next)
+
+-- the same of a reader that looks at so many bytes
+pub record PairWithin (width : ℕ) (text : List ℕ) (at : ℕ) (r : Pair) : Type 0 where
+  pub read : PairRead text at r
+  pub within : r .next ≤ at + width
 
 -- one of two, as a flag tells
 unfoldable pub choose : Bool → ℕ → ℕ → ℕ

@@ -1,192 +1,21 @@
-// Reading a row: n numbers, parted by gaps. Where all of them have one digit, or all have two, the row is tested many bytes at a time before its cells are stored.
+// Reading a row: n numbers, parted by gaps. They are read two at a time as far as can be, and the last ones one by one, which alone tells what is faulty.
 use crate::reading::Spot;
 use crate::reading::gap_end;
 use crate::reading::is_digit;
 use crate::reading::read_cell;
-use equivalence::blocks::larger;
-ghost use mathlib.Core.Bool.{true};
+ghost use mathlib.Core.Bool.{true, false};
 ghost use mathlib.Core.Path.{_≡_};
 ghost use Prim.Native.Nat.{ℕ, _+_, _-_, _*_, _≤_, _<_};
 ghost use lib.ListN.{length};
 ghost use Rattle.reader.specs.Tables.{cell, parted};
 ghost use Rattle.reader.specs.InnerPromises.{RoomFor, StoredBy};
-ghost use Rattle.reader.specs.InnerRows.{RowBegunBy, Alike, Digit, Repeats, Unzeroed, ShortItems, LongItems, PairRead, choose, ItemLength, valueOf, Fits};
+ghost use Rattle.reader.specs.InnerRows.{RowBegunBy, Digit, LongNumber, PairRead, PairWithin, choose, ItemLength, valueOf, Fits};
 
 // How far a row is read: how many numbers are left, and their places in the text and in the storage.
 pub struct RowSoFar {
     pub more: u8,
     pub at: usize,
     pub put: usize,
-}
-
-// 0 only if the second byte is a space or a digit as the first one is, else 1.
-fn unlike(first: u8, second: u8) -> u8
-    ensures { λ r. ⌜ (r ≡ 0 → Alike first second) ⌝ }
-{
-    if first == b' ' {
-        return if second == b' ' { 0 } else { 1 };
-    }
-    if second < b'0' {
-        return 1;
-    }
-    if second <= b'9' { 0 } else { 1 }
-}
-
-// 0 only if each of `count` bytes is like the one `step` bytes on. They are read without an early exit, so that the loop can take many at a time.
-fn changes(text: &[u8], at: usize, step: usize, count: usize) -> u8
-    requires { ⌜ at + count + step ≤ length (now text) ⌝ }
-    ensures { λ r. ⌜ (r ≡ 0 → Repeats (now (text .entry)) at step count) ⌝ }
-{
-    let mut top = 0u8;
-    let mut i = 0;
-    while i < count {
-        top = larger(top, unlike(text[at + i], text[at + i + step]));
-        i += 1;
-    }
-    top
-}
-
-// 1 for a zero behind a space, else 0.
-fn leading_zero(first: u8, second: u8) -> u8
-    ensures { λ r. ⌜ (r ≡ 0 → first ≡ 32 → second ≡ 48 → ⊥) ⌝ }
-{
-    if first != b' ' {
-        return 0;
-    }
-    if second == b'0' { 1 } else { 0 }
-}
-
-// 0 only if behind none of `count` bytes a number begins with a zero; without an early exit, as `changes`.
-fn leading_zeros(text: &[u8], at: usize, count: usize) -> u8
-    requires { ⌜ at + count < length (now text) ⌝ }
-    ensures { λ r. ⌜ (r ≡ 0 → Unzeroed (now (text .entry)) at count) ⌝ }
-{
-    let mut top = 0u8;
-    let mut i = 0;
-    while i < count {
-        top = larger(top, leading_zero(text[at + i], text[at + i + 1]));
-        i += 1;
-    }
-    top
-}
-
-// Whether k numbers of one digit stand here, each with a gap behind it, and one more before a bracket. A look at that decides most rows of other shapes.
-fn is_short(k: usize, text: &[u8], at: usize) -> bool
-    requires { ⌜ at ≤ length (now text) ⌝ }
-    requires { ⌜ k < 256 ⌝ }
-    ensures { λ r. ⌜ (r ≡ true → ShortItems (now (text .entry)) at k) ⌝ }
-{
-    if k == 0 {
-        return false;
-    }
-    if text.len() - at < 2 * k + 2 {
-        return false;
-    }
-    if text[at + 2 * k + 1] != b']' {
-        return false;
-    }
-    if !is_digit(text[at]) {
-        return false;
-    }
-    if text[at + 1] != b' ' {
-        return false;
-    }
-    changes(text, at, 2, 2 * k - 2) == 0
-}
-
-// The same for numbers of two digits.
-fn is_long(k: usize, text: &[u8], at: usize) -> bool
-    requires { ⌜ at ≤ length (now text) ⌝ }
-    requires { ⌜ k < 256 ⌝ }
-    ensures { λ r. ⌜ (r ≡ true → LongItems (now (text .entry)) at k) ⌝ }
-{
-    if k == 0 {
-        return false;
-    }
-    if text.len() - at < 3 * k + 3 {
-        return false;
-    }
-    if text[at + 3 * k + 2] != b']' {
-        return false;
-    }
-    if text[at] == b'0' {
-        return false;
-    }
-    if !is_digit(text[at]) {
-        return false;
-    }
-    if !is_digit(text[at + 1]) {
-        return false;
-    }
-    if text[at + 2] != b' ' {
-        return false;
-    }
-    if changes(text, at, 3, 3 * k - 3) != 0 {
-        return false;
-    }
-    leading_zeros(text, at, 3 * k) == 0
-}
-
-// All numbers but the last, of one digit each.
-fn read_short(n: u8, text: &[u8], at: usize, cells: &mut [u8], put: usize) -> RowSoFar
-    requires { ⌜ RoomFor n (now text) at (now cells) put ⌝ }
-    requires { ⌜ 0 < n ⌝ }
-    requires { ⌜ ShortItems (now text) at (n - 1) ⌝ }
-    ensures { λ r. ⌜ RowBegunBy n (text .entry) at (cells .entry) put (cells .exit) r ⌝ }
-{
-    let mut more = n;
-    let mut next = at;
-    let mut so_far = put;
-    while 1 < more {
-        cells[so_far] = text[next] - b'0';
-        more -= 1;
-        next += 2;
-        so_far += 1;
-    }
-    RowSoFar {
-        more,
-        at: next,
-        put: so_far,
-    }
-}
-
-// All numbers but the last, of two digits each.
-fn read_long(n: u8, text: &[u8], at: usize, cells: &mut [u8], put: usize) -> RowSoFar
-    requires { ⌜ RoomFor n (now text) at (now cells) put ⌝ }
-    requires { ⌜ 0 < n ⌝ }
-    requires { ⌜ LongItems (now text) at (n - 1) ⌝ }
-    ensures { λ r. ⌜ RowBegunBy n (text .entry) at (cells .entry) put (cells .exit) r ⌝ }
-{
-    let mut more = n;
-    let mut next = at;
-    let mut so_far = put;
-    while 1 < more {
-        cells[so_far] = 10 * (text[next] - b'0') + (text[next + 1] - b'0');
-        more -= 1;
-        next += 3;
-        so_far += 1;
-    }
-    RowSoFar {
-        more,
-        at: next,
-        put: so_far,
-    }
-}
-
-// All numbers but the last, where all have one digit or all have two; else none.
-fn read_even(n: u8, text: &[u8], at: usize, cells: &mut [u8], put: usize) -> RowSoFar
-    requires { ⌜ RoomFor n (now text) at (now cells) put ⌝ }
-    requires { ⌜ 0 < n ⌝ }
-    ensures { λ r. ⌜ RowBegunBy n (text .entry) at (cells .entry) put (cells .exit) r ⌝ }
-{
-    let k = (n - 1) as usize;
-    if is_short(k, text, at) {
-        return read_short(n, text, at, cells, put);
-    }
-    if is_long(k, text, at) {
-        return read_long(n, text, at, cells, put);
-    }
-    RowSoFar { more: n, at, put }
 }
 
 // Two numbers, each with a gap behind it, and the place after them; where `ok` is false, nothing.
@@ -238,6 +67,73 @@ fn fits(wide: bool, a: u8, behind: u8) -> bool
         return true;
     }
     a != b'0'
+}
+
+// Two numbers of one digit, if they stand here, each with a gap behind it.
+fn short_pair(text: &[u8], at: usize) -> Pair
+    requires { ⌜ at + 4 ≤ length (now text) ⌝ }
+    ensures { λ r. ⌜ PairWithin 4 (now (text .entry)) at r ⌝ }
+{
+    let none = Pair {
+        ok: false,
+        first: 0,
+        second: 0,
+        next: at,
+    };
+    let a = text[at];
+    let c = text[at + 2];
+    if !fits(false, a, text[at + 1]) {
+        return none;
+    }
+    if !fits(false, c, text[at + 3]) {
+        return none;
+    }
+    Pair {
+        ok: true,
+        first: a - b'0',
+        second: c - b'0',
+        next: at + 4,
+    }
+}
+
+// A number of two digits with a gap behind it; 0 where other bytes stand.
+fn long_number(a: u8, b: u8, behind: u8) -> u8
+    ensures { λ r. ⌜ LongNumber a b behind r ⌝ }
+{
+    if !is_digit(b) {
+        return 0;
+    }
+    if !fits(true, a, behind) {
+        return 0;
+    }
+    10 * (a - b'0') + (b - b'0')
+}
+
+// Two numbers of two digits, if they stand here, each with a gap behind it.
+fn long_pair(text: &[u8], at: usize) -> Pair
+    requires { ⌜ at + 6 ≤ length (now text) ⌝ }
+    ensures { λ r. ⌜ PairWithin 6 (now (text .entry)) at r ⌝ }
+{
+    let none = Pair {
+        ok: false,
+        first: 0,
+        second: 0,
+        next: at,
+    };
+    let first = long_number(text[at], text[at + 1], text[at + 2]);
+    if first == 0 {
+        return none;
+    }
+    let second = long_number(text[at + 3], text[at + 4], text[at + 5]);
+    if second == 0 {
+        return none;
+    }
+    Pair {
+        ok: true,
+        first,
+        second,
+        next: at + 6,
+    }
 }
 
 // Two numbers below 100, if they stand here, each with a gap behind it. How many digits each has cannot be foreseen, so nothing branches on it.
@@ -308,6 +204,98 @@ fn read_pairs(n: u8, text: &[u8], at: usize, cells: &mut [u8], put: usize) -> Ro
     }
 }
 
+// The numbers two by two, as long as they have one digit and more than two are left.
+fn read_short(n: u8, text: &[u8], at: usize, cells: &mut [u8], put: usize) -> RowSoFar
+    requires { ⌜ RoomFor n (now text) at (now cells) put ⌝ }
+    requires { ⌜ 0 < n ⌝ }
+    requires { ⌜ at + 2 * n ≤ length (now text) ⌝ }
+    ensures { λ r. ⌜ RowBegunBy n (text .entry) at (cells .entry) put (cells .exit) r ⌝ }
+{
+    let mut more = n;
+    let mut next = at;
+    let mut so_far = put;
+    while 2 < more {
+        let pair = short_pair(text, next);
+        let after = pair.next;
+        if !pair.ok {
+            return RowSoFar {
+                more,
+                at: next,
+                put: so_far,
+            };
+        }
+        cells[so_far] = pair.first;
+        cells[so_far + 1] = pair.second;
+        more -= 2;
+        next = after;
+        so_far += 2;
+    }
+    RowSoFar {
+        more,
+        at: next,
+        put: so_far,
+    }
+}
+
+// The numbers two by two, as long as they have two digits and more than two are left.
+fn read_long(n: u8, text: &[u8], at: usize, cells: &mut [u8], put: usize) -> RowSoFar
+    requires { ⌜ RoomFor n (now text) at (now cells) put ⌝ }
+    requires { ⌜ 0 < n ⌝ }
+    requires { ⌜ at + 3 * n ≤ length (now text) ⌝ }
+    ensures { λ r. ⌜ RowBegunBy n (text .entry) at (cells .entry) put (cells .exit) r ⌝ }
+{
+    let mut more = n;
+    let mut next = at;
+    let mut so_far = put;
+    while 2 < more {
+        let pair = long_pair(text, next);
+        let after = pair.next;
+        if !pair.ok {
+            return RowSoFar {
+                more,
+                at: next,
+                put: so_far,
+            };
+        }
+        cells[so_far] = pair.first;
+        cells[so_far + 1] = pair.second;
+        more -= 2;
+        next = after;
+        so_far += 2;
+    }
+    RowSoFar {
+        more,
+        at: next,
+        put: so_far,
+    }
+}
+
+// Whether a bracket is the last of so many bytes.
+fn is_closed(count: usize, text: &[u8], at: usize) -> bool
+    requires { ⌜ (0 < count) × (at ≤ length (now text)) ⌝ }
+    ensures { λ r. ⌜ (r ≡ true → at + count ≤ length (now (text .entry))) ⌝ }
+{
+    if text.len() - at < count {
+        return false;
+    }
+    text[at + count - 1] == b']'
+}
+
+// Most numbers of a row, two by two. Where it ends shows whether all have one digit, or all two: only then their lengths can be foreseen.
+fn read_most(n: u8, text: &[u8], at: usize, cells: &mut [u8], put: usize) -> RowSoFar
+    requires { ⌜ RoomFor n (now text) at (now cells) put ⌝ }
+    requires { ⌜ 0 < n ⌝ }
+    ensures { λ r. ⌜ RowBegunBy n (text .entry) at (cells .entry) put (cells .exit) r ⌝ }
+{
+    if is_closed(2 * (n as usize), text, at) {
+        return read_short(n, text, at, cells, put);
+    }
+    if is_closed(3 * (n as usize), text, at) {
+        return read_long(n, text, at, cells, put);
+    }
+    read_pairs(n, text, at, cells, put)
+}
+
 // n numbers one by one.
 fn read_one_by_one(n: u8, text: &[u8], at: usize, cells: &mut [u8], put: usize) -> Spot
     requires { ⌜ RoomFor n (now text) at (now cells) put ⌝ }
@@ -348,7 +336,6 @@ pub fn read_row(n: u8, text: &[u8], at: usize, cells: &mut [u8], put: usize) -> 
     requires { ⌜ 0 < n ⌝ }
     ensures { λ r. ⌜ StoredBy (parted cell n) (text .entry) at (cells .entry) put (cells .exit) r ⌝ }
 {
-    let even = read_even(n, text, at, cells, put);
-    let paired = read_pairs(even.more, text, even.at, cells, even.put);
-    read_one_by_one(paired.more, text, paired.at, cells, paired.put)
+    let most = read_most(n, text, at, cells, put);
+    read_one_by_one(most.more, text, most.at, cells, most.put)
 }

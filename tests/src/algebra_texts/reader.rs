@@ -209,6 +209,62 @@ fn reads_damaged_everywhere(library: Texts, s: &mut Suite) {
     c.end("damaged texts");
 }
 
+/// The numbers of a row, as they are written: a reader may take rows of some shapes
+/// by ways of its own.
+fn row(shape: usize, n: usize, rng: &mut Rng) -> Vec<String> {
+    let largest = if n > 10 { n - 1 } else { 99 };
+    let mut numbers: Vec<String> = Vec::new();
+    for _ in 0..n {
+        let is_long = match shape {
+            0 => false,
+            1 | 4 | 5 => true,
+            _ => rng.once_in(2),
+        };
+        let value = if is_long { rng.within(10, largest) } else { rng.below(n.min(10)) };
+        numbers.push(value.to_string());
+    }
+    let at = rng.below(n);
+    match shape {
+        // One number of another length, with a leading zero, or of three digits.
+        3 => numbers[at] = rng.within(100, 300).to_string(),
+        4 => numbers[at] = format!("0{}", rng.below(10)),
+        5 => numbers[at] = rng.below(10).to_string(),
+        _ => {}
+    }
+    numbers
+}
+
+/// Rows of every length and of several shapes: right, cut at every place, so that
+/// each of its bytes is once the text's last, and damaged there.
+fn reads_rows(library: Texts, s: &mut Suite) {
+    let mut c = Comparison::new(library, s);
+    for n in 1..=64 {
+        for shape in 0..6 {
+            let front = format!("[size {n}]\n[op 1 [");
+            let items = row(shape, n, &mut c.suite.rng).join(" ");
+            let text = format!("{front}{items}]]\n").into_bytes();
+            c.read(&text);
+            for at in front.len()..text.len() {
+                c.read(&text[..at]);
+                for new in *b" 0:/]" {
+                    let mut changed = text.clone();
+                    changed[at] = new;
+                    c.read(&changed);
+                }
+                for new in *b" 05" {
+                    let mut more = text.clone();
+                    more.insert(at, new);
+                    c.read(&more);
+                }
+            }
+            if c.is_over() {
+                return;
+            }
+        }
+    }
+    c.end("rows");
+}
+
 /// A line between any two lines of a text, and before and behind them.
 fn reads_lines_between(library: Texts, s: &mut Suite) {
     let mut c = Comparison::new(library, s);
@@ -333,11 +389,12 @@ pub fn suites(run: &mut Run, library: Texts) {
     run.suite(&format!("{} reader: examples", library.name), |s| {
         expect_read(s, |text, lent, rng| found(library, text, lent, rng))
     });
-    let reader: [(&str, fn(Texts, &mut Suite)); 8] = [
+    let reader: [(&str, fn(Texts, &mut Suite)); 9] = [
         ("heads of another length", wants_a_head),
         ("lent lengths", reads_into_any_length),
         ("the desk program's texts", reads_known_texts),
         ("right texts", reads_what_is_right),
+        ("rows of every length and shape", reads_rows),
         ("lines put between", reads_lines_between),
         ("texts damaged at every byte", reads_damaged_everywhere),
         ("damaged texts", reads_damaged_anyhow),

@@ -1,85 +1,57 @@
-use Prim.Native.Nat.{ℕ, _+_, _*_, _-_, _≤_, _<_}
-use mathlib.Core.Path.{_≡_, refl, sym, _∙_}
-use native.Mathlib.Omega.{arith}
-use lib.ListN.{length, getD}
+-- `rows::read_long` meets its contract, by the laws of Begun and Pairs.
+use Rattle.reader.proofs.Pairs.{pair-room, pair-room-second, pair-more}
+use Rattle.reader.proofs.Begun.{begun-none}
+use Rattle.reader.specs.InnerRows.{RowBegun}
+use Prim.Native.Nat.{_+_, _*_, _≤_}
+use lib.ListN.{length}
 use borrow.Author.Needs.{needs}
-use Rattle.reader.specs.InnerRows.{RowBegun, Repeats, Unzeroed, ShortItems, LongItems}
-use Rattle.reader.proofs.Begun.{begun-none, long-here, long-low, long-low-second, long-within, long-within-second, long-room, long-more}
-use Rattle.reader.proofs.Shapes.{long-rest}
 use Rattle.reader.proofs.rows.read_long.Statement.{statement}
 use Rattle.reader.proofs.rows.read_long.Tie as tie
-use Rattle.reader.proofs.rows.read_long.Reads as reads
-use Rattle.reader.proofs.rows.read_long.Lts as lts
 
 abbrev Inv-loop : tie.InvT-loop
-Inv-loop n text at cells₀ put more₀ next₀ so-far₀ cells more next so-far = RowBegun n text at cells₀ put cells more next so-far × LongItems text next (more - 1)
+Inv-loop n text at cells₀ put more₀ next₀ so-far₀ cells more next so-far = RowBegun n text at cells₀ put cells more next so-far × (next + 3 * more ≤ length text)
 
 abbrev μ-loop : tie.MeasureT-loop
 μ-loop n text at cells₀ put more₀ next₀ so-far₀ cells more next so-far = more
 
--- src/rows.rt:162:5
 loop-holds : tie.Need-loop-holds Inv-loop μ-loop
 loop-holds c = (search begun-none, search needs)
 
--- src/rows.rt:163:31
-shared-slice-read-cells : tie.Need-shared-slice-read-cells Inv-loop μ-loop
-shared-slice-read-cells c = search long-within
+long-pair-requires : tie.Need-long-pair-requires Inv-loop μ-loop
+long-pair-requires c κs = search needs
 
--- src/rows.rt:163:31
-sub-cells : tie.Need-sub-cells Inv-loop μ-loop
-sub-cells c = search long-low
-
--- src/rows.rt:163:25
-mul-cells : tie.Need-mul-cells Inv-loop μ-loop
-mul-cells c = omega (arith, long-here _ _ _ (c .before .loop-test .taken) (c .before .before .loop .inv .1))
-
--- src/rows.rt:163:58
-add-cells : tie.Need-add-cells Inv-loop μ-loop
-add-cells c = search needs
-
--- src/rows.rt:163:53
-shared-slice-read-cells-2 : tie.Need-shared-slice-read-cells-2 Inv-loop μ-loop
-shared-slice-read-cells-2 c = search long-within-second
-
--- src/rows.rt:163:53
-sub-cells-2 : tie.Need-sub-cells-2 Inv-loop μ-loop
-sub-cells-2 c = search long-low-second
-
--- src/rows.rt:163:25
-add-cells-2 : tie.Need-add-cells-2 Inv-loop μ-loop
-add-cells-2 c = omega (arith, long-here _ _ _ (c .before .before .loop-test .taken) (c .before .before .before .loop .inv .1))
-
--- src/rows.rt:163:9
-slice-write-cells : tie.Need-slice-write-cells Inv-loop μ-loop
-slice-write-cells c = search long-room
-
--- src/rows.rt:164:9
-sub-more : tie.Need-sub-more Inv-loop μ-loop
-sub-more c = search needs
-
--- src/rows.rt:165:9
-add-next : tie.Need-add-next Inv-loop μ-loop
-add-next c = search needs
-
--- src/rows.rt:166:9
-add-so-far : tie.Need-add-so-far Inv-loop μ-loop
-add-so-far c = search needs
-
--- src/rows.rt:162:5
-loop-less : tie.Need-loop-less Inv-loop μ-loop
-loop-less c = search needs
-
--- src/rows.rt:162:5
-loop-again : tie.Need-loop-again Inv-loop μ-loop
-loop-again c = (search long-more, search long-rest)
-
--- src/rows.rt:153:1
 same-length : tie.Need-same-length Inv-loop μ-loop
 same-length c = search needs
 
--- src/rows.rt:153:1
 returns : tie.Need-returns Inv-loop μ-loop
 returns c = search needs
+
+slice-write-cells : tie.Need-slice-write-cells Inv-loop μ-loop
+slice-write-cells c = search pair-room
+
+add-cells : tie.Need-add-cells Inv-loop μ-loop
+add-cells c = search needs
+
+slice-write-cells-2 : tie.Need-slice-write-cells-2 Inv-loop μ-loop
+slice-write-cells-2 c = search pair-room-second
+
+sub-more : tie.Need-sub-more Inv-loop μ-loop
+sub-more c = search needs
+
+add-so-far : tie.Need-add-so-far Inv-loop μ-loop
+add-so-far c = search needs
+
+loop-less : tie.Need-loop-less Inv-loop μ-loop
+loop-less c = search needs
+
+loop-again : tie.Need-loop-again Inv-loop μ-loop
+loop-again c = (search pair-more, search needs)
+
+same-length-2 : tie.Need-same-length-2 Inv-loop μ-loop
+same-length-2 c = search needs
+
+returns-2 : tie.Need-returns-2 Inv-loop μ-loop
+returns-2 c = search needs
 
 pub read-long-spec : {M : Type 1} → statement M
 read-long-spec =
@@ -88,18 +60,15 @@ read-long-spec =
     Inv-loop
     μ-loop
     loop-holds
-    shared-slice-read-cells
-    sub-cells
-    mul-cells
-    add-cells
-    shared-slice-read-cells-2
-    sub-cells-2
-    add-cells-2
+    long-pair-requires
+    same-length
+    returns
     slice-write-cells
+    add-cells
+    slice-write-cells-2
     sub-more
-    add-next
     add-so-far
     loop-less
     loop-again
-    same-length
-    returns)
+    same-length-2
+    returns-2)

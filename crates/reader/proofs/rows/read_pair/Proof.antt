@@ -1,145 +1,106 @@
+-- `rows::read_pair` meets its contract, by the laws of Pairs.
 use Rattle.reader.proofs.Pairs.{digit-of, fits-digit, pair-none, pair-found}
 use borrow.Author.Needs.{needs}
-use native.Mathlib.Omega.{arith}
 use Rattle.reader.proofs.rows.read_pair.Statement.{statement}
 use Rattle.reader.proofs.rows.read_pair.Tie as tie
-use Rattle.reader.proofs.rows.read_pair.Reads as reads
-use Rattle.reader.proofs.rows.read_pair.Lts as lts
-use Rattle.reader.proofs.reading.is_digit.Reads as is-digit-reads
-use Rattle.reader.proofs.rows.chosen.Reads as chosen-reads
-use Rattle.reader.proofs.rows.fits.Reads as fits-reads
-use Rattle.reader.proofs.rows.item_length.Reads as item-length-reads
-use Rattle.reader.proofs.rows.value.Reads as value-reads
 
--- src/rows.rt:250:8
 sub-if1 : tie.Need-sub-if1
 sub-if1 c = search needs
 
--- src/rows.rt:251:9
 returns : tie.Need-returns
 returns c = search pair-none
 
--- src/rows.rt:253:13
 shared-slice-read-a : tie.Need-shared-slice-read-a
 shared-slice-read-a c = search needs
 
--- src/rows.rt:254:18
 add-b : tie.Need-add-b
 add-b c = search needs
 
--- src/rows.rt:254:13
 shared-slice-read-b : tie.Need-shared-slice-read-b
 shared-slice-read-b c = search needs
 
--- src/rows.rt:255:9
 is-digit-requires : tie.Need-is-digit-requires
 is-digit-requires c κs = search needs
 
--- src/rows.rt:256:31
 add-chosen : tie.Need-add-chosen
 add-chosen c = search needs
 
--- src/rows.rt:256:26
 shared-slice-read-chosen : tie.Need-shared-slice-read-chosen
 shared-slice-read-chosen c = search needs
 
--- src/rows.rt:256:45
 add-chosen-2 : tie.Need-add-chosen-2
 add-chosen-2 c = search needs
 
--- src/rows.rt:256:40
 shared-slice-read-chosen-2 : tie.Need-shared-slice-read-chosen-2
 shared-slice-read-chosen-2 c = search needs
 
--- src/rows.rt:256:9
 chosen-requires : tie.Need-chosen-requires
 chosen-requires c κs = search needs
 
--- src/rows.rt:257:31
 add-chosen-3 : tie.Need-add-chosen-3
 add-chosen-3 c = search needs
 
--- src/rows.rt:257:26
 shared-slice-read-chosen-3 : tie.Need-shared-slice-read-chosen-3
 shared-slice-read-chosen-3 c = search needs
 
--- src/rows.rt:257:45
 add-chosen-4 : tie.Need-add-chosen-4
 add-chosen-4 c = search needs
 
--- src/rows.rt:257:40
 shared-slice-read-chosen-4 : tie.Need-shared-slice-read-chosen-4
 shared-slice-read-chosen-4 c = search needs
 
--- src/rows.rt:257:9
 chosen-requires-2 : tie.Need-chosen-requires-2
 chosen-requires-2 c κs = search needs
 
--- src/rows.rt:258:9
 is-digit-requires-2 : tie.Need-is-digit-requires-2
 is-digit-requires-2 c κs = search needs
 
--- src/rows.rt:259:20
 item-length-requires : tie.Need-item-length-requires
 item-length-requires c κs = search needs
 
--- src/rows.rt:259:15
 add-mid : tie.Need-add-mid
 add-mid c = search needs
 
--- src/rows.rt:260:22
 item-length-requires-2 : tie.Need-item-length-requires-2
 item-length-requires-2 c κs = search needs
 
--- src/rows.rt:260:16
 add-next : tie.Need-add-next
 add-next c = search needs
 
--- src/rows.rt:261:28
 sub-fits : tie.Need-sub-fits
 sub-fits c = search needs
 
--- src/rows.rt:261:23
 shared-slice-read-fits : tie.Need-shared-slice-read-fits
 shared-slice-read-fits c = search needs
 
--- src/rows.rt:261:9
 fits-requires : tie.Need-fits-requires
 fits-requires c κs = search needs
 
--- src/rows.rt:262:9
 returns-2 : tie.Need-returns-2
 returns-2 c = search pair-none
 
--- src/rows.rt:264:32
 sub-fits-2 : tie.Need-sub-fits-2
 sub-fits-2 c = search needs
 
--- src/rows.rt:264:27
 shared-slice-read-fits-2 : tie.Need-shared-slice-read-fits-2
 shared-slice-read-fits-2 c = search needs
 
--- src/rows.rt:264:9
 fits-requires-2 : tie.Need-fits-requires-2
 fits-requires-2 c κs = search needs
 
--- src/rows.rt:265:9
 returns-3 : tie.Need-returns-3
 returns-3 c = search pair-none
 
--- src/rows.rt:269:16
 value-requires : tie.Need-value-requires
 value-requires c κs =
     let k = c .before .before .before in
     (fits-digit _ _ _ _ (k .before .fits2 .ensures) (k .if2 .left), digit-of _ _ (k .before .before .before .before .before .before .before .before .before .before .before .before .is-digit .ensures))
 
--- src/rows.rt:270:17
 value-requires-2 : tie.Need-value-requires-2
 value-requires-2 c κs =
     let k = c .before in
     (fits-digit _ _ _ _ (k .before .fits3 .ensures) (k .if3 .left), search digit-of)
 
--- src/rows.rt:240:1
 returns-4 : tie.Need-returns-4
 returns-4 c = search pair-found
 
