@@ -1,5 +1,6 @@
 pub mod Readers
 pub mod Words
+pub mod Tops
 pub mod Digits
 pub mod Laying
 pub mod Lengths

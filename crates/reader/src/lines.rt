@@ -4,10 +4,12 @@ use crate::reading::begins_with;
 use crate::reading::gap_end;
 use crate::reading::read_number;
 use crate::reading::read_table;
-use equivalence::checks::all_below;
+use equivalence::blocks::larger;
 ghost use mathlib.Core.Path.{_≡_};
 ghost use Prim.Native.Nat.{_+_, _^_, _≤_, _<_};
+ghost use lib.Dec.{ltb};
 ghost use lib.ListN.{length};
+ghost use Rattle.equivalence.specs.Lists.{every};
 ghost use Rattle.kernel.specs.InnerKernel.{bit};
 ghost use Rattle.equivalence.specs.Refusal.{lowest};
 ghost use Rattle.reader.specs.Lines.{spacedNumber, sizeLine, arity, operationTests};
@@ -108,6 +110,20 @@ fn check_operation(n: u8, operations: usize, cells: usize, s: u8) -> equivalence
     equivalence::Check::Passed
 }
 
+// Whether every byte is below n. All are read, without an early exit, so that the loop can take many at a time.
+fn are_below(n: u8, bytes: &[u8]) -> bool
+    requires { ⌜ 0 < n ⌝ }
+    ensures { λ r. ⌜ r ≡ every (λ c. ltb c n) (now (bytes .entry)) ⌝ }
+{
+    let mut top = 0u8;
+    let mut i = 0;
+    while i < bytes.len() {
+        top = larger(top, bytes[i]);
+        i += 1;
+    }
+    top < n
+}
+
 // The table of an operation line, to the line's end: 14, then 6.
 fn read_last_table(
     n: u8,
@@ -140,7 +156,7 @@ fn read_last_table(
             cells: put,
         };
     }
-    if !all_below(n as usize, &cells[put..end]) {
+    if !are_below(n, &cells[put..end]) {
         return OperationLine {
             check: equivalence::Check::Failed(equivalence::Refusal::Cell),
             arity: s,

@@ -29,17 +29,17 @@ returns-2 : tie.Need-returns-2
 unfolding ascii
 returns-2 c = search table-open
 
-sub-all-below : tie.Need-sub-all-below
-sub-all-below c = search needs
+sub-are-below : tie.Need-sub-are-below
+sub-are-below c = search needs
 
-part-all-below-start : tie.Need-part-all-below-start
-part-all-below-start c = search needs
+part-are-below-start : tie.Need-part-are-below-start
+part-are-below-start c = search needs
 
-part-all-below-end : tie.Need-part-all-below-end
-part-all-below-end c = search needs
+part-are-below-end : tie.Need-part-are-below-end
+part-are-below-end c = search needs
 
-all-below-requires : tie.Need-all-below-requires
-all-below-requires c κs = search needs
+are-below-requires : tie.Need-are-below-requires
+are-below-requires c κs = search needs
 
 same-length-3 : tie.Need-same-length-3
 same-length-3 c = search needs
@@ -52,10 +52,10 @@ returns-3 c =
     let s = t .before .before .before .before in
     table-cell-above (now (s .args .text)) (s .args .at) (s .args .s) (s .args .n) (now (s .args .cells)) (s .args .put) (s .pre .0) (t .read-table .last .1 .1 .1 .1 .0)
     (t .read-table .result) (t .read-table .ensures) (k .before .before .before .if1 .left) (k .before .begins-with .result) (k .before .begins-with .ensures) (k .if2 .left)
-    (c .before .all-below .result) (c .before .all-below .ensures) (c .if3 .taken)
+    (c .before .are-below .result) (c .before .are-below .ensures) (c .if3 .taken)
 
-add-t21 : tie.Need-add-t21
-add-t21 c = search needs
+add-t22 : tie.Need-add-t22
+add-t22 c = search needs
 
 same-length-4 : tie.Need-same-length-4
 same-length-4 c = search needs
@@ -68,7 +68,7 @@ returns-4 c =
     let s = t .before .before .before .before in
     table-defined (now (s .args .text)) (s .args .at) (s .args .s) (s .args .n) (now (s .args .cells)) (s .args .put) (s .pre .0) (t .read-table .last .1 .1 .1 .1 .0)
     (t .read-table .result) (t .read-table .ensures) (k .before .before .before .if1 .left) (k .before .begins-with .result) (k .before .begins-with .ensures) (k .if2 .left)
-    (c .before .all-below .result) (c .before .all-below .ensures) (c .if3 .left)
+    (c .before .are-below .result) (c .before .are-below .ensures) (c .if3 .left)
 
 pub read-last-table-spec : {M : Type 1} → statement M
 read-last-table-spec =
@@ -81,12 +81,12 @@ read-last-table-spec =
     begins-with-requires
     same-length-2
     returns-2
-    sub-all-below
-    part-all-below-start
-    part-all-below-end
-    all-below-requires
+    sub-are-below
+    part-are-below-start
+    part-are-below-end
+    are-below-requires
     same-length-3
     returns-3
-    add-t21
+    add-t22
     same-length-4
     returns-4)
