@@ -62,6 +62,7 @@ static const char *const faults[] = {
     "read-late-four",       /* 2, 3 and 4 are tested behind the line's form */
     "read-unended",         /* the last line may lack its end */
     "read-zeros",           /* numbers may begin with 0 */
+    "read-last-gap",        /* any byte may part the last two numbers of a long row */
 };
 
 static int fault(const char *name)
