@@ -1,10 +1,10 @@
 // Reading the lines of an algebra: its size line and its operation lines.
+use algebra::largest;
 use crate::reading::Number;
 use crate::reading::begins_with;
 use crate::reading::gap_end;
 use crate::reading::read_number;
 use crate::reading::read_table;
-use equivalence::blocks::larger;
 ghost use mathlib.Core.Path.{_≡_};
 ghost use Prim.Native.Nat.{_+_, _^_, _≤_, _<_};
 ghost use lib.Dec.{ltb};
@@ -110,18 +110,12 @@ fn check_operation(n: u8, operations: usize, cells: usize, s: u8) -> equivalence
     equivalence::Check::Passed
 }
 
-// Whether every byte is below n. All are read, without an early exit, so that the loop can take many at a time.
+// Whether every byte is below n: the largest is, which is found many bytes at a time.
 fn are_below(n: u8, bytes: &[u8]) -> bool
     requires { ⌜ 0 < n ⌝ }
     ensures { λ r. ⌜ r ≡ every (λ c. ltb c n) (now (bytes .entry)) ⌝ }
 {
-    let mut top = 0u8;
-    let mut i = 0;
-    while i < bytes.len() {
-        top = larger(top, bytes[i]);
-        i += 1;
-    }
-    top < n
+    largest(bytes) < n
 }
 
 // The table of an operation line, to the line's end: 14, then 6.
