@@ -5,13 +5,10 @@ use mathlib.Core.List.{List, _++_}
 use mathlib.Core.Path.{_≡_, refl, sym, _∙_}
 use native.Mathlib.Omega.{arith}
 use lib.ListN.{length, set}
-use Rattle.reader.specs.Reading.{byteAt}
-use Rattle.reader.specs.Numbers.{digitAt}
 use Rattle.reader.specs.Tables.{cell, parted}
 use Rattle.reader.specs.InnerPromises.{GapRead, RoomFor, Stored}
-use Rattle.reader.specs.InnerRows.{RowBegun, Digit, numberFound, Item}
+use Rattle.reader.specs.InnerRows.{RowBegun, numberFound, Item}
 use Rattle.reader.specs.declared.reading.Spot.{Spot}
-use Rattle.reader.proofs.Digits.{digit-below, digit-here}
 use Rattle.reader.proofs.Laying.{laid-more}
 use Rattle.reader.proofs.Readers.{gap-here, before-read}
 use Rattle.reader.proofs.Storing.{spot, cell-room, cell-one}
@@ -51,11 +48,3 @@ module _ (n : ℕ) (text : List ℕ) (at : ℕ) (lent : List ℕ) (put : ℕ) (c
           rows = rows-read-more text at lent put cell n cells more next so-far (b .rows) (set cells so-far v) r s p refl (end + 1) g (λ e. absurd (omega arith));
           room = room-others text next cells so-far more (omega arith) (b .room) (set cells so-far v) r s refl (end + 1) g;
         }
-
--- the digit at a place
-pub digit-at : (text : List ℕ) (at : ℕ) → Digit (byteAt text at) → byteAt text at - 48 ≡ digitAt text at
-digit-at text at d = sym (digit-here text at (d .low) (d .high))
-
--- no digit
-pub gap-at : (text : List ℕ) (at : ℕ) → byteAt text at ≡ 32 → 10 ≡ digitAt text at
-gap-at text at e = sym (digit-below text at (omega arith))

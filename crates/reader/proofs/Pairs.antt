@@ -9,17 +9,25 @@ use lib.Dec.{eqb}
 use lib.ListN.{length, set}
 use Rattle.kernel.specs.InnerKernel.{bit}
 use Rattle.reader.specs.Reading.{byteAt}
-use Rattle.reader.specs.Numbers.{number}
+use Rattle.reader.specs.Numbers.{digitAt}
 use Rattle.reader.specs.InnerPromises.{isDigit}
 use Rattle.reader.specs.InnerRows.{RowBegun, Digit, LongNumber, Item, TwoItems, PairRead, PairWithin, choose, ItemLength, valueOf, Fits}
 use Rattle.reader.specs.declared.rows.Pair.{Pair}
-use Rattle.reader.proofs.Digits.{digit-low, digit-high, number-one, number-two}
+use Rattle.reader.proofs.Digits.{digit-below, digit-here, digit-low, digit-high, number-one, number-two}
 use Rattle.reader.proofs.Readers.{within-text}
-use Rattle.reader.proofs.Begun.{digit-at, gap-at, begun-room, begun-more}
+use Rattle.reader.proofs.Begun.{begun-room, begun-more}
 
 -- where a test fails, nothing is said
 pub untrue : {A : Type 0} → false ≡ true → A
 untrue e = let z : _≡_ {A = ℕ} 0 1 = cc in absurd (omega arith)
+
+-- the digit at a place
+digit-at : (text : List ℕ) (at : ℕ) → Digit (byteAt text at) → byteAt text at - 48 ≡ digitAt text at
+digit-at text at d = sym (digit-here text at (d .low) (d .high))
+
+-- no digit
+gap-at : (text : List ℕ) (at : ℕ) → byteAt text at ≡ 32 → 10 ≡ digitAt text at
+gap-at text at e = sym (digit-below text at (omega arith))
 
 -- what is chosen, and how long an item is
 module _ (wide : Bool) where
