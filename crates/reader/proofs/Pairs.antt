@@ -11,7 +11,9 @@ use Rattle.kernel.specs.InnerKernel.{bit}
 use Rattle.reader.specs.Reading.{byteAt}
 use Rattle.reader.specs.Numbers.{digitAt}
 use Rattle.reader.specs.InnerPromises.{isDigit}
-use Rattle.reader.specs.InnerRows.{RowBegun, Digit, LongNumber, Item, TwoItems, PairRead, PairWithin, choose, ItemLength, valueOf, Fits}
+use Rattle.reader.specs.InnerRows.{RowWithin, RowBegun, Digit, LongNumber, Item, TwoItems, PairRead, PairWithin, PairBy, choose, ItemLength, valueOf, Fits}
+use Rattle.reader.specs.declared.rows.Digits.{Digits}
+use Rattle.reader.specs.declared.rows.Digits.the-variants.{One, Two, Either}
 use Rattle.reader.specs.declared.rows.Pair.{Pair}
 use Rattle.reader.proofs.Digits.{digit-below, digit-here, digit-low, digit-high, number-one, number-two}
 use Rattle.reader.proofs.Readers.{within-text}
@@ -206,3 +208,49 @@ module _ (text : List ℕ) (at : ℕ) where
         read = record { some = λ _. record { mid = at + 2; end = at + 2 + 1 + 2; one = long-item text at v d (omega (arith, h)); two = two; last = omega arith } };
         within = omega arith;
       }
+
+-- pairs of a row whose numbers have these digits
+module _ (digits : Digits) (text : List ℕ) where
+  pub pair-one : (at : ℕ) (r : Pair) → digits ≡ One → PairWithin 4 text at r → PairBy digits text at r
+  pair-one at r e p = record { read = p .read; one = λ _. p .within; two = λ f. let z : _≡_ {A = ℕ} 0 1 = cc in absurd (omega arith) }
+
+  pub pair-two : (at : ℕ) (r : Pair) → digits ≡ Two → PairWithin 6 text at r → PairBy digits text at r
+  pair-two at r e p = record { read = p .read; one = λ f. let z : _≡_ {A = ℕ} 0 1 = cc in absurd (omega arith); two = λ _. p .within }
+
+  pub pair-either : (at : ℕ) (r : Pair) → digits ≡ Either → PairRead text at r → PairBy digits text at r
+  pair-either at r e p =
+      record { read = p; one = λ f. let z : _≡_ {A = ℕ} 0 1 = cc in absurd (omega arith); two = λ f. let z : _≡_ {A = ℕ} 0 1 = cc in absurd (omega arith) }
+
+  module _ (more next : ℕ) (w : RowWithin digits more text next) (p : 2 < more) where
+    -- the next two are within the text
+    pub within-two : RowWithin digits 2 text next
+    within-two = record { start = w .start; one = λ e. omega (arith, w .one e); two = λ e. omega (arith, w .two e) }
+
+    -- and so are those behind them
+    pub within-more : (r : Pair) → PairBy digits text next r → not (r .ok) ≡ false → RowWithin digits (more - 2) text (r .next)
+    within-more r q h =
+        let t = q .read .some (not-false (r .ok) h) in
+        record {
+          start = omega (arith, t .last, within-text text (t .end) (omega (arith, t .two .gap)));
+          one = λ e. omega (arith, w .one e, q .one e);
+          two = λ e. omega (arith, w .two e, q .two e);
+        }
+
+  -- so many bytes stand here
+  pub one-within : (at : ℕ) → RowWithin digits 2 text at → digits ≡ One → at + 4 ≤ length text
+  one-within at w e = omega (arith, w .one e)
+
+  pub two-within : (at : ℕ) → RowWithin digits 2 text at → digits ≡ Two → at + 6 ≤ length text
+  two-within at w e = omega (arith, w .two e)
+
+-- where a row ends tells the digits of its numbers
+module _ (text : List ℕ) (n at : ℕ) (s : at ≤ length text) where
+  pub digits-one : at + 2 * n ≤ length text → RowWithin One n text at
+  digits-one h = record { start = s; one = λ _. h; two = λ f. let z : _≡_ {A = ℕ} 0 1 = cc in absurd (omega arith) }
+
+  pub digits-two : at + 3 * n ≤ length text → RowWithin Two n text at
+  digits-two h = record { start = s; one = λ f. let z : _≡_ {A = ℕ} 0 1 = cc in absurd (omega arith); two = λ _. h }
+
+  pub digits-either : RowWithin Either n text at
+  digits-either =
+      record { start = s; one = λ f. let z : _≡_ {A = ℕ} 0 1 = cc in absurd (omega arith); two = λ f. let z : _≡_ {A = ℕ} 0 1 = cc in absurd (omega arith) }

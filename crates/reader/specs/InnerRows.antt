@@ -4,6 +4,7 @@ use mathlib.Core.Bool.{Bool, true, false}
 use mathlib.Core.List.{List, _++_}
 use mathlib.Core.Path.{_≡_}
 use denote.Ref.{RefT, now}
+use lib.ListN.{length}
 use Rattle.kernel.specs.InnerKernel.{bit}
 use Rattle.reader.specs.Reading.{found, Reader, byteAt, onward}
 use Rattle.reader.specs.Numbers.{number}
@@ -11,6 +12,8 @@ use Rattle.reader.specs.Tables.{cell, parted}
 use Rattle.reader.specs.Laying.{Laid}
 use Rattle.reader.specs.InnerPromises.{Reached, NumberRead, RoomFor}
 use Rattle.reader.specs.declared.reading.Number.{Number}
+use Rattle.reader.specs.declared.rows.Digits.{Digits}
+use Rattle.reader.specs.declared.rows.Digits.the-variants.{One, Two}
 use Rattle.reader.specs.declared.rows.Pair.{Pair}
 use Rattle.reader.specs.declared.rows.RowSoFar.{RowSoFar}
 
@@ -70,6 +73,18 @@ pub record PairRead (text : List ℕ) (at : ℕ) (r : Pair) : Type 0 where
 pub record PairWithin (width : ℕ) (text : List ℕ) (at : ℕ) (r : Pair) : Type 0 where
   pub read : PairRead text at r
   pub within : r .next ≤ at + width
+
+-- a row of k numbers of these digits, if it stands here, ends within the text
+pub record RowWithin (digits : Digits) (k : ℕ) (text : List ℕ) (at : ℕ) : Type 0 where
+  pub start : at ≤ length text
+  pub one : digits ≡ One → at + 2 * k ≤ length text
+  pub two : digits ≡ Two → at + 3 * k ≤ length text
+
+-- two numbers of these digits were looked for
+pub record PairBy (digits : Digits) (text : List ℕ) (at : ℕ) (r : Pair) : Type 0 where
+  pub read : PairRead text at r
+  pub one : digits ≡ One → r .next ≤ at + 4
+  pub two : digits ≡ Two → r .next ≤ at + 6
 
 -- one of two, as a flag tells
 unfoldable pub choose : Bool → ℕ → ℕ → ℕ

@@ -1,10 +1,10 @@
 // Reading the lines of an algebra: its size line and its operation lines.
-use algebra::largest;
 use crate::reading::Number;
 use crate::reading::begins_with;
 use crate::reading::gap_end;
 use crate::reading::read_number;
 use crate::reading::read_table;
+use algebra::largest;
 ghost use mathlib.Core.Path.{_≡_};
 ghost use Prim.Native.Nat.{_+_, _^_, _≤_, _<_};
 ghost use lib.Dec.{ltb};

@@ -9,13 +9,20 @@ ghost use Prim.Native.Nat.{_+_, _*_, _≤_, _<_};
 ghost use lib.ListN.{length};
 ghost use Rattle.reader.specs.Tables.{cell, parted};
 ghost use Rattle.reader.specs.InnerPromises.{RoomFor, StoredBy};
-ghost use Rattle.reader.specs.InnerRows.{RowBegunBy, Digit, LongNumber, PairRead, PairWithin, choose, ItemLength, valueOf, Fits};
+ghost use Rattle.reader.specs.InnerRows.{RowWithin, RowBegunBy, Digit, LongNumber, PairRead, PairWithin, PairBy, choose, ItemLength, valueOf, Fits};
 
 // How far a row is read: how many numbers are left, and their places in the text and in the storage.
 pub struct RowSoFar {
     pub more: u8,
     pub at: usize,
     pub put: usize,
+}
+
+// How many digits the numbers of a row have: each one, each two, or either.
+pub enum Digits {
+    One,
+    Two,
+    Either,
 }
 
 // Two numbers, each with a gap behind it, and the place after them; where `ok` is false, nothing.
@@ -137,7 +144,7 @@ fn long_pair(text: &[u8], at: usize) -> Pair
 }
 
 // Two numbers below 100, if they stand here, each with a gap behind it. How many digits each has cannot be foreseen, so nothing branches on it.
-fn read_pair(text: &[u8], at: usize) -> Pair
+fn mixed_pair(text: &[u8], at: usize) -> Pair
     requires { ⌜ at ≤ length (now text) ⌝ }
     ensures { λ r. ⌜ PairRead (now (text .entry)) at r ⌝ }
 {
@@ -172,83 +179,37 @@ fn read_pair(text: &[u8], at: usize) -> Pair
     }
 }
 
-// The numbers two by two, as long as they are below 100 and more than two are left.
-fn read_pairs(n: u8, text: &[u8], at: usize, cells: &mut [u8], put: usize) -> RowSoFar
-    requires { ⌜ RoomFor n (now text) at (now cells) put ⌝ }
-    requires { ⌜ 0 < n ⌝ }
-    ensures { λ r. ⌜ RowBegunBy n (text .entry) at (cells .entry) put (cells .exit) r ⌝ }
+// Two numbers of these digits, if they stand here, each with a gap behind it.
+fn next_pair(digits: Digits, text: &[u8], at: usize) -> Pair
+    requires { ⌜ RowWithin digits 2 (now text) at ⌝ }
+    ensures { λ r. ⌜ PairBy digits (now (text .entry)) at r ⌝ }
 {
-    let mut more = n;
-    let mut next = at;
-    let mut so_far = put;
-    while 2 < more {
-        let pair = read_pair(text, next);
-        let after = pair.next;
-        if !pair.ok {
-            return RowSoFar {
-                more,
-                at: next,
-                put: so_far,
-            };
-        }
-        cells[so_far] = pair.first;
-        cells[so_far + 1] = pair.second;
-        more -= 2;
-        next = after;
-        so_far += 2;
-    }
-    RowSoFar {
-        more,
-        at: next,
-        put: so_far,
+    match digits {
+        Digits::One => short_pair(text, at),
+        Digits::Two => long_pair(text, at),
+        Digits::Either => mixed_pair(text, at),
     }
 }
 
-// The numbers two by two, as long as they have one digit and more than two are left.
-fn read_short(n: u8, text: &[u8], at: usize, cells: &mut [u8], put: usize) -> RowSoFar
+// The numbers two by two, as long as they have these digits and more than two are left. The compiler makes a loop of its own for each kind of digits.
+fn read_pairs(
+    digits: Digits,
+    n: u8,
+    text: &[u8],
+    at: usize,
+    cells: &mut [u8],
+    put: usize,
+) -> RowSoFar
     requires { ⌜ RoomFor n (now text) at (now cells) put ⌝ }
     requires { ⌜ 0 < n ⌝ }
-    requires { ⌜ at + 2 * n ≤ length (now text) ⌝ }
+    requires { ⌜ RowWithin digits n (now text) at ⌝ }
     ensures { λ r. ⌜ RowBegunBy n (text .entry) at (cells .entry) put (cells .exit) r ⌝ }
 {
     let mut more = n;
     let mut next = at;
     let mut so_far = put;
     while 2 < more {
-        let pair = short_pair(text, next);
-        let after = pair.next;
-        if !pair.ok {
-            return RowSoFar {
-                more,
-                at: next,
-                put: so_far,
-            };
-        }
-        cells[so_far] = pair.first;
-        cells[so_far + 1] = pair.second;
-        more -= 2;
-        next = after;
-        so_far += 2;
-    }
-    RowSoFar {
-        more,
-        at: next,
-        put: so_far,
-    }
-}
-
-// The numbers two by two, as long as they have two digits and more than two are left.
-fn read_long(n: u8, text: &[u8], at: usize, cells: &mut [u8], put: usize) -> RowSoFar
-    requires { ⌜ RoomFor n (now text) at (now cells) put ⌝ }
-    requires { ⌜ 0 < n ⌝ }
-    requires { ⌜ at + 3 * n ≤ length (now text) ⌝ }
-    ensures { λ r. ⌜ RowBegunBy n (text .entry) at (cells .entry) put (cells .exit) r ⌝ }
-{
-    let mut more = n;
-    let mut next = at;
-    let mut so_far = put;
-    while 2 < more {
-        let pair = long_pair(text, next);
+        let pair = next_pair(digits, text, next);
         let after = pair.next;
         if !pair.ok {
             return RowSoFar {
@@ -281,19 +242,18 @@ fn is_closed(count: usize, text: &[u8], at: usize) -> bool
     text[at + count - 1] == b']'
 }
 
-// Most numbers of a row, two by two. Where it ends shows whether all have one digit, or all two: only then their lengths can be foreseen.
-fn read_most(n: u8, text: &[u8], at: usize, cells: &mut [u8], put: usize) -> RowSoFar
-    requires { ⌜ RoomFor n (now text) at (now cells) put ⌝ }
-    requires { ⌜ 0 < n ⌝ }
-    ensures { λ r. ⌜ RowBegunBy n (text .entry) at (cells .entry) put (cells .exit) r ⌝ }
+// How many digits the numbers of a row have. Where it ends shows whether each has one, or each two: only then their lengths can be foreseen.
+fn digits_of(n: u8, text: &[u8], at: usize) -> Digits
+    requires { ⌜ (0 < n) × (at ≤ length (now text)) ⌝ }
+    ensures { λ r. ⌜ RowWithin r n (now (text .entry)) at ⌝ }
 {
     if is_closed(2 * (n as usize), text, at) {
-        return read_short(n, text, at, cells, put);
+        return Digits::One;
     }
     if is_closed(3 * (n as usize), text, at) {
-        return read_long(n, text, at, cells, put);
+        return Digits::Two;
     }
-    read_pairs(n, text, at, cells, put)
+    Digits::Either
 }
 
 // n numbers one by one.
@@ -336,6 +296,7 @@ pub fn read_row(n: u8, text: &[u8], at: usize, cells: &mut [u8], put: usize) -> 
     requires { ⌜ 0 < n ⌝ }
     ensures { λ r. ⌜ StoredBy (parted cell n) (text .entry) at (cells .entry) put (cells .exit) r ⌝ }
 {
-    let most = read_most(n, text, at, cells, put);
+    let digits = digits_of(n, text, at);
+    let most = read_pairs(digits, n, text, at, cells, put);
     read_one_by_one(most.more, text, most.at, cells, most.put)
 }

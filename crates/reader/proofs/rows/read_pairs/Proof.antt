@@ -1,22 +1,23 @@
 -- `rows::read_pairs` meets its contract, by the laws of Begun and Pairs.
-use Rattle.reader.proofs.Pairs.{pair-room, pair-room-second, pair-more}
+use Rattle.reader.proofs.Pairs.{pair-room, pair-room-second, pair-more, within-two, within-more}
 use Rattle.reader.proofs.Begun.{begun-none}
-use Rattle.reader.specs.InnerRows.{RowBegun}
+use Rattle.reader.specs.InnerRows.{RowWithin, RowBegun}
 use borrow.Author.Needs.{needs}
 use Rattle.reader.proofs.rows.read_pairs.Statement.{statement}
 use Rattle.reader.proofs.rows.read_pairs.Tie as tie
 
 abbrev Inv-loop : tie.InvT-loop
-Inv-loop n text at cells₀ put more₀ next₀ so-far₀ cells more next so-far = RowBegun n text at cells₀ put cells more next so-far
+Inv-loop digits n text at cells₀ put more₀ next₀ so-far₀ cells more next so-far =
+    RowBegun n text at cells₀ put cells more next so-far × RowWithin digits more text next
 
 abbrev μ-loop : tie.MeasureT-loop
-μ-loop n text at cells₀ put more₀ next₀ so-far₀ cells more next so-far = more
+μ-loop digits n text at cells₀ put more₀ next₀ so-far₀ cells more next so-far = more
 
 loop-holds : tie.Need-loop-holds Inv-loop μ-loop
-loop-holds c = search begun-none
+loop-holds c = (search begun-none, search needs)
 
-read-pair-requires : tie.Need-read-pair-requires Inv-loop μ-loop
-read-pair-requires c κs = search needs
+next-pair-requires : tie.Need-next-pair-requires Inv-loop μ-loop
+next-pair-requires c κs = search within-two
 
 same-length : tie.Need-same-length Inv-loop μ-loop
 same-length c = search needs
@@ -43,7 +44,7 @@ loop-less : tie.Need-loop-less Inv-loop μ-loop
 loop-less c = search needs
 
 loop-again : tie.Need-loop-again Inv-loop μ-loop
-loop-again c = search pair-more
+loop-again c = (search pair-more, search within-more)
 
 same-length-2 : tie.Need-same-length-2 Inv-loop μ-loop
 same-length-2 c = search needs
@@ -58,7 +59,7 @@ read-pairs-spec =
     Inv-loop
     μ-loop
     loop-holds
-    read-pair-requires
+    next-pair-requires
     same-length
     returns
     slice-write-cells

@@ -1,8 +1,8 @@
--- `rows::read_pair` meets its contract, by the laws of Pairs.
+-- `rows::mixed_pair` meets its contract, by the laws of Pairs.
 use Rattle.reader.proofs.Pairs.{digit-of, fits-digit, pair-none, pair-found}
 use borrow.Author.Needs.{needs}
-use Rattle.reader.proofs.rows.read_pair.Statement.{statement}
-use Rattle.reader.proofs.rows.read_pair.Tie as tie
+use Rattle.reader.proofs.rows.mixed_pair.Statement.{statement}
+use Rattle.reader.proofs.rows.mixed_pair.Tie as tie
 
 sub-if1 : tie.Need-sub-if1
 sub-if1 c = search needs
@@ -104,8 +104,8 @@ value-requires-2 c κs =
 returns-4 : tie.Need-returns-4
 returns-4 c = search pair-found
 
-pub read-pair-spec : {M : Type 1} → statement M
-read-pair-spec =
+pub mixed-pair-spec : {M : Type 1} → statement M
+mixed-pair-spec =
     tie.close
     (tie.spec
     sub-if1
