@@ -1,14 +1,14 @@
 -- The writer's tests rise by rank, and its refusals differ from each other and from a length; what the reader comes to is a refusal where its check failed.
 use Prim.Native.Nat.{ℕ}
 use mathlib.Core.List.{List}
-use mathlib.Core.Path.{_≡_, refl, ap, sym, _∙_}
+use mathlib.Core.Path.{_≡_, ap}
 use native.Mathlib.Omega.{arith}
 use lib.Dec.{T}
 use lib.ListN.{length}
 use Rattle.equivalence.specs.Outcome.{Injective}
 use Rattle.equivalence.specs.Ranks.{rank, rises, RefusalRight}
 use Rattle.equivalence.specs.Refusal.{numberOf, sizeTest, spaceTest}
-use Rattle.equivalence.specs.declared.Check.the-variants.{Passed, Failed}
+use Rattle.equivalence.specs.declared.Check.the-variants.{Failed}
 use Rattle.equivalence.specs.declared.Refusal.{Refusal}
 use Rattle.equivalence.proofs.Ranks.{serve-refusal}
 use Rattle.algebra.specs.Accepted.{algebraTests}

@@ -3,7 +3,7 @@
 use Prim.Native.Nat.{ℕ}
 use mathlib.Core.Bool.{Bool, true, false}
 use mathlib.Core.List.{List}
-use mathlib.Core.Path.{_≡_, refl, ap, _∙_}
+use mathlib.Core.Path.{_≡_}
 use native.Mathlib.Omega.{arith}
 use lib.Dec.{T}
 use lib.ListN.{length}
@@ -11,7 +11,7 @@ use Rattle.equivalence.specs.Calls.{twoMapsTests, twoMapsCheck, twoMapsCall, me
 use Rattle.equivalence.specs.Equivalence.{Map}
 use Rattle.equivalence.specs.Outcome.{Injective}
 use Rattle.equivalence.specs.Ranks.{rank, rises}
-use Rattle.equivalence.specs.Refusal.{Test, numberOf, lowest, sizeTest, pairsTest, elementsTest, mapTest, spaceTest, equalTest, answered, serve}
+use Rattle.equivalence.specs.Refusal.{numberOf, lowest, sizeTest, pairsTest, elementsTest, mapTest, spaceTest, equalTest, answered, serve}
 use Rattle.equivalence.specs.Lent.{lentAfter, written}
 use Rattle.equivalence.proofs.Ranks.{answered-reason, serve-refusal}
 use Rattle.equivalence.proofs.Tests.{T?, pick}

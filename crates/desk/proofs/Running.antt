@@ -1,5 +1,5 @@
 -- The program's loops: what is written is the front of the transcript, and what the run still writes is the rest.
-use Prim.Native.Nat.{ℕ, zero, suc, _+_, _-_, _*_, _^_, _≤_, _<_}
+use Prim.Native.Nat.{ℕ, zero, suc, _+_, _-_, _^_, _≤_, _<_}
 use mathlib.Core.Bool.{Bool, true, false, not}
 use mathlib.Core.List.{List, [], _++_}
 use mathlib.Core.Path.{_≡_, refl, ap, sym, _∙_, subst}
@@ -11,7 +11,7 @@ use Rattle.reader.specs.Laying.{Laid}
 use Rattle.reader.proofs.Laying.{laid-part, laid-before}
 use Rattle.bracket.specs.Transcript.{output, transcript}
 use Rattle.bracket.specs.Fills.{due}
-use Rattle.bracket.specs.Standings.{positionOf, unread, roomFrom, canFill, Sound, Filling, FillPromise}
+use Rattle.bracket.specs.Standings.{positionOf, unread, roomFrom, canFill, Filling, FillPromise}
 use Rattle.bracket.specs.InnerRemaining.{remaining, distance}
 use Rattle.bracket.proofs.Calling.{run-over, sound-able, goes-able, room-able}
 use Rattle.bracket.proofs.Fills.{fill-remaining, fill-less}

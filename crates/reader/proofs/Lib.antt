@@ -10,6 +10,7 @@ pub mod Storing
 pub mod Parted
 pub mod Begun
 pub mod Pairs
+pub mod ShortRows
 pub mod Items
 pub mod SpacedNumbers
 pub mod Defining

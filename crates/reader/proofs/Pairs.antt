@@ -11,9 +11,7 @@ use Rattle.kernel.specs.InnerKernel.{bit}
 use Rattle.reader.specs.Reading.{byteAt}
 use Rattle.reader.specs.Numbers.{digitAt}
 use Rattle.reader.specs.InnerPromises.{isDigit}
-use Rattle.reader.specs.InnerRows.{RowWithin, RowBegun, Digit, LongNumber, Item, TwoItems, PairRead, PairWithin, PairBy, choose, ItemLength, valueOf, Fits}
-use Rattle.reader.specs.declared.rows.Digits.{Digits}
-use Rattle.reader.specs.declared.rows.Digits.the-variants.{One, Two, Either}
+use Rattle.reader.specs.InnerRows.{RowWithin, RowBegun, Digit, LongNumber, Item, TwoItems, PairRead, PairBy, choose, ItemLength, valueOf, Fits}
 use Rattle.reader.specs.declared.rows.Pair.{Pair}
 use Rattle.reader.proofs.Digits.{digit-below, digit-here, digit-low, digit-high, number-one, number-two}
 use Rattle.reader.proofs.Readers.{within-text}
@@ -70,7 +68,7 @@ module _ (wide : Bool) (a behind : ℕ) where
 
 -- a number by its first bytes, where the byte behind it fits
 module _ (text : List ℕ) (at : ℕ) where
-  narrow-item : Fits false (byteAt text at) (byteAt text (at + 1)) → Item text at (byteAt text at - 48) (at + 1)
+  pub narrow-item : Fits false (byteAt text at) (byteAt text (at + 1)) → Item text at (byteAt text at - 48) (at + 1)
   narrow-item f =
       record {
         read = record {
@@ -181,24 +179,12 @@ module _ (text : List ℕ) (at r : ℕ) where
       rw (d .value h) (wide-item text at (d .second h) f)
 
 module _ (text : List ℕ) (at : ℕ) where
-  pub within-none : (width v w : ℕ) → PairWithin width text at (record { ok = false; first = v; second = w; next = at })
-  within-none width v w = record { read = pair-none text at v w at; within = omega arith }
-
-  pub short-found : (f : Bool) → (f ≡ true → Fits false (byteAt text at) (byteAt text (at + 1))) → not f ≡ false
-      → (g : Bool) → (g ≡ true → Fits false (byteAt text (at + 2)) (byteAt text (at + 3))) → not g ≡ false
-      → PairWithin 4 text at (record { ok = true; first = byteAt text at - 48; second = byteAt text (at + 2) - 48; next = at + 4 })
-  short-found f ef hf g eg hg =
-      let a : at + 2 ≡ at + 1 + 1 = omega arith in
-      let b : at + 3 ≡ at + 1 + 1 + 1 = omega arith in
-      let two : Item text (at + 1 + 1) (byteAt text (at + 2) - 48) (at + 1 + 1 + 1) = rw a (narrow-item text (at + 1 + 1) (rw (a, b) at (eg (not-false g hg)))) in
-      record {
-        read = record { some = λ _. record { mid = at + 1; end = at + 1 + 1 + 1; one = narrow-item text at (ef (not-false f hf)); two = two; last = omega arith } };
-        within = omega arith;
-      }
+  pub long-none : (v w : ℕ) → PairBy true text at (record { ok = false; first = v; second = w; next = at })
+  long-none v w = record { read = pair-none text at v w at; within = λ _. omega arith }
 
   pub long-found : (v w : ℕ) → LongNumber (byteAt text at) (byteAt text (at + 1)) (byteAt text (at + 2)) v → (v ≡ 0 → ⊥)
       → LongNumber (byteAt text (at + 3)) (byteAt text (at + 4)) (byteAt text (at + 5)) w → (w ≡ 0 → ⊥)
-      → PairWithin 6 text at (record { ok = true; first = v; second = w; next = at + 6 })
+      → PairBy true text at (record { ok = true; first = v; second = w; next = at + 6 })
   long-found v w d h e k =
       let a : at + 3 ≡ at + 2 + 1 = omega arith in
       let b : at + 4 ≡ at + 2 + 1 + 1 = omega arith in
@@ -206,51 +192,27 @@ module _ (text : List ℕ) (at : ℕ) where
       let two : Item text (at + 2 + 1) w (at + 2 + 1 + 2) = long-item text (at + 2 + 1) w (rw (a, b, c) at e) (omega (arith, k)) in
       record {
         read = record { some = λ _. record { mid = at + 2; end = at + 2 + 1 + 2; one = long-item text at v d (omega (arith, h)); two = two; last = omega arith } };
-        within = omega arith;
+        within = λ _. omega arith;
       }
 
--- pairs of a row whose numbers have these digits
-module _ (digits : Digits) (text : List ℕ) where
-  pub pair-one : (at : ℕ) (r : Pair) → digits ≡ One → PairWithin 4 text at r → PairBy digits text at r
-  pair-one at r e p = record { read = p .read; one = λ _. p .within; two = λ f. let z : _≡_ {A = ℕ} 0 1 = cc in absurd (omega arith) }
+-- pairs of a row whose numbers each have two digits, or not
+module _ (long : Bool) (text : List ℕ) where
+  pub pair-long : (at : ℕ) (r : Pair) → long ≡ true → PairBy true text at r → PairBy long text at r
+  pair-long at r e p = rw e p
 
-  pub pair-two : (at : ℕ) (r : Pair) → digits ≡ Two → PairWithin 6 text at r → PairBy digits text at r
-  pair-two at r e p = record { read = p .read; one = λ f. let z : _≡_ {A = ℕ} 0 1 = cc in absurd (omega arith); two = λ _. p .within }
+  pub pair-mixed : (at : ℕ) (r : Pair) → long ≡ false → PairRead text at r → PairBy long text at r
+  pair-mixed at r e p = record { read = p; within = λ f. untrue (sym e ∙ f) }
 
-  pub pair-either : (at : ℕ) (r : Pair) → digits ≡ Either → PairRead text at r → PairBy digits text at r
-  pair-either at r e p =
-      record { read = p; one = λ f. let z : _≡_ {A = ℕ} 0 1 = cc in absurd (omega arith); two = λ f. let z : _≡_ {A = ℕ} 0 1 = cc in absurd (omega arith) }
+  pub long-within : (at : ℕ) → RowWithin long 2 text at → long ≡ true → at + 6 ≤ length text
+  long-within at w e = omega (arith, w .end e)
 
-  module _ (more next : ℕ) (w : RowWithin digits more text next) (p : 2 < more) where
+  module _ (more next : ℕ) (w : RowWithin long more text next) (p : 2 < more) where
     -- the next two are within the text
-    pub within-two : RowWithin digits 2 text next
-    within-two = record { start = w .start; one = λ e. omega (arith, w .one e); two = λ e. omega (arith, w .two e) }
+    pub within-two : RowWithin long 2 text next
+    within-two = record { start = w .start; end = λ e. omega (arith, w .end e) }
 
     -- and so are those behind them
-    pub within-more : (r : Pair) → PairBy digits text next r → not (r .ok) ≡ false → RowWithin digits (more - 2) text (r .next)
+    pub within-more : (r : Pair) → PairBy long text next r → not (r .ok) ≡ false → RowWithin long (more - 2) text (r .next)
     within-more r q h =
         let t = q .read .some (not-false (r .ok) h) in
-        record {
-          start = omega (arith, t .last, within-text text (t .end) (omega (arith, t .two .gap)));
-          one = λ e. omega (arith, w .one e, q .one e);
-          two = λ e. omega (arith, w .two e, q .two e);
-        }
-
-  -- so many bytes stand here
-  pub one-within : (at : ℕ) → RowWithin digits 2 text at → digits ≡ One → at + 4 ≤ length text
-  one-within at w e = omega (arith, w .one e)
-
-  pub two-within : (at : ℕ) → RowWithin digits 2 text at → digits ≡ Two → at + 6 ≤ length text
-  two-within at w e = omega (arith, w .two e)
-
--- where a row ends tells the digits of its numbers
-module _ (text : List ℕ) (n at : ℕ) (s : at ≤ length text) where
-  pub digits-one : at + 2 * n ≤ length text → RowWithin One n text at
-  digits-one h = record { start = s; one = λ _. h; two = λ f. let z : _≡_ {A = ℕ} 0 1 = cc in absurd (omega arith) }
-
-  pub digits-two : at + 3 * n ≤ length text → RowWithin Two n text at
-  digits-two h = record { start = s; one = λ f. let z : _≡_ {A = ℕ} 0 1 = cc in absurd (omega arith); two = λ _. h }
-
-  pub digits-either : RowWithin Either n text at
-  digits-either =
-      record { start = s; one = λ f. let z : _≡_ {A = ℕ} 0 1 = cc in absurd (omega arith); two = λ f. let z : _≡_ {A = ℕ} 0 1 = cc in absurd (omega arith) }
+        record { start = omega (arith, t .last, within-text text (t .end) (omega (arith, t .two .gap))); end = λ e. omega (arith, w .end e, q .within e) }

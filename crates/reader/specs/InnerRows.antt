@@ -12,8 +12,6 @@ use Rattle.reader.specs.Tables.{cell, parted}
 use Rattle.reader.specs.Laying.{Laid}
 use Rattle.reader.specs.InnerPromises.{Reached, NumberRead, RoomFor}
 use Rattle.reader.specs.declared.reading.Number.{Number}
-use Rattle.reader.specs.declared.rows.Digits.{Digits}
-use Rattle.reader.specs.declared.rows.Digits.the-variants.{One, Two}
 use Rattle.reader.specs.declared.rows.Pair.{Pair}
 use Rattle.reader.specs.declared.rows.RowSoFar.{RowSoFar}
 
@@ -69,22 +67,15 @@ pub record TwoItems (text : List ℕ) (at first second next : ℕ) : Type 0 wher
 pub record PairRead (text : List ℕ) (at : ℕ) (r : Pair) : Type 0 where
   pub some : r .ok ≡ true → TwoItems text at (r .first) (r .second) (r .next)
 
--- the same of a reader that looks at so many bytes
-pub record PairWithin (width : ℕ) (text : List ℕ) (at : ℕ) (r : Pair) : Type 0 where
-  pub read : PairRead text at r
-  pub within : r .next ≤ at + width
-
--- a row of k numbers of these digits, if it stands here, ends within the text
-pub record RowWithin (digits : Digits) (k : ℕ) (text : List ℕ) (at : ℕ) : Type 0 where
+-- a row of k numbers ends within the text, if it stands here and each has two digits
+pub record RowWithin (long : Bool) (k : ℕ) (text : List ℕ) (at : ℕ) : Type 0 where
   pub start : at ≤ length text
-  pub one : digits ≡ One → at + 2 * k ≤ length text
-  pub two : digits ≡ Two → at + 3 * k ≤ length text
+  pub end : long ≡ true → at + 3 * k ≤ length text
 
--- two numbers of these digits were looked for
-pub record PairBy (digits : Digits) (text : List ℕ) (at : ℕ) (r : Pair) : Type 0 where
+-- two numbers, each of two digits or not, were looked for
+pub record PairBy (long : Bool) (text : List ℕ) (at : ℕ) (r : Pair) : Type 0 where
   pub read : PairRead text at r
-  pub one : digits ≡ One → r .next ≤ at + 4
-  pub two : digits ≡ Two → r .next ≤ at + 6
+  pub within : long ≡ true → r .next ≤ at + 6
 
 -- one of two, as a flag tells
 unfoldable pub choose : Bool → ℕ → ℕ → ℕ
@@ -105,3 +96,12 @@ pub record Fits (wide : Bool) (a behind : ℕ) : Type 0 where
   pub digit : Digit a
   pub some : wide ≡ true → a ≡ 48 → ⊥
   pub gap : behind ≡ 32
+
+-- two bytes as one number, the first one lowest
+pub record TwoBytes (text : List ℕ) (at r : ℕ) : Type 0 where
+  pub value : r ≡ byteAt text at + 256 * byteAt text (at + 1)
+  pub first : byteAt text at ≤ 255
+
+-- so many numbers of one digit stand here, each with a gap behind it
+abbrev pub ShortItems : ℕ → List ℕ → ℕ → Type 0
+ShortItems count text at = (i : ℕ) → i < count → Fits false (byteAt text (at + 2 * i)) (byteAt text (at + 2 * i + 1))

@@ -4,4 +4,5 @@ pub mod lines;
 pub mod reading;
 pub mod requests;
 pub mod rows;
+pub mod short_rows;
 pub mod taking;

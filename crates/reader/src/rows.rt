@@ -1,28 +1,22 @@
-// Reading a row: n numbers, parted by gaps. They are read two at a time as far as can be, and the last ones one by one, which alone tells what is faulty.
+// Reading a row: n numbers, parted by gaps. They are read many or two at a time as far as can be, and the last ones one by one, which alone tells what is faulty.
 use crate::reading::Spot;
 use crate::reading::gap_end;
 use crate::reading::is_digit;
 use crate::reading::read_cell;
+use crate::short_rows::read_short;
 ghost use mathlib.Core.Bool.{true};
 ghost use mathlib.Core.Path.{_≡_};
 ghost use Prim.Native.Nat.{_+_, _*_, _≤_, _<_};
 ghost use lib.ListN.{length};
 ghost use Rattle.reader.specs.Tables.{cell, parted};
 ghost use Rattle.reader.specs.InnerPromises.{RoomFor, StoredBy};
-ghost use Rattle.reader.specs.InnerRows.{RowWithin, RowBegunBy, Digit, LongNumber, PairRead, PairWithin, PairBy, choose, ItemLength, valueOf, Fits};
+ghost use Rattle.reader.specs.InnerRows.{RowWithin, RowBegunBy, Digit, LongNumber, PairRead, PairBy, choose, ItemLength, valueOf, Fits};
 
 // How far a row is read: how many numbers are left, and their places in the text and in the storage.
 pub struct RowSoFar {
     pub more: u8,
     pub at: usize,
     pub put: usize,
-}
-
-// How many digits the numbers of a row have: each one, each two, or either.
-pub enum Digits {
-    One,
-    Two,
-    Either,
 }
 
 // Two numbers, each with a gap behind it, and the place after them; where `ok` is false, nothing.
@@ -76,33 +70,6 @@ fn fits(wide: bool, a: u8, behind: u8) -> bool
     a != b'0'
 }
 
-// Two numbers of one digit, if they stand here, each with a gap behind it.
-fn short_pair(text: &[u8], at: usize) -> Pair
-    requires { ⌜ at + 4 ≤ length (now text) ⌝ }
-    ensures { λ r. ⌜ PairWithin 4 (now (text .entry)) at r ⌝ }
-{
-    let none = Pair {
-        ok: false,
-        first: 0,
-        second: 0,
-        next: at,
-    };
-    let a = text[at];
-    let c = text[at + 2];
-    if !fits(false, a, text[at + 1]) {
-        return none;
-    }
-    if !fits(false, c, text[at + 3]) {
-        return none;
-    }
-    Pair {
-        ok: true,
-        first: a - b'0',
-        second: c - b'0',
-        next: at + 4,
-    }
-}
-
 // A number of two digits with a gap behind it; 0 where other bytes stand.
 fn long_number(a: u8, b: u8, behind: u8) -> u8
     ensures { λ r. ⌜ LongNumber a b behind r ⌝ }
@@ -119,7 +86,7 @@ fn long_number(a: u8, b: u8, behind: u8) -> u8
 // Two numbers of two digits, if they stand here, each with a gap behind it.
 fn long_pair(text: &[u8], at: usize) -> Pair
     requires { ⌜ at + 6 ≤ length (now text) ⌝ }
-    ensures { λ r. ⌜ PairWithin 6 (now (text .entry)) at r ⌝ }
+    ensures { λ r. ⌜ PairBy true (now (text .entry)) at r ⌝ }
 {
     let none = Pair {
         ok: false,
@@ -179,37 +146,29 @@ fn mixed_pair(text: &[u8], at: usize) -> Pair
     }
 }
 
-// Two numbers of these digits, if they stand here, each with a gap behind it.
-fn next_pair(digits: Digits, text: &[u8], at: usize) -> Pair
-    requires { ⌜ RowWithin digits 2 (now text) at ⌝ }
-    ensures { λ r. ⌜ PairBy digits (now (text .entry)) at r ⌝ }
+// Two numbers of two digits, or of one or two, if they stand here, each with a gap behind it.
+fn next_pair(long: bool, text: &[u8], at: usize) -> Pair
+    requires { ⌜ RowWithin long 2 (now text) at ⌝ }
+    ensures { λ r. ⌜ PairBy long (now (text .entry)) at r ⌝ }
 {
-    match digits {
-        Digits::One => short_pair(text, at),
-        Digits::Two => long_pair(text, at),
-        Digits::Either => mixed_pair(text, at),
+    if long {
+        return long_pair(text, at);
     }
+    mixed_pair(text, at)
 }
 
-// The numbers two by two, as long as they have these digits and more than two are left. The compiler makes a loop of its own for each kind of digits.
-fn read_pairs(
-    digits: Digits,
-    n: u8,
-    text: &[u8],
-    at: usize,
-    cells: &mut [u8],
-    put: usize,
-) -> RowSoFar
+// The numbers two by two, as long as they have two digits, or one or two, and more than two are left. The compiler makes two loops of this one.
+fn read_pairs(long: bool, n: u8, text: &[u8], at: usize, cells: &mut [u8], put: usize) -> RowSoFar
     requires { ⌜ RoomFor n (now text) at (now cells) put ⌝ }
     requires { ⌜ 0 < n ⌝ }
-    requires { ⌜ RowWithin digits n (now text) at ⌝ }
+    requires { ⌜ RowWithin long n (now text) at ⌝ }
     ensures { λ r. ⌜ RowBegunBy n (text .entry) at (cells .entry) put (cells .exit) r ⌝ }
 {
     let mut more = n;
     let mut next = at;
     let mut so_far = put;
     while 2 < more {
-        let pair = next_pair(digits, text, next);
+        let pair = next_pair(long, text, next);
         let after = pair.next;
         if !pair.ok {
             return RowSoFar {
@@ -242,18 +201,17 @@ fn is_closed(count: usize, text: &[u8], at: usize) -> bool
     text[at + count - 1] == b']'
 }
 
-// How many digits the numbers of a row have. Where it ends shows whether each has one, or each two: only then their lengths can be foreseen.
-fn digits_of(n: u8, text: &[u8], at: usize) -> Digits
-    requires { ⌜ (0 < n) × (at ≤ length (now text)) ⌝ }
-    ensures { λ r. ⌜ RowWithin r n (now (text .entry)) at ⌝ }
+// Most numbers of a row. Where it ends shows whether each has one digit, or each two: only then their lengths can be foreseen.
+fn read_most(n: u8, text: &[u8], at: usize, cells: &mut [u8], put: usize) -> RowSoFar
+    requires { ⌜ RoomFor n (now text) at (now cells) put ⌝ }
+    requires { ⌜ 0 < n ⌝ }
+    ensures { λ r. ⌜ RowBegunBy n (text .entry) at (cells .entry) put (cells .exit) r ⌝ }
 {
     if is_closed(2 * (n as usize), text, at) {
-        return Digits::One;
+        return read_short(n, text, at, cells, put);
     }
-    if is_closed(3 * (n as usize), text, at) {
-        return Digits::Two;
-    }
-    Digits::Either
+    let long = is_closed(3 * (n as usize), text, at);
+    read_pairs(long, n, text, at, cells, put)
 }
 
 // n numbers one by one.
@@ -296,7 +254,6 @@ pub fn read_row(n: u8, text: &[u8], at: usize, cells: &mut [u8], put: usize) -> 
     requires { ⌜ 0 < n ⌝ }
     ensures { λ r. ⌜ StoredBy (parted cell n) (text .entry) at (cells .entry) put (cells .exit) r ⌝ }
 {
-    let digits = digits_of(n, text, at);
-    let most = read_pairs(digits, n, text, at, cells, put);
+    let most = read_most(n, text, at, cells, put);
     read_one_by_one(most.more, text, most.at, cells, most.put)
 }

@@ -1,5 +1,5 @@
 -- `rows::long_pair` meets its contract, by the laws of Pairs.
-use Rattle.reader.proofs.Pairs.{within-none, long-found}
+use Rattle.reader.proofs.Pairs.{long-none, long-found}
 use borrow.Author.Needs.{needs}
 use Rattle.reader.proofs.rows.long_pair.Statement.{statement}
 use Rattle.reader.proofs.rows.long_pair.Tie as tie
@@ -23,7 +23,7 @@ long-number-requires : tie.Need-long-number-requires
 long-number-requires c κs = search needs
 
 returns : tie.Need-returns
-returns c = search within-none
+returns c = search long-none
 
 add-long-number-3 : tie.Need-add-long-number-3
 add-long-number-3 c = search needs
@@ -47,7 +47,7 @@ long-number-requires-2 : tie.Need-long-number-requires-2
 long-number-requires-2 c κs = search needs
 
 returns-2 : tie.Need-returns-2
-returns-2 c = search within-none
+returns-2 c = search long-none
 
 add-t8 : tie.Need-add-t8
 add-t8 c = search needs

@@ -7,11 +7,11 @@ use Rattle.reader.proofs.rows.read_pairs.Statement.{statement}
 use Rattle.reader.proofs.rows.read_pairs.Tie as tie
 
 abbrev Inv-loop : tie.InvT-loop
-Inv-loop digits n text at cells₀ put more₀ next₀ so-far₀ cells more next so-far =
-    RowBegun n text at cells₀ put cells more next so-far × RowWithin digits more text next
+Inv-loop long n text at cells₀ put more₀ next₀ so-far₀ cells more next so-far =
+    RowBegun n text at cells₀ put cells more next so-far × RowWithin long more text next
 
 abbrev μ-loop : tie.MeasureT-loop
-μ-loop digits n text at cells₀ put more₀ next₀ so-far₀ cells more next so-far = more
+μ-loop long n text at cells₀ put more₀ next₀ so-far₀ cells more next so-far = more
 
 loop-holds : tie.Need-loop-holds Inv-loop μ-loop
 loop-holds c = (search begun-none, search needs)

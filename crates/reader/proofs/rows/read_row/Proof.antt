@@ -4,11 +4,8 @@ use borrow.Author.Needs.{needs}
 use Rattle.reader.proofs.rows.read_row.Statement.{statement}
 use Rattle.reader.proofs.rows.read_row.Tie as tie
 
-digits-of-requires : tie.Need-digits-of-requires
-digits-of-requires c κs = search needs
-
-read-pairs-requires : tie.Need-read-pairs-requires
-read-pairs-requires c κs = search needs
+read-most-requires : tie.Need-read-most-requires
+read-most-requires c κs = search needs
 
 read-one-by-one-requires : tie.Need-read-one-by-one-requires
 read-one-by-one-requires c κs = search needs
@@ -21,5 +18,4 @@ returns c = search begun-rest
 
 pub read-row-spec : {M : Type 1} → statement M
 read-row-spec =
-    tie.close
-    (tie.spec digits-of-requires read-pairs-requires read-one-by-one-requires same-length returns)
+    tie.close (tie.spec read-most-requires read-one-by-one-requires same-length returns)
