@@ -9,7 +9,6 @@ use borrow.Author.Tests.{not-true, not-false}
 use Rattle.reader.specs.Reading.{found, fault, Reader, onward, _>>=_, _>>_, done, gap}
 use Rattle.reader.specs.Tables.{parted}
 use Rattle.reader.specs.InnerPromises.{readOf, GapRead, RoomFor, Stored}
-use Rattle.reader.specs.Laying.{Laid}
 use Rattle.reader.specs.InnerRows.{RowsRead}
 use Rattle.reader.specs.declared.reading.Spot.{Spot}
 use Rattle.reader.proofs.Laying.{laid-none, laid-more}

@@ -3,6 +3,6 @@
 pub mod lines;
 pub mod reading;
 pub mod requests;
-pub mod rows;
-pub mod short_rows;
+mod rows;
+mod short_rows;
 pub mod taking;

@@ -11,7 +11,7 @@ ghost use Rattle.writer.specs.Lines.{gapBytes, spaced, bracketed, spaced
 ghost use Rattle.reader.specs.Laying.{Laid};
 ghost use Rattle.writer.specs.InnerRoom.{LaidLine, LaidOpen, DigitTable, FactorsRoom, NumbersBelow};
 
-pub mod short;
+mod short;
 
 // One byte.
 pub fn write_byte(b: u8, out: &mut [u8], put: usize) -> usize
