@@ -20,7 +20,7 @@ use Rattle.algebra.proofs.Accepted.{accepted-wellFormed}
 use Rattle.congruence.specs.Calls.{generateCall, containedCall, separateCall, decomposed, decomposeTests, decomposeCall}
 use Rattle.congruence.specs.Outcome.{generatedOutcome, decomposedOutcome}
 use Rattle.congruence.proofs.Calls.{factors-reducible}
-use Rattle.theory.specs.Decompose.{factorSpace}
+use Rattle.theory.specs.Decompose.{mostFactorSpace}
 use Rattle.theory.proofs.Factors.{listed-law}
 use Rattle.congruence.proofs.Serving.{of-decomposeTests}
 use Rattle.congruence.specs.declared.Decomposed.{Decomposed}
@@ -38,7 +38,7 @@ use Rattle.reader.specs.declared.requests.Asked.{Asked}
 use Rattle.reader.specs.declared.requests.Asked.the-variants.{Generate, Contained, Separate, Decompose}
 
 -- all factors together have 63 × 64 bytes at most
-pub factors-short : (n : ℕ) → n ≤ 64 → factorSpace n ≤ 4032
+pub factors-short : (n : ℕ) → n ≤ 64 → mostFactorSpace n ≤ 4032
 factors-short n h = mul-le-mul {n₂ = 63} {m₂ = 64} (omega arith) h
 
 -- the first of many zeros
@@ -58,14 +58,14 @@ module _ (n cells : ℕ) (space out : List ℕ) (z : Zeros 4032 n cells space ou
   pub map-part : n ≤ length space
   map-part = omega (arith, space-long 4032 n cells space out z, z .fits .most)
 
-  pub factors-part : factorSpace n ≤ length space
+  pub factors-part : mostFactorSpace n ≤ length space
   factors-part = omega (arith, space-long 4032 n cells space out z, factors-short n (z .fits .most))
 
   pub map-zeros : Zeros n n cells (take (n - 0) space) out
   map-zeros = part-zeros 4032 n cells space out z n (omega (arith, z .fits .most))
 
-  pub factors-zeros : Zeros (factorSpace n) n cells (take (factorSpace n - 0) space) out
-  factors-zeros = part-zeros 4032 n cells space out z (factorSpace n) (factors-short n (z .fits .most))
+  pub factors-zeros : Zeros (mostFactorSpace n) n cells (take (mostFactorSpace n - 0) space) out
+  factors-zeros = part-zeros 4032 n cells space out z (mostFactorSpace n) (factors-short n (z .fits .most))
 
   pub fits-alone : LineFits n cells out
   fits-alone = z .fits
@@ -107,7 +107,7 @@ module _ (answer : Decomposed) (n : ℕ) (factors lent : List ℕ) (f : FactorsF
   factors-room k e =
       let l : k < n = f .few k e in
       let p : k * (4 * n + 2) ≤ n * 258 = mul-le-mul {n₂ = n} {m₂ = 258} (omega arith) (omega (arith, f .most)) in
-      let q : k * n ≤ factorSpace n = mul-le-mul-right {m = k} {n = n - 1} n (omega arith) in
+      let q : k * n ≤ mostFactorSpace n = mul-le-mul-right {m = k} {n = n - 1} n (omega arith) in
       record { some = f .some; line = omega (arith, f .line); list = rw (f .list) q }
 
   module _ (out : List ℕ) (end : ℕ) where
@@ -159,18 +159,18 @@ module _ (n : ℕ) (arities cells before map lent out : List ℕ) (end : ℕ) (z
   separate-answered v w g e l = rw (← z .zeros, ← e) l
 
 -- Decompose, lent zeros
-pub factors-fit : (n : ℕ) (arities cells before factors out : List ℕ) (d : Decomposed) → Zeros (factorSpace n) n (length cells) before out → length factors ≡ length before
+pub factors-fit : (n : ℕ) (arities cells before factors out : List ℕ) (d : Decomposed) → Zeros (mostFactorSpace n) n (length cells) before out → length factors ≡ length before
     → (d, factors) ≡ decomposeCall (algebraOf n arities cells) before → FactorsFit d n factors out
 factors-fit n arities cells before factors out d z e g =
     record {
       some = z .fits .some;
       most = z .fits .most;
       line = omega (arith, z .fits .line);
-      list = e ∙ ap length (z .zeros) ∙ length-replicate (factorSpace n) 0;
+      list = e ∙ ap length (z .zeros) ∙ length-replicate (mostFactorSpace n) 0;
       few = λ k h. factors-few (algebraOf n arities cells) before factors d g k h;
     }
 
-pub decompose-answered : (n : ℕ) (arities cells before factors lent out : List ℕ) (end : ℕ) (d : Decomposed) → Zeros (factorSpace n) n (length cells) before lent
+pub decompose-answered : (n : ℕ) (arities cells before factors lent out : List ℕ) (end : ℕ) (d : Decomposed) → Zeros (mostFactorSpace n) n (length cells) before lent
     → (d, factors) ≡ decomposeCall (algebraOf n arities cells) before → Laid lent 0 (factorsLine n d factors) out end
     → Laid lent 0 (answer (algebraOf n arities cells) Decompose []) out end
 unfolding answer

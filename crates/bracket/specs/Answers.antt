@@ -7,7 +7,7 @@ use Rattle.equivalence.specs.Lent.{stretch}
 use Rattle.equivalence.specs.Outcome.{writtenOutcome}
 use Rattle.equivalence.specs.declared.Written.{Written}
 use Rattle.algebra.specs.Algebra.{Algebra, algebraOf}
-use Rattle.theory.specs.Decompose.{factorSpace}
+use Rattle.theory.specs.Decompose.{mostFactorSpace}
 use Rattle.congruence.specs.Calls.{generateCall, containedCall, separateCall, quotientCall, decomposeCall}
 use Rattle.congruence.specs.Outcome.{generatedOutcome, dividedOutcome, decomposedOutcome}
 use Rattle.congruence.specs.declared.Generated.{Generated}
@@ -43,5 +43,5 @@ unfoldable pub answer : Algebra → Asked → List ℕ → List ℕ
 answer a Generate ps = let r = generateCall a ps (replicate (a .size) 0) in generatedLine (r .0) (r .1)
 answer a Contained m = let r = containedCall a m (replicate (a .size) 0) in mapLine (r .0) (r .1)
 answer a (Separate v w) numbers = let r = separateCall a v w (replicate (a .size) 0) in mapLine (r .0) (r .1)
-answer a Decompose numbers = let r = decomposeCall a (replicate (factorSpace (a .size)) 0) in factorsLine (a .size) (r .0) (r .1)
+answer a Decompose numbers = let r = decomposeCall a (replicate (mostFactorSpace (a .size)) 0) in factorsLine (a .size) (r .0) (r .1)
 answer a Quotient m = let r = quotientCall a m (replicate (length (a .cells)) 0) in quotientLines (a .arities) (r .0) (r .1)

@@ -5,7 +5,7 @@ use mathlib.Core.Path.{_≡_}
 use denote.Ref.{RefT, now}
 use lib.ListN.{length, replicate}
 use Rattle.algebra.specs.Algebra.{Algebra}
-use Rattle.theory.specs.Decompose.{factorSpace}
+use Rattle.theory.specs.Decompose.{mostFactorSpace}
 use Rattle.congruence.specs.declared.Decomposed.{Decomposed}
 use Rattle.congruence.specs.declared.Decomposed.the-variants.{Factors}
 use Rattle.congruence.specs.declared.Divided.{Divided}
@@ -37,7 +37,7 @@ pub record FactorsFit (answer : Decomposed) (n : ℕ) (factors out : List ℕ) :
   pub some : 0 < n
   pub most : n ≤ 64
   pub line : 258 * n + 22 ≤ length out
-  pub list : length factors ≡ factorSpace n
+  pub list : length factors ≡ mostFactorSpace n
   pub few : (k : ℕ) → answer ≡ Factors k → k < n
 
 -- Quotient's answer over these arities, the cells that it wrote, and room for the lines

@@ -14,7 +14,7 @@ use writer::write_refused;
 ghost use mathlib.Core.List.{[]};
 ghost use lib.ListN.{length};
 ghost use Rattle.algebra.specs.Algebra.{algebraIn};
-ghost use Rattle.theory.specs.Decompose.{factorSpace};
+ghost use Rattle.theory.specs.Decompose.{mostFactorSpace};
 ghost use Rattle.reader.specs.declared.requests.Asked.the-variants.{Generate, Contained, Separate, Decompose, Quotient};
 ghost use Rattle.bracket.specs.Answers.{generatedLine, mapLine, factorsLine, quotientLines};
 ghost use Rattle.reader.specs.Laying.{Laid};
@@ -125,7 +125,7 @@ fn answer_decompose(
     factors: &mut [u8],
     out: &mut [u8],
 ) -> usize
-    requires { ⌜ Zeros (factorSpace n) n (length (now cells)) (now factors) (now out) ⌝ }
+    requires { ⌜ Zeros (mostFactorSpace n) n (length (now cells)) (now factors) (now out) ⌝ }
     ensures { λ r. ⌜ Answered (algebraIn n (arities .entry) (cells .entry)) Decompose [] (out .entry) (out .exit) r ⌝ }
 {
     let answer = congruence::decompose(n, arities, cells, factors);

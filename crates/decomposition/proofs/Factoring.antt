@@ -5,8 +5,7 @@ use mathlib.Core.Path.{_≡_, refl, sym, ap, subst, _∙_}
 use native.Mathlib.Nat.{mul-le-mul-right}
 use native.Mathlib.Omega.{arith}
 use lib.Dec.{T}
-use lib.ListN.{length, length-map, getD, take, drop}
-use lib.Seq.{length-take-le}
+use lib.ListN.{length, getD, drop}
 use Rattle.equivalence.specs.Equivalence.{Map, blocks, whole}
 use Rattle.equivalence.specs.Lists.{concat}
 use Rattle.equivalence.specs.Lent.{stretch, written}
@@ -17,29 +16,18 @@ use Rattle.equivalence.proofs.Writing.{written-length}
 use Rattle.algebra.specs.Algebra.{Algebra}
 use Rattle.algebra.specs.Accepted.{Accepted}
 use Rattle.algebra.proofs.Accepted.{WellFormed, accepted-wellFormed}
-use Rattle.theory.specs.Decompose.{gathered, pruned, listed, factorSpace, reducible}
+use Rattle.theory.specs.Decompose.{gathered, pruned, listed, mostFactorSpace, reducible}
 use Rattle.maplist.specs.InnerMapLists.{mapList, MapsListed}
 use Rattle.theory.proofs.CommonPair.{commonPair-one}
 use Rattle.theory.proofs.Factors.{Gathered, gathered-law, listed-law, split}
 use Rattle.maplist.proofs.MapLists.{mapList-at, mapList-concat, concat-length}
-use Rattle.decomposition.specs.InnerPruning.{chosen, ChosenMaps, NeededMaps}
 use Rattle.equivalence.specs.declared.Element.{Element}
 use Rattle.decomposition.specs.InnerGathering.{GatheredRight}
 use Rattle.decomposition.specs.declared.gather.Collected.{Collected}
 use Rattle.decomposition.specs.declared.gather.Collected.the-variants.{All, Joined}
-use Rattle.decomposition.specs.InnerFactored.{Storage, FoundIn, FoundFits, foundWritten, Factored}
+use Rattle.decomposition.specs.InnerFactored.{Storage, NeededListed, Factored}
 use Rattle.decomposition.specs.declared.Found.{Found}
-use Rattle.decomposition.specs.declared.Found.the-variants.{Factors, Irreducible}
-
--- a list that was found, by what the answer is
-module _ {r : Found} {k : ℕ} (e : r ≡ Factors k) (n : ℕ) (maps needed lent : List ℕ) where
-  pub list-writable : FoundFits n maps r needed lent → ChosenMaps n maps k needed × (k * n ≤ length lent)
-  unfolding FoundFits
-  list-writable = subst (λ (z : Found). FoundFits n maps z needed lent) e
-
-  pub list-written : {after : List ℕ} → after ≡ written (concat (chosen n maps k needed)) lent → after ≡ foundWritten n maps r needed lent
-  unfolding foundWritten
-  list-written f = rw e f
+use Rattle.decomposition.specs.declared.Found.the-variants.{Factors, Short, Irreducible}
 
 module _ (a : Algebra) (accepted : Accepted a) where
   c : WellFormed a
@@ -65,7 +53,7 @@ module _ (a : Algebra) (accepted : Accepted a) where
   -- what was gathered, as a list of maps in a slice
   module _ {k : ℕ} {bytes : List ℕ} (lent : List ℕ) (number : k ≡ length (gathered (a .size) a (whole (a .size))))
       (laid : bytes ≡ written (concat (gathered (a .size) a (whole (a .size)))) lent)
-      (room : factorSpace (a .size) ≤ length lent) where
+      (room : mostFactorSpace (a .size) ≤ length lent) where
     mapList-all : mapList (a .size) k bytes ≡ gathered (a .size) a (whole (a .size))
     unfolding written all
     mapList-all = rw (number, laid) (mapList-concat (a .size) all (drop (length (concat all)) lent) (λ i l. all-map i l .long))
@@ -90,27 +78,17 @@ module _ (a : Algebra) (accepted : Accepted a) where
         }
 
     -- the factors: those of the list that are needed
-    module _ {r : ℕ} {needed : List ℕ} (h : NeededMaps (a .size) k bytes r needed) where
-      left : chosen (a .size) bytes r needed ≡ listed a
-      unfolding listed
-      left = h .left ∙ ap (pruned (a .size) []) mapList-all
-
-      counted : r ≡ length (listed a)
-      counted = sym (length-map (take r needed) (stretch (a .size) bytes) ∙ length-take-le r needed (h .numbers .room)) ∙ ap length left
-
-      kept-few : r ≤ 63
-      kept-few = omega (arith, counted, listed-law a c .few, c .most)
-
-      found-listed : T (reducible a) → FoundIn a (Factors r) bytes needed
-      unfolding FoundIn
-      found-listed t = (t, counted, h .numbers, left)
+    factors-left : pruned (a .size) [] (mapList (a .size) k bytes) ≡ listed a
+    unfolding listed
+    factors-left = ap (pruned (a .size) []) mapList-all
 
   -- storage for any algebra is enough for this one
   module _ {maps suffixes met needed : List ℕ} (s : Storage maps suffixes met needed) where
-    pub storage-fits : (a .size ≤ length met) × (factorSpace (a .size) ≤ length maps)
-    storage-fits =
-        let most : a .size - 1 ≤ 63 = omega (arith, c .most) in
-        (omega (arith, s .meets, c .most), omega (arith, s .gathered, c .most, mul-le-mul-right (a .size) most))
+    pub storage-meet : a .size ≤ length met
+    storage-meet = omega (arith, s .meets, c .most)
+
+    pub storage-maps : mostFactorSpace (a .size) ≤ length maps
+    storage-maps = let most : a .size - 1 ≤ 63 = omega (arith, c .most) in omega (arith, s .gathered, c .most, mul-le-mul-right (a .size) most)
 
     module _ {r : Collected} {k : ℕ} (e : r ≡ All k) (after : List ℕ) (g : GatheredRight a r maps after) where
       all-gathered : GatheredRight a (All k) maps after
@@ -118,36 +96,26 @@ module _ (a : Algebra) (accepted : Accepted a) where
 
       pub gathered-fits : MapsListed (a .size) k after × (k * a .size + a .size ≤ length suffixes) × (k ≤ length needed)
       gathered-fits =
-          let h = gathered-few maps (all-gathered .1) (all-gathered .2) (storage-fits .1) in
+          let h = gathered-few maps (all-gathered .1) (all-gathered .2) storage-maps in
           let room : k * a .size ≤ 63 * a .size = mul-le-mul-right (a .size) (omega (arith, c .most)) in (
-            maps-listed maps (all-gathered .1) (all-gathered .2) (storage-fits .1),
+            maps-listed maps (all-gathered .1) (all-gathered .2) storage-maps,
             omega (arith, s .ends, c .most),
             omega (arith, s .numbers, c .most),
           )
 
-      module _ {count : ℕ} (marks : List ℕ) (n : NeededMaps (a .size) k after count marks) where
-        pub marked-few : count ≤ 63
-        marked-few = kept-few maps (all-gathered .1) (all-gathered .2) (storage-fits .1) n
+      pub found-listed : (found : Found) (lent lent′ : List ℕ) → NeededListed (a .size) (mapList (a .size) k after) found lent lent′ → Factored a found lent lent′
+      found-listed found lent lent′ f = of-left found f
+        where
+          left : pruned (a .size) [] (mapList (a .size) k after) ≡ listed a
+          left = factors-left maps (all-gathered .1) (all-gathered .2) storage-maps
 
-        pub marked-found : FoundIn a (Factors count) after marks
-        marked-found = found-listed maps (all-gathered .1) (all-gathered .2) (storage-fits .1) n (all-gathered .0)
+          of-left : (r : Found) → NeededListed (a .size) (mapList (a .size) k after) r lent lent′ → Factored a r lent lent′
+          of-left (Factors r) g = (all-gathered .0, rw (← left) (g .0), rw (← left) (g .1), rw (← left) (g .2))
+          of-left Short g = (all-gathered .0, rw (← left) (g .0), g .1)
+          of-left (Irreducible x y) g = absurd g
 
-    pub joined-found : {r : Collected} {x y : Element} → r ≡ Joined x y → (after marks : List ℕ) → GatheredRight a r maps after → FoundIn a (Irreducible x y) after marks
-    unfolding FoundIn
-    joined-found e after marks g = subst (λ (z : Collected). GatheredRight a z maps after) e g
-
-  -- what was found, written
-  pub writable : (r : Found) (maps needed lent : List ℕ) → FoundIn a r maps needed → factorSpace (a .size) ≤ length lent → FoundFits (a .size) maps r needed lent
-  unfolding FoundIn FoundFits
-  writable (Factors k) maps needed lent f room =
-      let few : k ≤ a .size - 1 = omega (arith, f .1, listed-law a c .few) in (f .2, omega (arith, room, mul-le-mul-right (a .size) few))
-  writable (Irreducible x y) maps needed lent f room = tt
-
-  pub found-written : (r : Found) (maps needed lent : List ℕ) {after : List ℕ} → FoundIn a r maps needed → after ≡ foundWritten (a .size) maps r needed lent
-      → Factored a r lent after
-  unfolding FoundIn foundWritten
-  found-written (Factors k) maps needed lent f e = (f .0, f .1, e ∙ ap (λ (ms : List Map). written (concat ms) lent) (f .3))
-  found-written (Irreducible x y) maps needed lent f e = (f .0, f .1, e)
+    pub found-joined : {r : Collected} {x y : Element} → r ≡ Joined x y → (after lent : List ℕ) → GatheredRight a r maps after → Factored a (Irreducible x y) lent lent
+    found-joined e after lent g = let h = subst (λ (z : Collected). GatheredRight a z maps after) e g in (h .0, h .1, refl)
 
   -- 11 for n = 1: nothing is gathered
   pub found-one : a .size ≡ 1 → (out : List ℕ) → Factored a (Irreducible (record { 0 = 0 }) (record { 0 = 0 })) out out

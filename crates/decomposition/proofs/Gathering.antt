@@ -25,7 +25,7 @@ use Rattle.equivalence.proofs.Writing.{written-length}
 use Rattle.algebra.specs.Algebra.{Algebra}
 use Rattle.algebra.proofs.Accepted.{WellFormed}
 use Rattle.algebra.proofs.Congruences.{IsCongruence}
-use Rattle.theory.specs.Decompose.{added, gathered, listed, factorSpace, reducible, commonPair}
+use Rattle.theory.specs.Decompose.{added, gathered, listed, mostFactorSpace, reducible, commonPair}
 use Rattle.theory.specs.Splitting.{Splitting}
 use Rattle.theory.specs.Extremal.{separated}
 use Rattle.decomposition.specs.InnerGathering.{AddStep, pairFound, GatheredRight}
@@ -201,7 +201,7 @@ pub collecting-start : {a : Algebra} → WellFormed a → (lent met : List ℕ) 
 collecting-start {a} c lent met e =
     record { meet = whole (a .size); begins = begins-written (whole (a .size)) met e (whole-map (a .size)); place = omega arith; gathering = gathering-start a c lent }
 
-module _ {a : Algebra} (c : WellFormed a) {lent : List ℕ} {k at : ℕ} {met bytes : List ℕ} (room : factorSpace (a .size) ≤ length lent) (s : Collecting a lent k at met bytes) where
+module _ {a : Algebra} (c : WellFormed a) {lent : List ℕ} {k at : ℕ} {met bytes : List ℕ} (room : mostFactorSpace (a .size) ≤ length lent) (s : Collecting a lent k at met bytes) where
   pub collecting-canonical : Canonical (a .size) (byte met)
   collecting-canonical = begins-canonical (s .begins) (s .gathering .map)
 

@@ -108,6 +108,7 @@ module _ {n k : ℕ} {maps suffixes : List ℕ} {kept i at : ℕ} {met needed : 
           within = λ j l. listed-room (p .listed) (byte needed j) (small j l);
           each = λ j l. p .listed .each (byte needed j) (small j l);
         };
+        few = omega (arith, p .few, p .upto);
         left = sym (p .left ∙ ap (pruned n (chosen n maps kept needed)) none);
       }
 

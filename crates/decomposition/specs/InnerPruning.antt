@@ -29,4 +29,5 @@ pub record ChosenMaps (n : ℕ) (maps : List ℕ) (k : ℕ) (places : List ℕ) 
 -- they are the numbers of the maps that are left of the list of so many maps
 pub record NeededMaps (n count : ℕ) (maps : List ℕ) (k : ℕ) (places : List ℕ) : Type 0 where
   pub numbers : ChosenMaps n maps k places
+  pub few : k ≤ count
   pub left : chosen n maps k places ≡ pruned n [] (mapList n count maps)

@@ -7,7 +7,7 @@ ghost use Rattle.equivalence.specs.Equivalence.{byte, isIdentity};
 ghost use Rattle.kernel.specs.InnerKernel.{Canonical};
 ghost use Rattle.algebra.specs.Algebra.{algebraIn};
 ghost use Rattle.algebra.specs.Accepted.{Accepted};
-ghost use Rattle.theory.specs.Decompose.{factorSpace};
+ghost use Rattle.theory.specs.Decompose.{mostFactorSpace};
 ghost use Rattle.equivalence.specs.Order.{firstHeld};
 ghost use Rattle.decomposition.specs.InnerGathering.{AddStep, pairFound, GatheredRight};
 use equivalence::Element;
@@ -59,7 +59,7 @@ pub fn gather(n: usize, arities: &[u8], cells: &[u8], met: &mut [u8], maps: &mut
     requires { ⌜ Accepted (algebraIn n arities cells) ⌝ }
     requires { ⌜ 2 ≤ n ⌝ }
     requires { ⌜ n ≤ length (now met) ⌝ }
-    requires { ⌜ factorSpace n ≤ length (now maps) ⌝ }
+    requires { ⌜ mostFactorSpace n ≤ length (now maps) ⌝ }
     ensures { λ r. ⌜ GatheredRight (algebraIn n (arities .entry) (cells .entry)) r (now (maps .entry)) (now (maps .exit)) ⌝ }
 {
     whole_into(n, met);

@@ -1,65 +1,54 @@
-// Decompose of an accepted algebra: congruences are gathered, and those not needed are dropped. Working storage: 63 maps, the meets of 64
-// suffixes, one meet, and the numbers of the maps that are needed.
-ghost use mathlib.Core.Path.{_≡_};
-ghost use Prim.Native.Nat.{_≤_};
+// Decompose of an accepted algebra: congruences are gathered, those not needed are dropped, and what is left is written where it has room. Working
+// storage: 63 maps, the meets of 64 suffixes, one meet, and the numbers of the maps that are needed.
+ghost use Prim.Native.Nat.{_+_, _*_, _≤_};
 ghost use lib.ListN.{length};
 ghost use Rattle.algebra.specs.Algebra.{algebraIn};
 ghost use Rattle.algebra.specs.Accepted.{Accepted};
-ghost use Rattle.theory.specs.Decompose.{factorSpace};
-ghost use Rattle.decomposition.specs.InnerFactored.{Storage, FoundIn, FoundFits, foundWritten, Factored};
+ghost use Rattle.maplist.specs.InnerMapLists.{mapList, MapsListed};
+ghost use Rattle.decomposition.specs.InnerFactored.{Storage, NeededListed, Factored};
 use crate::gather::Collected;
 use crate::gather::gather;
 use crate::prune::mark_needed;
-use crate::write::write_needed;
+use crate::write::write_if_room;
 use equivalence::Element;
 
 mod gather;
 mod prune;
 mod write;
 
-// What was found: how many factors there are; or, of an irreducible algebra, the first pair common to all congruences but the identity.
+// What was found: so many factors, which are written; more factors than the lent space takes; or, of an irreducible algebra, the first pair common
+// to all congruences but the identity.
 pub enum Found {
     Factors(u8),
+    Short,
     Irreducible(Element, Element),
 }
 
-// Finds what there is to list, for two elements or more: what was gathered stands in `maps`, and the numbers of the factors among it first in
-// `needed`. `suffixes` and `met` are working storage.
-fn find(
+// Of the first `count` maps those that are needed: their numbers go to `needed`, and they are written where the list has room for them. `suffixes` and
+// `met` are working storage.
+fn list_needed(
     n: usize,
-    arities: &[u8],
-    cells: &[u8],
+    count: usize,
+    maps: &[u8],
     suffixes: &mut [u8],
     met: &mut [u8],
-    maps: &mut [u8],
     needed: &mut [u8],
+    out: &mut [u8],
 ) -> Found
-    requires { ⌜ Accepted (algebraIn n arities cells) ⌝ }
-    requires { ⌜ 2 ≤ n ⌝ }
-    requires { ⌜ Storage (now maps) (now suffixes) (now met) (now needed) ⌝ }
-    ensures { λ r. ⌜ FoundIn (algebraIn n (arities .entry) (cells .entry)) r (now (maps .exit)) (now (needed .exit)) ⌝ }
+    requires { ⌜ MapsListed n count (now maps) ⌝ }
+    requires { ⌜ count * n + n ≤ length (now suffixes) ⌝ }
+    requires { ⌜ n ≤ length (now met) ⌝ }
+    requires { ⌜ count ≤ length (now needed) ⌝ }
+    ensures { λ r. ⌜ NeededListed n (mapList n count (now (maps .entry))) r (now (out .entry)) (now (out .exit)) ⌝ }
 {
-    let found = gather(n, arities, cells, met, maps);
-    match found {
-        Collected::Joined(x, y) => Found::Irreducible(x, y),
-        Collected::All(count) => {
-            let kept = mark_needed(n, count, maps, suffixes, met, needed);
-            Found::Factors(kept as u8)
-        }
+    let kept = mark_needed(n, count, maps, suffixes, met, needed);
+    if !write_if_room(n, maps, kept, needed, out) {
+        return Found::Short;
     }
+    Found::Factors(kept as u8)
 }
 
-// Writes what was found, where it is a list.
-fn write_found(n: usize, maps: &[u8], found: Found, needed: &[u8], out: &mut [u8])
-    requires { ⌜ FoundFits n (now maps) found (now needed) (now out) ⌝ }
-    ensures { λ _. ⌜ now (out .exit) ≡ foundWritten n (now (maps .entry)) found (now (needed .entry)) (now (out .entry)) ⌝ }
-{
-    if let Found::Factors(kept) = found {
-        write_needed(n, maps, kept as usize, needed, out);
-    }
-}
-
-// `factors` for two elements or more, on lent storage.
+// `factors` for two elements or more, on lent storage: what is gathered stands in `maps`, and the numbers of the factors among it first in `needed`.
 fn factors_in(
     n: usize,
     arities: &[u8],
@@ -73,12 +62,13 @@ fn factors_in(
     requires { ⌜ Accepted (algebraIn n arities cells) ⌝ }
     requires { ⌜ 2 ≤ n ⌝ }
     requires { ⌜ Storage (now maps) (now suffixes) (now met) (now needed) ⌝ }
-    requires { ⌜ factorSpace n ≤ length (now out) ⌝ }
     ensures { λ r. ⌜ Factored (algebraIn n (arities .entry) (cells .entry)) r (now (out .entry)) (now (out .exit)) ⌝ }
 {
-    let found = find(n, arities, cells, suffixes, met, maps, needed);
-    write_found(n, maps, found, needed, out);
-    found
+    let gathered = gather(n, arities, cells, met, maps);
+    match gathered {
+        Collected::Joined(x, y) => Found::Irreducible(x, y),
+        Collected::All(count) => list_needed(n, count, maps, suffixes, met, needed, out),
+    }
 }
 
 // The same, on arrays, whose lengths are known from their types.
@@ -94,17 +84,15 @@ fn factors_on(
 ) -> Found
     requires { ⌜ Accepted (algebraIn n arities cells) ⌝ }
     requires { ⌜ 2 ≤ n ⌝ }
-    requires { ⌜ factorSpace n ≤ length (now out) ⌝ }
     ensures { λ r. ⌜ Factored (algebraIn n (arities .entry) (cells .entry)) r (now (out .entry)) (now (out .exit)) ⌝ }
 {
     factors_in(n, arities, cells, suffixes, met, maps, needed, out)
 }
 
-// The factors go to the start of out, one map after the other, and their count is the answer; an irreducible algebra is answered with its pair,
-// 0 and 0 for n = 1, and nothing is written.
+// The factors go to the start of out, one map after the other, and their count is the answer, where so many bytes are lent. An irreducible algebra is
+// answered with its pair, 0 and 0 for n = 1, whatever is lent. Where the factors are not the answer nothing is written.
 pub fn factors(n: usize, arities: &[u8], cells: &[u8], out: &mut [u8]) -> Found
     requires { ⌜ Accepted (algebraIn n arities cells) ⌝ }
-    requires { ⌜ factorSpace n ≤ length (now out) ⌝ }
     ensures { λ r. ⌜ Factored (algebraIn n (arities .entry) (cells .entry)) r (now (out .entry)) (now (out .exit)) ⌝ }
 {
     if n < 2 {

@@ -5,10 +5,11 @@ ghost use lib.ListN.{length};
 ghost use Rattle.equivalence.specs.Lists.{concat};
 ghost use Rattle.equivalence.specs.Lent.{written};
 ghost use Rattle.decomposition.specs.InnerPruning.{chosen, ChosenMaps};
+ghost use Rattle.decomposition.specs.InnerFactored.{fitted};
 use equivalence::blocks::copy;
 
 // Writes the maps whose numbers stand first in `needed`, so many as are kept: factor i from byte i × n on.
-pub fn write_needed(n: usize, maps: &[u8], kept: usize, needed: &[u8], out: &mut [u8])
+fn write_needed(n: usize, maps: &[u8], kept: usize, needed: &[u8], out: &mut [u8])
     requires { ⌜ ChosenMaps n (now maps) kept (now needed) ⌝ }
     requires { ⌜ kept * n ≤ length (now out) ⌝ }
     ensures { λ _. ⌜ now (out .exit) ≡ written (concat (chosen n (now (maps .entry)) kept (now (needed .entry)))) (now (out .entry)) ⌝ }
@@ -21,4 +22,17 @@ pub fn write_needed(n: usize, maps: &[u8], kept: usize, needed: &[u8], out: &mut
         at += n;
         i += 1;
     }
+}
+
+// Writes them where the list has room for all of them, and else nothing. Whether it has.
+pub fn write_if_room(n: usize, maps: &[u8], kept: usize, needed: &[u8], out: &mut [u8]) -> bool
+    requires { ⌜ ChosenMaps n (now maps) kept (now needed) ⌝ }
+    requires { ⌜ kept ≤ 63 ⌝ }
+    ensures { λ r. ⌜ (r, now (out .exit)) ≡ fitted n (chosen n (now (maps .entry)) kept (now (needed .entry))) (now (out .entry)) ⌝ }
+{
+    if out.len() < kept * n {
+        return false;
+    }
+    write_needed(n, maps, kept, needed, out);
+    true
 }

@@ -1,5 +1,5 @@
 -- Decompose's two loops: what `gathered` gathers and `pruned` leaves, and that the list is as demand 3 says.
-use Prim.Native.Nat.{ℕ, zero, suc, _+_, _≤_, _<_}
+use Prim.Native.Nat.{ℕ, zero, suc, _+_, _-_, _*_, _≤_, _<_}
 use mathlib.Core.Bool.{true}
 use mathlib.Core.List.{List, [], _∷_, _++_, append-assoc, append-nil, Memᴰ·append-left as append-left}
 use mathlib.Core.List.{List·Memᴰ as Member, List·Memᴰ·head as here, List·Memᴰ·tail as there, List·Memᴰ·not-nil as not-nil}
@@ -7,6 +7,7 @@ use mathlib.Core.List.{List·Memᴰ·cases-cons as cases-cons, List·Memᴰ·eq-
 use mathlib.Core.Logic.{inl, inr, _≢_}
 use mathlib.Core.Path.{_≡_, refl, sym, ap, subst, _∙_}
 use native.Mathlib.Decide.{decLt, ℕ-discrete}
+use native.Mathlib.Nat.{mul-le-mul-right}
 use native.Mathlib.Omega.{arith}
 use lib.Dec.{T, T-not, not-T}
 use lib.ListN.{length, getD, take, drop, length-append, drop-of-length-le}
@@ -23,7 +24,7 @@ use Rattle.equivalence.proofs.Tests.{T?, both, pick-yes, pick-no}
 use Rattle.algebra.specs.Algebra.{Algebra}
 use Rattle.algebra.proofs.Accepted.{WellFormed}
 use Rattle.algebra.proofs.Congruences.{congruence-is, congruence-of}
-use Rattle.theory.specs.Decompose.{added, gathered, pruned, listed, reducible}
+use Rattle.theory.specs.Decompose.{added, gathered, pruned, listed, reducible, factorSpace, mostFactorSpace}
 use Rattle.theory.specs.Splitting.{Splitting}
 use Rattle.theory.proofs.Separation.{MaximalFor, separated-law}
 
@@ -215,3 +216,22 @@ pruned-keep n kept rest m h =
 -- every listed map has n bytes
 pub listed-long : (a : Algebra) → WellFormed a → (i : ℕ) → i < length (listed a) → length (getD (listed a) i []) ≡ a .size
 listed-long a c i l = listed-law a c .maximal (getD (listed a) i []) (member-at (listed a) i [] l) .4 .cong .map .long
+
+-- ---- what Decompose wants of space
+
+module _ (a : Algebra) where
+  pub factorSpace-yes : T (reducible a) → factorSpace a ≡ length (listed a) * a .size
+  unfolding factorSpace
+  factorSpace-yes t = pick-yes (reducible a) (length (listed a) * a .size) 0 t
+
+  pub factorSpace-no : ¬ T (reducible a) → factorSpace a ≡ 0
+  unfolding factorSpace
+  factorSpace-no t = pick-no (reducible a) (length (listed a) * a .size) 0 t
+
+  -- n - 1 maps are space enough
+  pub factorSpace-most : WellFormed a → factorSpace a ≤ mostFactorSpace (a .size)
+  factorSpace-most c =
+      elim (T? (reducible a)) [
+        | yes t ↦ let few : length (listed a) ≤ a .size - 1 = omega (arith, listed-law a c .few) in omega (arith, factorSpace-yes t, mul-le-mul-right (a .size) few)
+        | no t ↦ omega (arith, factorSpace-no t)
+      ]

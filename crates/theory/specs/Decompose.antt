@@ -2,6 +2,7 @@
 use Prim.Native.Nat.{ℕ, zero, suc, _-_, _*_}
 use mathlib.Core.Bool.{Bool, true, false, not}
 use mathlib.Core.List.{List, [], _∷_, _++_}
+use lib.ListN.{length}
 use Rattle.equivalence.specs.Lists.{every, keep}
 use Rattle.equivalence.specs.Equivalence.{Map, meet, meetAll, whole, isIdentity}
 use Rattle.equivalence.specs.Order.{Pair, firstHeld}
@@ -29,13 +30,17 @@ pruned n kept (m ∷ rest) =
 unfoldable pub listed : Algebra → List Map
 listed a = pruned (a .size) [] (gathered (a .size) a (whole (a .size)))
 
--- what Decompose wants of space over n elements: n - 1 maps
-abbrev pub factorSpace : ℕ → ℕ
-factorSpace n = (n - 1) * n
-
 -- something other than the identity is left
 unfoldable pub reducible : Algebra → Bool
 reducible a = not (every (isIdentity (a .size)) (listed a))
+
+-- what Decompose wants of space: n bytes for each factor, and nothing for an irreducible algebra
+unfoldable pub factorSpace : Algebra → ℕ
+factorSpace a = elim (reducible a) [ true ↦ length (listed a) * a .size | false ↦ 0 ]
+
+-- space for the factors of every algebra over n elements: n - 1 maps
+abbrev pub mostFactorSpace : ℕ → ℕ
+mostFactorSpace n = (n - 1) * n
 
 -- the first pair common to all congruences but the identity; (0, 0) for n = 1
 unfoldable pub commonPair : Algebra → Pair

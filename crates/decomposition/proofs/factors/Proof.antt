@@ -7,7 +7,7 @@ use Rattle.decomposition.proofs.factors.Statement.{statement}
 use Rattle.decomposition.proofs.factors.Tie as tie
 
 returns : tie.Need-returns
-returns c = let k = c .before .before .before .before in let w = accepted-wellFormed _ (k .pre .0) in found-one _ (k .pre .0) (omega (arith, w .some)) (k .args .out .now)
+returns c = let k = c .before .before .before .before in let w = accepted-wellFormed _ (k .pre) in found-one _ (k .pre) (omega (arith, w .some)) (k .args .out .now)
 
 factors-on-requires : tie.Need-factors-on-requires
 factors-on-requires c κs = search needs
