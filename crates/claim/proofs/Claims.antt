@@ -1,6 +1,6 @@
 -- What the calls of the claim may rely on and answer, one by one; the loop over the factors (`Calling`); and the claim, that every last call answers 11.
 use Prim.Native.Nat.{ℕ, zero, suc, _+_, _-_, _*_, _≤_, _<_}
-use mathlib.Core.List.{List, []}
+use mathlib.Core.List.{List, [], _∷_}
 use mathlib.Core.Logic.{_⊎_, inl, inr}
 use mathlib.Core.Path.{_≡_, refl, sym, ap, subst, _∙_}
 use native.Mathlib.Nat.{suc-mul, mul-le-mul-right}
@@ -11,27 +11,25 @@ use denote.Ref.{now}
 use mir.Syntax.{w64}
 use mir.Val.{Fits}
 use Rattle.equivalence.specs.Equivalence.{Map, blocks}
-use Rattle.equivalence.specs.Lists.{concat}
 use Rattle.equivalence.specs.Lent.{stretch, written}
 use Rattle.equivalence.specs.Refusal.{lowest}
 use Rattle.equivalence.proofs.BlockNumbers.{blocks-le}
 use Rattle.equivalence.proofs.Refusals.{serve-passed, serve-failed}
-use Rattle.equivalence.proofs.Tests.{T?, pick-no}
+use Rattle.equivalence.proofs.Tests.{T?}
 use Rattle.equivalence.proofs.Writing.{written-length}
 use Rattle.algebra.specs.Accepted.{Accepted}
 use Rattle.algebra.specs.Algebra.{Algebra, algebraOf, cellCount}
 use Rattle.algebra.proofs.Accepted.{WellFormed, accepted-wellFormed}
 use Rattle.congruence.specs.Calls.{quotientSpace, quotientTests, quotientCall, algebraFrom, decomposed, factorBytes, decomposeTests, decomposeCall}
-use Rattle.theory.specs.Decompose.{listed, factorSpace, reducible}
+use Rattle.theory.specs.Decompose.{reducible}
+use Rattle.theory.proofs.Factors.{factorSpace-yes}
 use Rattle.congruence.specs.Demands.{QuotientAnswers11, FactorCalls}
 use Rattle.congruence.proofs.Calls.{factor-calls}
-use Rattle.congruence.proofs.Demands.{listed-right}
 use Rattle.congruence.proofs.Decomposing.{decomposed-yes, decomposed-no}
 use Rattle.theory.proofs.Quotients.{quotientCells-length}
 use Rattle.congruence.proofs.Serving.{of-quotientTests, of-decomposeTests}
 use Rattle.quotient.specs.Quotient.{quotientCells}
-use Rattle.claim.specs.Calls.{factorCount, irreducibleCount, lastCall, factorCalls, lentAt, lastAnswer, irreducibleAmong, CallsMade, LentEnough, EveryLastCall11, Claim, Slice}
-use Rattle.claim.specs.Calls.{lentIn, lentOut}
+use Rattle.claim.specs.Calls.{factorCount, irreducibleCount, lastCall, factorCalls, tablesAt, lastAnswer, irreducibleAmong, CallsMade, LentEnough, EveryLastCall11, Claim, Slice}
 use Rattle.claim.specs.InnerPromises.{TablesFit}
 use Rattle.equivalence.specs.declared.Refusal.{Refusal}
 use Rattle.equivalence.specs.declared.Check.{Check}
@@ -121,12 +119,17 @@ quotient-given n arities cells m tables = given-fits (algebraOf n arities cells)
 
 -- ---- Decompose
 
--- the tables are the first cells, as many as were counted
-pub front-decomposed : (b : ℕ) (arities tables again : List ℕ) {count : ℕ} {r : Decomposed} {after : List ℕ} → count ≡ cellCount b arities
-    → (r, after) ≡ decomposeCall (algebraOf b arities (take (count - 0) tables)) again → (r, after) ≡ decomposeCall (algebraFrom b arities tables) again
-front-decomposed b arities tables again {count} e f =
+length-none : (xs : List ℕ) → length xs ≡ 0 → xs ≡ []
+length-none [] e = refl
+length-none (x ∷ xs) e = absurd (omega (arith, e))
+
+-- the tables are the first cells, as many as were counted; a slice of no bytes holds nothing
+pub front-decomposed : (b : ℕ) (arities tables : List ℕ) {count : ℕ} {r : Decomposed} {lent after : List ℕ} → length lent ≡ 0 → count ≡ cellCount b arities
+    → (r, after) ≡ decomposeCall (algebraOf b arities (take (count - 0) tables)) lent → r ≡ decomposeCall (algebraFrom b arities tables) [] .0
+front-decomposed b arities tables {count} {lent = lent} none e f =
     let all : count - 0 ≡ cellCount b arities = omega arith in
-    f ∙ ap (λ (k : ℕ). decomposeCall (algebraOf b arities (take k tables)) again) all
+    ap (λ (c : Decomposed × List ℕ). c .0)
+    (f ∙ ap (λ (k : ℕ). decomposeCall (algebraOf b arities (take k tables)) lent) all ∙ ap (decomposeCall (algebraFrom b arities tables)) (length-none lent none))
 
 module _ (a : Algebra) (lent : List ℕ) where
   decompose-passed : lowest (decomposeTests a (length lent)) ≡ Passed → decomposeCall a lent ≡ (decomposed a, written (factorBytes a) lent)
@@ -137,89 +140,63 @@ module _ (a : Algebra) (lent : List ℕ) where
   unfolding decomposeCall
   decompose-failed r e = serve-failed DecomposeRefused _ (decomposed a) (factorBytes a) lent r e
 
-  of-tests′ : lowest (decomposeTests a (length lent)) ≡ Passed → Accepted a × (factorSpace (a .size) ≤ length lent)
-  of-tests′ e = of-decomposeTests a (length lent) (sym e)
-
   -- the factors that are counted stand in the lent list
   factors-fit : factorCount (decomposeCall a lent .0) * a .size ≤ length lent
   unfolding factorCount
   factors-fit =
       elim (passes (lowest (decomposeTests a (length lent)))) [
         | inl e ↦
-            let t = of-tests′ e in
-            let w = accepted-wellFormed a (t .0) in
             rw (decompose-passed e)
             elim (T? (reducible a)) [
-              | yes r ↦ rw (decomposed-yes a r) (omega (arith, t .1, mul-le-mul-right (a .size) (listed-right a (t .0) r .few)))
+              | yes r ↦ rw (decomposed-yes a r) (omega (arith, of-decomposeTests a (length lent) (sym e) .1, factorSpace-yes a r))
               | no r ↦ rw (decomposed-no a r) (omega arith)
             ]
         | inr e ↦ rw (decompose-failed (e .0) (e .1)) (omega arith)
       ]
 
-  -- 11 leaves the lent bytes as they were
-  irreducible-keeps : (x y : Element) → decomposeCall a lent .0 ≡ Irreducible x y → decomposeCall a lent .1 ≡ lent
-  unfolding factorBytes written
-  irreducible-keeps x y g =
-      elim (passes (lowest (decomposeTests a (length lent)))) [
-        | inl e ↦
-            let w = accepted-wellFormed a (of-tests′ e .0) in
-            let p = decompose-passed e in
-            elim (T? (reducible a)) [
-              | yes r ↦ let d = decomposed-yes a r in let z : _≡_ {A = ℕ} 0 1 = cc in absurd (omega arith)
-              | no r ↦ rw (p, pick-no (reducible a) (concat (listed a)) [] r)
-            ]
-        | inr e ↦ rw (decompose-failed (e .0) (e .1))
-      ]
-
 -- ---- the calls for one factor
 
-module _ (a : Algebra) (m tables again : List ℕ) {d : Divided} {tables′ : List ℕ} (e : (d, tables′) ≡ quotientCall a m tables) where
+module _ (a : Algebra) (m tables : List ℕ) {d : Divided} {tables′ : List ℕ} (e : (d, tables′) ≡ quotientCall a m tables) where
   -- Quotient gives b blocks
-  pub calls-given : {b : ℕ} {r : Decomposed} {again′ : List ℕ} → d ≡ Blocks b → (r, again′) ≡ decomposeCall (algebraFrom b (a .arities) tables′) again
-      → (r, (tables′, again′)) ≡ factorCalls a m (tables, again)
+  pub calls-given : {b : ℕ} {r : Decomposed} → d ≡ Blocks b → r ≡ decomposeCall (algebraFrom b (a .arities) tables′) [] .0 → (r, tables′) ≡ factorCalls a m tables
   unfolding factorCalls lastCall
   calls-given f g = rw (← e, f, ← g)
 
   -- Quotient declines
-  pub calls-declined : {r : Refusal} → d ≡ DivideRefused r → (DecomposeRefused r, (tables′, again)) ≡ factorCalls a m (tables, again)
+  pub calls-declined : {r : Refusal} → d ≡ DivideRefused r → (DecomposeRefused r, tables′) ≡ factorCalls a m tables
   unfolding factorCalls lastCall
   calls-declined f = rw (← e, f)
 
-module _ (a : Algebra) (m : Map) (lent : List ℕ × List ℕ) where
-  -- Quotient is given, and its quotient answers 11: the last answer is 11, the tables keep their length, and nothing else changes
-  factor-answers : QuotientAnswers11 a m → quotientSpace a m ≤ length (lent .0) → factorSpace (blocks (a .size) m) ≤ length (lent .1)
-      → ((x : Element) × (y : Element) × (factorCalls a m lent .0 ≡ Irreducible x y))
-      × (length (factorCalls a m lent .1 .0) ≡ length (lent .0)) × (factorCalls a m lent .1 .1 ≡ lent .1)
-  factor-answers q room wide =
+module _ (a : Algebra) (m tables : List ℕ) where
+  -- Quotient is given, and its quotient answers 11: the last answer is 11, and the tables keep their length
+  factor-answers : QuotientAnswers11 a m → quotientSpace a m ≤ length tables
+      → ((x : Element) × (y : Element) × (factorCalls a m tables .0 ≡ Irreducible x y)) × (length (factorCalls a m tables .1) ≡ length tables)
+  factor-answers q room =
       let b : ℕ = blocks (a .size) m in
-      let tables : List ℕ = quotientCall a m (lent .0) .1 in
-      let given : quotientCall a m (lent .0) .0 ≡ Blocks b = q .given (lent .0) room in
-      let q′ : Algebra = algebraFrom b (a .arities) tables in
-      let last : Decomposed × List ℕ = decomposeCall q′ (lent .1) in
-      let calls : (last .0, (tables, last .1)) ≡ factorCalls a m lent = calls-given a m (lent .0) (lent .1) refl given refl in
-      let d = q .answers11 (lent .0) room b given (lent .1) wide in
-      rw (← calls) ((d .0, d .1, d .2), quotient-length a m (lent .0), irreducible-keeps q′ (lent .1) (d .0) (d .1) (d .2))
+      let given : quotientCall a m tables .0 ≡ Blocks b = q .given tables room in
+      let calls = calls-given a m tables refl given refl in
+      let d = q .answers11 tables room b given [] in
+      rw (← calls) ((d .0, d .1, d .2), quotient-length a m tables)
 
 -- ---- the loop over the factors
 
 -- the calls for the factors below number i were made
-pub record Calling (a : Algebra) (list : List ℕ) (count : ℕ) (before : List ℕ × List ℕ) (i place counted : ℕ) (after : List ℕ × List ℕ) : Type 0 where
+pub record Calling (a : Algebra) (list : List ℕ) (count : ℕ) (before : List ℕ) (i place counted : ℕ) (after : List ℕ) : Type 0 where
   pub room : count * a .size ≤ length list
   pub start : place ≡ i * a .size
   pub upto : i ≤ count
   pub few : counted ≤ i
   pub answers : counted ≡ irreducibleAmong a list before i
-  pub lent : after ≡ lentAt a list before i
-  pub tables : length (after .0) ≡ length (before .0)
-  pub again : length (after .1) ≡ length (before .1)
+  pub lent : after ≡ tablesAt a list before i
+  pub long : length after ≡ length before
 
-pub calling-start : (a : Algebra) (list : List ℕ) (count : ℕ) (before : List ℕ × List ℕ) → count * a .size ≤ length list
+pub calling-start : (a : Algebra) (list : List ℕ) (count : ℕ) (before : List ℕ) → count * a .size ≤ length list
     → Calling a list count before 0 0 0 before
-unfolding irreducibleAmong lentAt
+unfolding irreducibleAmong tablesAt
 calling-start a list count before room =
-    record { room = room; start = omega arith; upto = omega arith; few = omega arith; answers = refl; lent = refl; tables = refl; again = refl }
+    record { room = room; start = omega arith; upto = omega arith; few = omega arith; answers = refl; lent = refl; long = refl }
 
-module _ {a : Algebra} {list : List ℕ} {count : ℕ} {before : List ℕ × List ℕ} {i place counted : ℕ} {after : List ℕ × List ℕ}
+module _ {a : Algebra} {list : List ℕ} {count : ℕ} {before : List ℕ} {i place counted : ℕ} {after : List ℕ}
     (p : Calling a list count before i place counted after) where
   -- the next factor's map stands in the list
   pub calling-part : i < count → place + a .size ≤ length list
@@ -230,12 +207,12 @@ module _ {a : Algebra} {list : List ℕ} {count : ℕ} {before : List ℕ × Lis
   calling-fits l r e h = omega (arith, p .few, counted-few r)
 
   -- the calls for all of them were made
-  pub calling-all : count ≤ i → (counted ≡ irreducibleAmong a list before count) × (after ≡ lentAt a list before count)
+  pub calling-all : count ≤ i → (counted ≡ irreducibleAmong a list before count) × (after ≡ tablesAt a list before count)
   calling-all h = let e : i ≡ count = omega (arith, p .upto) in rw (← e) (p .answers, p .lent)
 
   -- the calls for the next one
-  module _ (l : i < count) {r : Decomposed} {new : List ℕ × List ℕ} (e : (r, new) ≡ factorCalls a (take (place + a .size - place) (drop place list)) after) where
-    next-calls : (r, new) ≡ factorCalls a (stretch (a .size) list i) (lentAt a list before i)
+  module _ (l : i < count) {r : Decomposed} {new : List ℕ} (e : (r, new) ≡ factorCalls a (take (place + a .size - place) (drop place list)) after) where
+    next-calls : (r, new) ≡ factorCalls a (stretch (a .size) list i) (tablesAt a list before i)
     unfolding stretch
     next-calls =
         let wide : place + a .size - place ≡ a .size = omega arith in
@@ -245,16 +222,16 @@ module _ {a : Algebra} {list : List ℕ} {count : ℕ} {before : List ℕ × Lis
 
     next-answer : r ≡ lastAnswer a list before i
     unfolding lastAnswer
-    next-answer = ap (λ (c : Decomposed × (List ℕ × List ℕ)). c .0) next-calls
+    next-answer = ap (λ (c : Decomposed × List ℕ). c .0) next-calls
 
-    next-lent : new ≡ lentAt a list before (suc i)
-    unfolding lentAt
-    next-lent = ap (λ (c : Decomposed × (List ℕ × List ℕ)). c .1) next-calls
+    next-lent : new ≡ tablesAt a list before (suc i)
+    unfolding tablesAt
+    next-lent = ap (λ (c : Decomposed × List ℕ). c .1) next-calls
 
-    pub calling-more : {one : ℕ} → length (new .0) ≡ length (after .0) → length (new .1) ≡ length (after .1) → one ≡ irreducibleCount r
+    pub calling-more : {one : ℕ} → length new ≡ length after → one ≡ irreducibleCount r
         → Calling a list count before (i + 1) (place + a .size) (counted + one) new
     unfolding irreducibleAmong
-    calling-more {one} t u g =
+    calling-more {one} t g =
         let more : counted + one ≡ irreducibleAmong a list before (suc i) =
         ap (λ (k : ℕ). counted + k) (g ∙ ap irreducibleCount next-answer)
         ∙ ap (λ (d : ℕ). d + irreducibleCount (lastAnswer a list before i)) (p .answers) in
@@ -265,8 +242,7 @@ module _ {a : Algebra} {list : List ℕ} {count : ℕ} {before : List ℕ × Lis
           few = omega (arith, p .few, counted-few r, g);
           answers = rw add-one more;
           lent = rw add-one next-lent;
-          tables = t ∙ p .tables;
-          again = u ∙ p .again;
+          long = t ∙ p .long;
         }
 
 -- ---- all calls
@@ -279,7 +255,7 @@ counted-fit n arities cells list e f long =
 
 -- ---- the claim
 
-module _ (a : Algebra) (list : List ℕ) (lent : List ℕ × List ℕ) (accepted : Accepted a) (enough : LentEnough a list lent) where
+module _ (a : Algebra) (list tables : List ℕ) (accepted : Accepted a) (enough : LentEnough a list tables) where
   abbrev after : List ℕ
   after = decomposeCall a list .1
 
@@ -289,31 +265,31 @@ module _ (a : Algebra) (list : List ℕ) (lent : List ℕ × List ℕ) (accepted
   factor-quotient : (i : ℕ) → i < factorCount (decomposed a) → QuotientAnswers11 a (stretch (a .size) after i)
   factor-quotient i l = calls .quotients (factorCount (decomposed a)) i (calls .answer ∙ counts-factors (decomposed a) i l) l
 
-  -- before the calls for factor i the tables have their length, and the bytes of the last call are as they were
+  -- before the calls for factor i the tables have their length
   abbrev Kept : ℕ → Type 0
-  Kept i = (length (lentAt a after lent i .0) ≡ length (lent .0)) × (lentAt a after lent i .1 ≡ lent .1)
+  Kept i = length (tablesAt a after tables i) ≡ length tables
 
-  last-answers : (i : ℕ) → i < factorCount (decomposed a) → Kept i → ((x : Element) × (y : Element) × (lastAnswer a after lent i ≡ Irreducible x y)) × Kept (suc i)
-  unfolding lentAt lastAnswer
+  last-answers : (i : ℕ) → i < factorCount (decomposed a) → Kept i → ((x : Element) × (y : Element) × (lastAnswer a after tables i ≡ Irreducible x y)) × Kept (suc i)
+  unfolding tablesAt lastAnswer
   last-answers i l k =
-      let d = factor-answers a (stretch (a .size) after i) (lentAt a after lent i) (factor-quotient i l) (omega (arith, k .0, enough .tables i l)) (rw (k .1) (enough .again i l)) in
-      (d .0, (d .1 ∙ k .0, d .2 ∙ k .1))
+      let d = factor-answers a (stretch (a .size) after i) (tablesAt a after tables i) (factor-quotient i l) (omega (arith, k, enough .tables i l)) in
+      (d .0, d .1 ∙ k)
 
   kept : (i : ℕ) → i ≤ factorCount (decomposed a) → Kept i
-  unfolding lentAt
-  kept zero l = (refl, refl)
+  unfolding tablesAt
+  kept zero l = refl
   kept (suc i) l = last-answers i (omega arith) (kept i (omega arith)) .1
 
-  all-irreducible : (i : ℕ) → i ≤ factorCount (decomposed a) → irreducibleAmong a after lent i ≡ i
+  all-irreducible : (i : ℕ) → i ≤ factorCount (decomposed a) → irreducibleAmong a after tables i ≡ i
   unfolding irreducibleAmong
   all-irreducible zero l = refl
   all-irreducible (suc i) l =
       let d = last-answers i (omega arith) (kept i (omega arith)) .0 in
-      omega (arith, all-irreducible i (omega arith), irreducible-counted (lastAnswer a after lent i) (d .0) (d .1) (d .2))
+      omega (arith, all-irreducible i (omega arith), irreducible-counted (lastAnswer a after tables i) (d .0) (d .1) (d .2))
 
   -- demand 3: every last call answers 11
   every-last-call-11 : {r : FactorsDecomposed} {list′ : List ℕ} → (r .first, list′) ≡ decomposeCall a list
-      → r .irreducible ≡ irreducibleAmong a list′ lent (factorCount (r .first)) → EveryLastCall11 a list lent r
+      → r .irreducible ≡ irreducibleAmong a list′ tables (factorCount (r .first)) → EveryLastCall11 a list tables r
   every-last-call-11 {r} {list′} e counted =
       let first : r .first ≡ decomposed a = ap (λ (c : Decomposed × List ℕ). c .0) e ∙ calls .answer in
       let written : list′ ≡ after = ap (λ (c : Decomposed × List ℕ). c .1) e in
@@ -321,18 +297,18 @@ module _ (a : Algebra) (list : List ℕ) (lent : List ℕ × List ℕ) (accepted
       record {
         first = first;
         each = λ i l. last-answers i (omega (arith, few)) (kept i (omega (arith, few))) .0;
-        all = counted ∙ ap (λ (l : List ℕ). irreducibleAmong a l lent (factorCount (r .first))) written
+        all = counted ∙ ap (λ (l : List ℕ). irreducibleAmong a l tables (factorCount (r .first))) written
             ∙ all-irreducible (factorCount (r .first)) (omega (arith, few));
       }
 
 -- ---- all calls: they were made, and the claim holds of them
 
-module _ (a : Algebra) (list tables again : Slice) {first : Decomposed} {count counted : ℕ}
+module _ (a : Algebra) (list tables : Slice) {first : Decomposed} {count counted : ℕ}
     (e : (first, now (list .exit)) ≡ decomposeCall a (now (list .entry))) (f : count ≡ factorCount first)
-    (g : counted ≡ irreducibleAmong a (now (list .exit)) (lentIn tables again) count)
-    (h : lentOut tables again ≡ lentAt a (now (list .exit)) (lentIn tables again) count) where
-  pub calls-made : CallsMade a list tables again (record { first = first; irreducible = counted })
+    (g : counted ≡ irreducibleAmong a (now (list .exit)) (now (tables .entry)) count)
+    (h : now (tables .exit) ≡ tablesAt a (now (list .exit)) (now (tables .entry)) count) where
+  pub calls-made : CallsMade a list tables (record { first = first; irreducible = counted })
   calls-made = record { first = e; counted = rw (← f) g; rest = rw (← f) h }
 
-  pub claimed : Claim a list tables again (record { first = first; irreducible = counted })
-  claimed accepted enough = every-last-call-11 a (now (list .entry)) (lentIn tables again) accepted enough (calls-made .first) (calls-made .counted)
+  pub claimed : Claim a list tables (record { first = first; irreducible = counted })
+  claimed accepted enough = every-last-call-11 a (now (list .entry)) (now (tables .entry)) accepted enough (calls-made .first) (calls-made .counted)

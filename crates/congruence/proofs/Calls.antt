@@ -1,9 +1,10 @@
--- The calls of Decompose and Quotient on an accepted algebra with room enough: what they answer and write, and demand 3 over them together.
+-- The calls of an accepted algebra: what Decompose answers, whatever is lent; Quotient with room enough; and demand 3 over them together.
 -- first, so that a wrong definition is refused by an example that it makes false
-use Rattle.congruence.proofs.Examples.{examples}
-use Prim.Native.Nat.{ℕ, _≤_, _<_}
+use Rattle.congruence.proofs.Examples.{examples, space-examples}
+use Prim.Native.Nat.{ℕ, _*_, _≤_, _<_}
 use mathlib.Core.List.{List, []}
-use mathlib.Core.Path.{_≡_, sym, ap, subst, _∙_}
+use mathlib.Core.Path.{_≡_, sym, ap, _∙_}
+use native.Mathlib.Decide.{decLt}
 use native.Mathlib.Omega.{arith}
 use lib.Dec.{T}
 use lib.ListN.{length, getD, drop}
@@ -20,36 +21,23 @@ use Rattle.algebra.specs.Algebra.{Algebra}
 use Rattle.algebra.specs.Congruence.{isCongruence, Congruence}
 use Rattle.algebra.proofs.Accepted.{WellFormed, accepted-wellFormed, not-yes, wellFormed-accepted}
 use Rattle.algebra.proofs.Congruences.{congruence-is}
-use Rattle.congruence.specs.Calls.{element, irreducibleAnswer, congruenceTest, quotientSpace, quotientTests, quotientCall, algebraFrom, decomposed, factorBytes, decomposeTests, decomposeCall}
+use Rattle.congruence.specs.Calls.{element, irreducibleAnswer, congruenceTest, quotientSpace, quotientTests, quotientCall, algebraFrom, decomposed, decomposeCall}
 use Rattle.theory.specs.Decompose.{listed, factorSpace, reducible, commonPair}
-use Rattle.congruence.specs.Demands.{Answers11, QuotientAnswers11, FactorCalls}
+use Rattle.congruence.specs.Demands.{Answers11, SpaceTheorem, QuotientAnswers11, FactorCalls}
 use Rattle.congruence.proofs.Demands.{listed-right}
-use Rattle.theory.proofs.Factors.{listed-long}
-use Rattle.congruence.proofs.Decomposing.{decomposed-yes, decomposed-no, factorBytes-yes}
+use Rattle.theory.proofs.Factors.{listed-long, split, unsplit, factorSpace-most}
+use Rattle.theory.specs.Splitting.{Unsplit}
+use Rattle.congruence.proofs.Decomposing.{decomposed-yes, decomposed-no, of-irreducible, factorBytes-yes, decompose-served, decompose-factors, decompose-short, decompose-irreducible}
 use Rattle.theory.proofs.Quotients.{quotientCells-length, quotient-wellFormed}
 use Rattle.quotient.specs.Quotient.{quotientCells, quotient}
 use Rattle.equivalence.specs.declared.Check.the-variants.{Passed}
+use Rattle.equivalence.specs.declared.Refusal.the-variants.{Space}
 use Rattle.congruence.specs.declared.Divided.{Divided}
 use Rattle.congruence.specs.declared.Divided.the-variants.{Blocks, Refused as DivideRefused}
 use Rattle.congruence.specs.declared.Decomposed.{Decomposed}
 use Rattle.congruence.specs.declared.Decomposed.the-variants.{Factors, Refused as DecomposeRefused}
 
 -- ---- Decompose
-
-module _ (a : Algebra) (accepted : Accepted a) (lent : List ℕ) (room : factorSpace (a .size) ≤ length lent) where
-  decompose-passed : lowest (decomposeTests a (length lent)) ≡ Passed
-  unfolding Accepted
-  decompose-passed = lowest-append (algebraTests a) _ accepted ∙ space-passed (factorSpace (a .size)) (length lent) [] room ∙ lowest-none
-
-  decompose-served : decomposeCall a lent ≡ (decomposed a, written (factorBytes a) lent)
-  unfolding decomposeCall
-  decompose-served = serve-passed DecomposeRefused _ (decomposed a) (factorBytes a) lent decompose-passed
-
-  pub decompose-answer : decomposeCall a lent .0 ≡ decomposed a
-  decompose-answer = ap (λ (r : Decomposed × List ℕ). r .0) decompose-served
-
-  pub decompose-bytes : decomposeCall a lent .1 ≡ written (factorBytes a) lent
-  decompose-bytes = ap (λ (r : Decomposed × List ℕ). r .1) decompose-served
 
 -- where Decompose counts factors, the algebra is reducible and the count is the list's
 pub factors-reducible : (a : Algebra) (k : ℕ) → decomposed a ≡ Factors k → T (reducible a) × (k ≡ length (listed a))
@@ -58,6 +46,57 @@ factors-reducible a k e =
       | yes t ↦ let d = decomposed-yes a t in (t, cc)
       | no t ↦ let d = decomposed-no a t in let z : _≡_ {A = ℕ} 0 1 = cc in absurd (omega arith)
     ]
+
+-- 9, 11 or the factors, whatever is lent
+module _ (a : Algebra) (accepted : Accepted a) (lent : List ℕ) where
+  abbrev answer : Decomposed
+  answer = decomposeCall a lent .0
+
+  abbrev wanted : ℕ
+  wanted = length (listed a) * a .size
+
+  splits : T (reducible a) → ¬ Unsplit a
+  splits t u = u (listed a) (split a (accepted-wellFormed a accepted) t)
+
+  reduced : ¬ Unsplit a → T (reducible a)
+  reduced s = elim (T? (reducible a)) [ yes t ↦ t | no t ↦ absurd (s (unsplit a (accepted-wellFormed a accepted) t)) ]
+
+  answer-short : T (reducible a) → length lent < wanted → answer ≡ DecomposeRefused Space
+  answer-short t l = ap (λ (r : Decomposed × List ℕ). r .0) (decompose-short a accepted lent t l)
+
+  answer-factors : T (reducible a) → wanted ≤ length lent → answer ≡ Factors (length (listed a))
+  answer-factors t l = ap (λ (r : Decomposed × List ℕ). r .0) (decompose-factors a accepted lent t l)
+
+  answer-eleven : ¬ T (reducible a) → answer ≡ irreducibleAnswer a
+  answer-eleven t = ap (λ (r : Decomposed × List ℕ). r .0) (decompose-irreducible a accepted lent t)
+
+  -- the answers differ, so each tells its condition
+  of-nine : answer ≡ DecomposeRefused Space → T (reducible a) × (length lent < wanted)
+  of-nine e =
+      elim (T? (reducible a)) [
+        | yes t ↦ elim (decLt (length lent) wanted) [
+          | yes l ↦ (t, l)
+          | no l ↦ let f = answer-factors t (omega (arith, l)) in let z : _≡_ {A = ℕ} 0 1 = cc in absurd (omega arith)
+        ]
+        | no t ↦ let f = answer-eleven t in let z : _≡_ {A = ℕ} 0 1 = cc in absurd (omega arith)
+      ]
+
+  of-eleven : answer ≡ irreducibleAnswer a → ¬ T (reducible a)
+  of-eleven e t =
+      elim (decLt (length lent) wanted) [
+        | yes l ↦ let f = answer-short t l in let z : _≡_ {A = ℕ} 0 1 = cc in omega arith
+        | no l ↦ let f = answer-factors t (omega (arith, l)) in let z : _≡_ {A = ℕ} 0 1 = cc in omega arith
+      ]
+
+  pub space-theorem : SpaceTheorem a lent
+  space-theorem =
+      record {
+        nine = (λ e. (splits (of-nine e .0), of-nine e .1), λ h. answer-short (reduced (h .0)) (h .1));
+        eleven = (λ e. unsplit a (accepted-wellFormed a accepted) (of-eleven e), λ u. answer-eleven (λ t. splits t u));
+        factors = λ s l. decompose-factors a accepted lent (reduced s) l;
+        most = λ room. ap (λ (r : Decomposed × List ℕ). r .0)
+            (decompose-served a accepted lent (omega (arith, factorSpace-most a (accepted-wellFormed a accepted))));
+      }
 
 -- ---- Quotient
 
@@ -93,38 +132,31 @@ module _ (a : Algebra) (accepted : Accepted a) (m : Map) (p : Congruence a m) (t
 pub blocks-injective : (b c : ℕ) → Blocks b ≡ Blocks c → b ≡ c
 blocks-injective b c e = cc
 
-size-quotient : (a : Algebra) (m : Map) (again : List ℕ) → factorSpace (blocks (a .size) m) ≤ length again → factorSpace (quotient a m .size) ≤ length again
-unfolding quotient
-size-quotient a m again g = g
-
 module _ (a : Algebra) (accepted : Accepted a) where
   -- Quotient by a congruence whose quotient answers 11
   pub quotient-answers11 : (m : Map) → Congruence a m → Answers11 (quotient a m) → QuotientAnswers11 a m
   quotient-answers11 m p e =
       record {
         given = λ tables h. quotient-answer a accepted m p tables h;
-        answers11 = λ tables h b f again g.
+        answers11 = λ tables h b f again.
             let b-is : blocks (a .size) m ≡ b = blocks-injective (blocks (a .size) m) b (sym (quotient-answer a accepted m p tables h) ∙ f) in
-            let n = blocks (a .size) m in
-            let q : Accepted (quotient a m) = wellFormed-accepted (quotient a m) (quotient-wellFormed a (accepted-wellFormed a accepted) m (congruence-is a m p)) in
-            let d : (again : List ℕ) → factorSpace n ≤ length again → decomposeCall (quotient a m) again .0 ≡ irreducibleAnswer (quotient a m) =
-            λ again g. decompose-answer (quotient a m) q again (size-quotient a m again g) ∙ e in (
+            let well = quotient-wellFormed a (accepted-wellFormed a accepted) m (congruence-is a m p) in
+            let space = space-theorem (quotient a m) (wellFormed-accepted (quotient a m) well) again in (
               element (commonPair (quotient a m) .0),
               element (commonPair (quotient a m) .1),
-              subst (λ (c : ℕ). factorSpace c ≤ length again → decomposeCall (algebraFrom c (a .arities) (quotientCall a m tables .1)) again .0
-                  ≡ irreducibleAnswer (quotient a m)) b-is
-                  (λ g. rw (quotient-algebra a accepted m p tables h) (d again g)) g,
+              rw (← b-is, quotient-algebra a accepted m p tables h) (space .eleven .1 (of-irreducible (quotient a m) well _ _ e)),
             );
       }
 
-  pub factor-calls : (lent : List ℕ) → factorSpace (a .size) ≤ length lent → FactorCalls a lent
+  pub factor-calls : (lent : List ℕ) → factorSpace a ≤ length lent → FactorCalls a lent
   unfolding written
   factor-calls lent room =
       let well : WellFormed a = accepted-wellFormed a accepted in
-      let answer : decomposeCall a lent .0 ≡ decomposed a = decompose-answer a accepted lent room in
+      let served = decompose-served a accepted lent room in
+      let answer : decomposeCall a lent .0 ≡ decomposed a = ap (λ (r : Decomposed × List ℕ). r .0) served in
       let maps : (k i : ℕ) → decomposed a ≡ Factors k → i < k → stretch (a .size) (decomposeCall a lent .1) i ≡ getD (listed a) i [] =
       λ k i e l. let r = factors-reducible a k e in
-      rw (decompose-bytes a accepted lent room, factorBytes-yes a (r .0))
+      rw (served, factorBytes-yes a (r .0))
       (stretch-concat (a .size) (listed a) (drop (length (concat (listed a))) lent) (listed-long a well) i (omega (arith, r .1))) in
       record {
         answer = answer;

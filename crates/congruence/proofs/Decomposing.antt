@@ -1,34 +1,38 @@
 -- What Decompose answers of an accepted algebra: how many factors where it is reducible, else 11 with a pair; 11 just where nothing splits it, and
 -- of the quotient by a congruence that is maximal for some pair; and that the answer and the lent bytes follow from what the search found.
-use Prim.Native.Nat.{ℕ, _<_}
+use Prim.Native.Nat.{ℕ, _*_, _≤_, _<_}
 use mathlib.Core.List.{List, []}
-use mathlib.Core.Path.{_≡_}
+use mathlib.Core.Path.{_≡_, refl, _∙_}
 use native.Mathlib.Omega.{arith}
 use lib.Dec.{T}
 use lib.ListN.{length}
 use Rattle.equivalence.specs.Equivalence.{Map}
 use Rattle.equivalence.specs.Lists.{concat}
 use Rattle.equivalence.specs.Lent.{written}
+use Rattle.equivalence.proofs.Refusals.{lowest-none, lowest-append, serve-passed, serve-failed, space-passed, space-refused}
 use Rattle.equivalence.proofs.Tests.{pick-yes, pick-no}
 use Rattle.equivalence.specs.Refusal.{lowest}
 use Rattle.equivalence.specs.declared.Check.{Check}
-use Rattle.equivalence.specs.declared.Check.the-variants.{Passed}
+use Rattle.equivalence.specs.declared.Check.the-variants.{Passed, Failed}
+use Rattle.equivalence.specs.declared.Refusal.{Refusal}
+use Rattle.equivalence.specs.declared.Refusal.the-variants.{Space}
 use Rattle.equivalence.specs.declared.Element.{Element}
 use Rattle.algebra.specs.Algebra.{Algebra}
+use Rattle.algebra.specs.Accepted.{algebraTests, Accepted}
 use Rattle.algebra.proofs.Accepted.{WellFormed}
+use Rattle.algebra.proofs.Tested.{algebra-declines, passed-accepted, declined}
 use Rattle.algebra.proofs.Congruences.{IsCongruence}
 use Rattle.quotient.specs.Quotient.{quotient}
-use Rattle.theory.specs.Decompose.{listed, reducible}
+use Rattle.theory.specs.Decompose.{listed, reducible, factorSpace}
 use Rattle.theory.specs.Splitting.{Splitting}
-use Rattle.theory.proofs.Factors.{split, unsplit}
+use Rattle.theory.proofs.Factors.{split, unsplit, factorSpace-yes, factorSpace-no}
 use Rattle.theory.proofs.Quotients.{quotient-wellFormed, quotient-unsplit}
 use Rattle.theory.proofs.Separation.{MaximalFor}
 use Rattle.decomposition.specs.InnerFactored.{Factored}
 use Rattle.decomposition.specs.declared.Found.{Found}
-use Rattle.decomposition.specs.declared.Found.the-variants.{Factors as Counted, Irreducible as Paired}
-use Rattle.congruence.specs.Calls.{irreducibleAnswer, decomposed, factorBytes, decomposeTests, decomposeCall}
-use Rattle.congruence.specs.declared.Decomposed.the-variants.{Factors, Irreducible}
-use Rattle.congruence.proofs.Serving.{decompose-granted}
+use Rattle.decomposition.specs.declared.Found.the-variants.{Factors as Counted, Short, Irreducible as Paired}
+use Rattle.congruence.specs.Calls.{irreducibleAnswer, decomposed, factorBytes, decomposeCall}
+use Rattle.congruence.specs.declared.Decomposed.the-variants.{Factors, Irreducible, Refused as DecomposeRefused}
 
 module _ (a : Algebra) where
   pub decomposed-yes : T (reducible a) → decomposed a ≡ Factors (length (listed a))
@@ -52,7 +56,7 @@ pub quotient-irreducible : (a : Algebra) → WellFormed a → (m : Map) → IsCo
     → decomposed (quotient a m) ≡ irreducibleAnswer (quotient a m)
 quotient-irreducible a c m p x y l k h = irreducible-of (quotient a m) (quotient-wellFormed a c m p) (quotient-unsplit a c m p x y l k h)
 
--- ---- from what was found
+-- ---- what is written
 
 pub factorBytes-yes : (a : Algebra) → T (reducible a) → factorBytes a ≡ concat (listed a)
 unfolding factorBytes
@@ -62,15 +66,45 @@ pub factorBytes-no : (a : Algebra) → ¬ T (reducible a) → factorBytes a ≡ 
 unfolding factorBytes
 factorBytes-no a t = pick-no (reducible a) (concat (listed a)) [] t
 
-module _ (a : Algebra) (lent : List ℕ) {after : List ℕ} {found : Found} (f : Factored a found lent after)
-    {check : Check} (known : check ≡ Passed) (passed : check ≡ lowest (decomposeTests a (length lent))) where
-  pub decompose-factors : {k : ℕ} → found ≡ Counted k → (Factors k, after) ≡ decomposeCall a lent
-  decompose-factors {k} e =
-      let g : Factored a (Counted k) lent after = rw e at f in
-      decompose-granted a lent passed known (rw (decomposed-yes a (g .0), g .1)) (rw (factorBytes-yes a (g .0)) (g .2))
+-- ---- the call of an accepted algebra, whatever is lent
 
-  pub decompose-irreducible : {x y : Element} → found ≡ Paired x y → (Irreducible x y, after) ≡ decomposeCall a lent
+module _ (a : Algebra) (accepted : Accepted a) (lent : List ℕ) where
+  pub decompose-served : factorSpace a ≤ length lent → decomposeCall a lent ≡ (decomposed a, written (factorBytes a) lent)
+  unfolding decomposeCall Accepted
+  decompose-served room =
+      serve-passed DecomposeRefused _ (decomposed a) (factorBytes a) lent
+      (lowest-append (algebraTests a) _ accepted ∙ space-passed (factorSpace a) (length lent) [] room ∙ lowest-none)
+
+  pub decompose-factors : T (reducible a) → length (listed a) * a .size ≤ length lent
+      → decomposeCall a lent ≡ (Factors (length (listed a)), written (concat (listed a)) lent)
+  decompose-factors t room = rw (decompose-served (rw (factorSpace-yes a t) room), decomposed-yes a t, factorBytes-yes a t)
+
+  pub decompose-short : T (reducible a) → length lent < length (listed a) * a .size → decomposeCall a lent ≡ (DecomposeRefused Space, lent)
+  unfolding decomposeCall Accepted
+  decompose-short t few =
+      serve-failed DecomposeRefused _ (decomposed a) (factorBytes a) lent Space
+      (lowest-append (algebraTests a) _ accepted ∙ space-refused (factorSpace a) (length lent) [] (rw (factorSpace-yes a t) few))
+
+  pub decompose-irreducible : ¬ T (reducible a) → decomposeCall a lent ≡ (irreducibleAnswer a, lent)
   unfolding written
-  decompose-irreducible {x} {y} e =
-      let g : Factored a (Paired x y) lent after = rw e at f in
-      decompose-granted a lent passed known (rw (decomposed-no a (g .0), g .1)) (rw (factorBytes-no a (g .0)) (g .2))
+  decompose-irreducible t = rw (decompose-served (rw (factorSpace-no a t) (omega arith)), decomposed-no a t, factorBytes-no a t)
+
+-- ---- from what the function found
+
+pub decompose-declined : (a : Algebra) (lent : List ℕ) {check : Check} (r : Refusal) → check ≡ Failed r → check ≡ lowest (algebraTests a)
+    → (DecomposeRefused r, lent) ≡ decomposeCall a lent
+unfolding decomposeCall
+decompose-declined a lent r known e = declined DecomposeRefused _ _ _ lent (algebra-declines a _ r known e) r refl
+
+module _ (a : Algebra) (lent : List ℕ) {after : List ℕ} {found : Found} (f : Factored a found lent after)
+    {check : Check} (known : check ≡ Passed) (e : check ≡ lowest (algebraTests a)) where
+  pub found-factors : {k : ℕ} → found ≡ Counted k → (Factors k, after) ≡ decomposeCall a lent
+  found-factors {k} is =
+      let g : Factored a (Counted k) lent after = rw is at f in rw (decompose-factors a (passed-accepted a known e) lent (g .0) (g .2), g .1, g .3)
+
+  pub found-short : found ≡ Short → (DecomposeRefused Space, after) ≡ decomposeCall a lent
+  found-short is = let g : Factored a Short lent after = rw is at f in rw (decompose-short a (passed-accepted a known e) lent (g .0) (g .1), g .2)
+
+  pub found-irreducible : {x y : Element} → found ≡ Paired x y → (Irreducible x y, after) ≡ decomposeCall a lent
+  found-irreducible {x} {y} is =
+      let g : Factored a (Paired x y) lent after = rw is at f in rw (decompose-irreducible a (passed-accepted a known e) lent (g .0), g .1, g .2)

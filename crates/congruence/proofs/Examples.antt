@@ -1,4 +1,4 @@
--- Document 01's examples, and the small inputs of its reasons, computed from the definitions of the calls.
+-- Document 01's examples, the small inputs of its reasons, and document 02's rule of space, computed from the definitions of the calls.
 use mathlib.Core.Path.{refl}
 use Rattle.equivalence.specs.Equivalence.{isMap, holds, inside, namesOf, blocks, mapOf, identity, whole, same, isIdentity, meet, meetAll, maps, best}
 use Rattle.equivalence.specs.Lists.{upTo, every, any, keep, first, concat}
@@ -9,16 +9,16 @@ use Rattle.equivalence.specs.Lent.{written, lentAfter}
 use Rattle.algebra.specs.Accepted.{algebraTests}
 use Rattle.algebra.specs.Algebra.{cellCount, operationsOf, operations, arguments, place, value}
 use Rattle.algebra.specs.Congruence.{respects, isCongruence, congruences}
-use Rattle.theory.specs.Decompose.{added, gathered, pruned, listed, reducible, commonPair}
+use Rattle.theory.specs.Decompose.{added, gathered, pruned, listed, reducible, factorSpace, commonPair}
 use Rattle.theory.specs.Extremal.{holdsAll, above, generated, contained, separated}
 use Rattle.congruence.specs.Calls.{congruenceTest, generateCall, containedCall, separateCall, quotientCall, decomposed, factorBytes, decomposeCall}
-use Rattle.congruence.specs.Examples.{Examples, SmallInputs}
+use Rattle.congruence.specs.Examples.{Examples, SmallInputs, SpaceExamples}
 use Rattle.congruence.specs.Outcome.{generatedOutcome, dividedOutcome, decomposedOutcome}
 
 pub examples : Examples
 unfolding upTo every any first holds concat mapOf keep maps namesOf blocks best meetAll inside same isIdentity isMap notLater notLaterOn pairs identity
     whole meet firstHeld isCongruence operations operationsOf cellCount arguments place value respects congruences holdsAll above generated contained
-    separated added gathered pruned listed commonPair reducible decomposed factorBytes generateCall containedCall separateCall decomposeCall serve
+    separated added gathered pruned listed commonPair reducible factorSpace decomposed factorBytes generateCall containedCall separateCall decomposeCall serve
     lowest algebraTests sizeTest pairsTest elementsTest mapTest spaceTest equalTest answered lentAfter written success writtenOutcome generatedOutcome
     decomposedOutcome
 examples =
@@ -39,7 +39,7 @@ examples =
 pub small-inputs : SmallInputs
 unfolding upTo every any first holds concat mapOf keep maps namesOf blocks best meetAll inside same isIdentity isMap notLater notLaterOn pairs identity
     whole meet firstHeld isCongruence operations operationsOf cellCount arguments place value respects congruences holdsAll above generated separated
-    added gathered pruned listed commonPair reducible decomposed factorBytes generateCall containedCall separateCall quotientCall decomposeCall serve
+    added gathered pruned listed commonPair reducible factorSpace decomposed factorBytes generateCall containedCall separateCall quotientCall decomposeCall serve
     lowest algebraTests sizeTest pairsTest elementsTest mapTest congruenceTest spaceTest equalTest answered lentAfter written refusal numberOf
     writtenOutcome generatedOutcome dividedOutcome decomposedOutcome
 small-inputs =
@@ -59,3 +59,10 @@ small-inputs =
       rangeFirst = refl;
       spaceFirst = refl;
     }
+
+pub space-examples : SpaceExamples
+unfolding upTo every any first holds concat mapOf keep maps namesOf blocks best meetAll inside same isIdentity isMap notLater notLaterOn pairs identity
+    whole meet firstHeld isCongruence operations operationsOf cellCount arguments place value respects congruences separated added gathered pruned listed
+    commonPair reducible factorSpace decomposed factorBytes decomposeCall serve lowest algebraTests sizeTest spaceTest answered lentAfter written success
+    refusal numberOf decomposedOutcome
+space-examples = record { exact = refl; short = refl; irreducible = refl }

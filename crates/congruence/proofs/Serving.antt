@@ -17,8 +17,8 @@ use Rattle.algebra.specs.Algebra.{Algebra, algebraOf}
 use Rattle.algebra.specs.Congruence.{isCongruence}
 use Rattle.algebra.proofs.Accepted.{accepted-wellFormed}
 use Rattle.congruence.specs.Calls.{congruenceTest, mapsIn, mapsTest, generateTests, containedTests, separateTests, quotientSpace, quotientTests}
-use Rattle.congruence.specs.Calls.{decomposeTests, certifyTests, generateCall, containedCall, separateCall, quotientCall, decomposed}
-use Rattle.congruence.specs.Calls.{factorBytes, decomposeCall, certifyCall}
+use Rattle.congruence.specs.Calls.{decomposeTests, certifyTests, generateCall, containedCall, separateCall, quotientCall}
+use Rattle.congruence.specs.Calls.{certifyCall}
 use Rattle.theory.specs.Certify.{certified}
 use Rattle.theory.specs.Extremal.{generated, contained, separated}
 use Rattle.quotient.specs.Quotient.{quotientCells}
@@ -31,8 +31,6 @@ use Rattle.equivalence.specs.declared.Check.the-variants.{Passed, Failed}
 use Rattle.equivalence.specs.declared.Written.the-variants.{Done, Refused as WriteRefused}
 use Rattle.congruence.specs.declared.Generated.the-variants.{Merges, Refused as GenerateRefused}
 use Rattle.congruence.specs.declared.Divided.the-variants.{Blocks, Refused as DivideRefused}
-use Rattle.congruence.specs.declared.Decomposed.{Decomposed}
-use Rattle.congruence.specs.declared.Decomposed.the-variants.{Refused as DecomposeRefused}
 use Rattle.congruence.specs.declared.Certified.the-variants.{Yes, No, Refused as CertifyRefused}
 use Rattle.algebra.proofs.Tested.{of-checked, tests-passed, declined, granted}
 use Rattle.congruence.proofs.Testing.{of-pairsTest, of-elementsTest, of-equalTest, of-congruenceTest, of-mapsTest}
@@ -71,10 +69,10 @@ module _ (a : Algebra) (room : ℕ) where
       let congruent : T (isCongruence a m) = of-congruenceTest a m (of-passed (congruenceTest a m) [] (r .1) .0) in
       (congruent, (p .0, (isMap-of (a .size) m (of-mapTest (a .size) m (q .0)), of-spaceTest wanted room (r .0))))
 
-pub of-decomposeTests : (a : Algebra) (room : ℕ) → Passed ≡ lowest (decomposeTests a room) → Accepted a × (factorSpace (a .size) ≤ room)
+pub of-decomposeTests : (a : Algebra) (room : ℕ) → Passed ≡ lowest (decomposeTests a room) → Accepted a × (factorSpace a ≤ room)
 of-decomposeTests a room e =
-    let p = of-checked a (spaceTest (factorSpace (a .size)) room ∷ []) e in
-    (p .0, of-spaceTest (factorSpace (a .size)) room (of-passed (spaceTest (factorSpace (a .size)) room) [] (p .1) .0))
+    let p = of-checked a (spaceTest (factorSpace a) room ∷ []) e in
+    (p .0, of-spaceTest (factorSpace a) room (of-passed (spaceTest (factorSpace a) room) [] (p .1) .0))
 
 pub of-certifyTests : (a : Algebra) (bytes : List ℕ) → Passed ≡ lowest (certifyTests a bytes) → Accepted a × MapsListed (a .size) (length bytes / a .size) bytes
 of-certifyTests a bytes e =
@@ -125,16 +123,6 @@ module _ (a : Algebra) (m lent : List ℕ) {check : Check} (e : check ≡ lowest
       → (Blocks b, after) ≡ quotientCall a m lent
   unfolding quotientCall
   quotient-granted known f = granted DivideRefused _ _ _ lent e known (ap Blocks f)
-
-module _ (a : Algebra) (lent : List ℕ) {check : Check} (e : check ≡ lowest (decomposeTests a (length lent))) where
-  pub decompose-declined : (r : Refusal) → check ≡ Failed r → (DecomposeRefused r, lent) ≡ decomposeCall a lent
-  unfolding decomposeCall
-  decompose-declined = declined DecomposeRefused _ _ _ lent e
-
-  pub decompose-granted : {given : Decomposed} {after : List ℕ} → check ≡ Passed → given ≡ decomposed a → after ≡ written (factorBytes a) lent
-      → (given, after) ≡ decomposeCall a lent
-  unfolding decomposeCall
-  decompose-granted known f g = granted DecomposeRefused _ _ _ lent e known f g
 
 module _ (a : Algebra) (bytes : List ℕ) {check : Check} (e : check ≡ lowest (certifyTests a bytes)) where
   pub certify-declined : (r : Refusal) → check ≡ Failed r → CertifyRefused r ≡ certifyCall a bytes

@@ -1,12 +1,12 @@
 -- The tests of the services behind the algebra's (`Tested` of `algebra`): each one where it applies and where it is passed over; and what a check function finds by the flags of
 -- its tests in turn. What a call does with that is in `Serving`.
-use Prim.Native.Nat.{ℕ, _-_, _*_, _≤_, _<_, _/_, _%_}
+use Prim.Native.Nat.{ℕ, _≤_, _<_, _/_, _%_}
 use mathlib.Core.Bool.{Bool, true, false, not, _||_}
 use mathlib.Core.List.{List, _∷_}
 use mathlib.Core.Logic.{inl, inr}
 use mathlib.Core.Path.{_≡_, sym, ap, _∙_}
 use native.Mathlib.Decide.{decLt}
-use native.Mathlib.Nat.{div-add-mod', mul-le-mul}
+use native.Mathlib.Nat.{div-add-mod'}
 use native.Mathlib.Omega.{arith}
 use lib.Dec.{T, eqb, ltb, T-not, not-T, eqb→eq, ltb→lt, lt→ltb}
 use lib.ListN.{length, getD}
@@ -23,8 +23,6 @@ use Rattle.algebra.specs.Congruence.{isCongruence}
 use Rattle.algebra.proofs.Accepted.{WellFormed, every-at, accepted-wellFormed}
 use Rattle.algebra.proofs.Tested.{algebra-declines, algebra-passes, passed-accepted, test-declines, test-passes, all-pass}
 use borrow.Author.Tests.{not-false}
-use mir.Syntax.{w64}
-use mir.Val.{Fits}
 use Rattle.congruence.specs.Calls.{congruenceTest, mapsIn, mapsTest}
 use Rattle.maplist.specs.InnerMapLists.{mapList, MapsListed}
 use Rattle.theory.proofs.Above.{Below}
@@ -46,13 +44,6 @@ module _ (n : ℕ) (arities cells : List ℕ) {check : Check} (known : check ≡
 
   pub passed-some : 1 ≤ n
   passed-some = passed-wellFormed .some
-
-  -- the bytes that Decompose wants are counted in a word
-  pub passed-counted : Fits w64 ((n - 1) * n)
-  passed-counted =
-      let w = passed-wellFormed in
-      let bytes : (n - 1) * n ≤ 64 * 64 = mul-le-mul {n₂ = 64} {m₂ = 64} (omega arith) (w .most) in
-      omega arith
 
   pub passed-most : n ≤ 64
   passed-most = passed-wellFormed .most

@@ -98,9 +98,9 @@ decomposed a = elim (reducible a) [ true ↦ Factors (length (listed a)) | false
 unfoldable pub factorBytes : Algebra → List ℕ
 factorBytes a = elim (reducible a) [ true ↦ concat (listed a) | false ↦ [] ]
 
--- Decompose's tests: 1 to 6, 9; 11 comes after these
+-- Decompose's tests: 1 to 6, 9 with the count of factors; 11 comes after these, of an algebra that wants no space
 abbrev pub decomposeTests : Algebra → ℕ → List Test
-decomposeTests a room = algebraTests a ++ (spaceTest (factorSpace (a .size)) room ∷ [])
+decomposeTests a room = algebraTests a ++ (spaceTest (factorSpace a) room ∷ [])
 
 -- Decompose: the factors and their count, or 11
 unfoldable pub decomposeCall : Algebra → List ℕ → Decomposed × List ℕ

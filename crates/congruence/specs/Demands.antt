@@ -1,24 +1,25 @@
 -- Demands 2 and 3, stated over the definitions that the contracts cite.
-use Prim.Native.Nat.{ℕ, _≤_, _<_, _-_}
+use Prim.Native.Nat.{ℕ, _≤_, _<_, _-_, _*_}
 use mathlib.Core.Path.{_≡_}
 use mathlib.Core.Logic.{_⊎_, _↔_}
 use mathlib.Core.List.{List, [], map}
 use mathlib.Core.List.{List·Memᴰ as Member}
 use lib.Dec.{T}
 use lib.ListN.{length, getD}
-use Rattle.equivalence.specs.Lists.{without}
-use Rattle.equivalence.specs.Lent.{stretch}
+use Rattle.equivalence.specs.Lists.{without, concat}
+use Rattle.equivalence.specs.Lent.{stretch, written}
 use Rattle.equivalence.specs.Equivalence.{Map, isMap, holds, inside, identity, meetAll, blocks, blockOf}
 use Rattle.equivalence.specs.Order.{Pair, notLater}
 use Rattle.equivalence.specs.declared.Element.{Element}
+use Rattle.equivalence.specs.declared.Refusal.the-variants.{Space}
 use Rattle.algebra.specs.Algebra.{Algebra, Operation, operations, arguments, value}
 use Rattle.algebra.specs.Congruence.{Congruence}
 use Rattle.theory.specs.Extremal.{holdsAll}
 use Rattle.quotient.specs.Quotient.{quotient}
-use Rattle.theory.specs.Decompose.{listed, factorSpace, commonPair}
+use Rattle.theory.specs.Decompose.{listed, mostFactorSpace, commonPair}
 use Rattle.theory.specs.Splitting.{Unsplit}
 use Rattle.congruence.specs.Calls.{irreducibleAnswer, quotientSpace, quotientCall, algebraFrom, decomposed, decomposeCall}
-use Rattle.congruence.specs.declared.Decomposed.the-variants.{Factors, Irreducible}
+use Rattle.congruence.specs.declared.Decomposed.the-variants.{Factors, Irreducible, Refused}
 use Rattle.congruence.specs.declared.Divided.the-variants.{Blocks}
 
 -- Demand 2, Generate: the congruence holds the given pairs and lies inside every congruence that holds them
@@ -106,15 +107,24 @@ pub record FactorTheorem (a : Algebra) : Type 0 where
   pub pair : Answers11 a → FirstCommonPair a (commonPair a)
   pub otherwise : ¬ Answers11 a → (decomposed a ≡ Factors (length (listed a))) × FactorsRight a (listed a)
 
--- Quotient by m is given, and Decompose on the tables and b that it gave answers 11
+-- Decompose of an accepted algebra over the call, whatever is lent: 9 just where it splits and fewer than count × n bytes are lent, 11 with the common
+-- pair just where it does not split, else the factors at the start of the lent bytes; (n - 1) × n bytes are always enough
+pub record SpaceTheorem (a : Algebra) (lent : List ℕ) : Type 0 where
+  pub nine : (decomposeCall a lent .0 ≡ Refused Space) ↔ ((¬ Unsplit a) × (length lent < length (listed a) * a .size))
+  pub eleven : (decomposeCall a lent .0 ≡ irreducibleAnswer a) ↔ Unsplit a
+  pub factors : ¬ Unsplit a → length (listed a) * a .size ≤ length lent → decomposeCall a lent ≡ (Factors (length (listed a)), written (concat (listed a)) lent)
+  pub most : mostFactorSpace (a .size) ≤ length lent → decomposeCall a lent .0 ≡ decomposed a
+
+-- Quotient by m is given, and Decompose on the tables and b that it gave answers 11, whatever it is lent
 pub record QuotientAnswers11 (a : Algebra) (m : Map) : Type 0 where
   pub given : (tables : List ℕ) → quotientSpace a m ≤ length tables → quotientCall a m tables .0 ≡ Blocks (blocks (a .size) m)
   pub answers11 : (tables : List ℕ) → quotientSpace a m ≤ length tables
-      → (b : ℕ) → quotientCall a m tables .0 ≡ Blocks b → (again : List ℕ) → factorSpace b ≤ length again
+      → (b : ℕ) → quotientCall a m tables .0 ≡ Blocks b → (again : List ℕ)
       → (x : Element) × (y : Element) × (decomposeCall (algebraFrom b (a .arities) (quotientCall a m tables .1)) again .0 ≡ Irreducible x y)
 
 -- Demand 3 over the calls: Decompose; for each factor, Quotient of the same algebra by the factor's map as listed, bytes i × n to i × n + n;
--- and Decompose on the tables and b that this gave, with the arities as before: it answers 11; each call is lent at least what it wants
+-- and Decompose on the tables and b that this gave, with the arities as before: it answers 11; the first two are lent at least what they want, and the
+-- last anything
 pub record FactorCalls (a : Algebra) (lent : List ℕ) : Type 0 where
   pub answer : decomposeCall a lent .0 ≡ decomposed a
   pub maps : (k i : ℕ) → decomposed a ≡ Factors k → i < k → stretch (a .size) (decomposeCall a lent .1) i ≡ getD (listed a) i []

@@ -1,4 +1,4 @@
--- Document 01's examples 1 to 11, and the small inputs of its table of reasons, as the calls answer them.
+-- Document 01's examples 1 to 11, the small inputs of its table of reasons, and what document 02 says of Decompose's space, as the calls answer them.
 use Prim.Native.Nat.{ℕ}
 use mathlib.Core.List.{List, [], _∷_}
 use mathlib.Core.Path.{_≡_}
@@ -56,3 +56,9 @@ pub record SmallInputs : Type 0 where
   -- the lowest number goes first: 7 before 9, 9 before 12
   pub rangeFirst : shown generatedOutcome (generateCall u (0 ∷ 4 ∷ []) (nines 2)) ≡ (refusedWith 7, nines 2)
   pub spaceFirst : shown dividedOutcome (quotientCall u (0 ∷ 1 ∷ 0 ∷ 3 ∷ []) (nines 2)) ≡ (refusedWith 9, nines 2)
+
+-- document 02, job 2: Decompose wants count × n bytes, and of an irreducible algebra none
+pub record SpaceExamples : Type 0 where
+  pub exact : shown decomposedOutcome (decomposeCall u (nines 8)) ≡ (success 2, 0 ∷ 1 ∷ 0 ∷ 1 ∷ 0 ∷ 0 ∷ 2 ∷ 2 ∷ [])
+  pub short : shown decomposedOutcome (decomposeCall u (nines 7)) ≡ (refusedWith 9, nines 7)
+  pub irreducible : shown decomposedOutcome (decomposeCall c []) ≡ (elevenWith 0 2, [])

@@ -1,4 +1,4 @@
-// The tests of each service, by rising number: the first that applies is the answer.
+// The tests of each service, by rising number: the first that applies is the answer. Decompose has none but the algebra's before it looks for factors.
 ghost use mathlib.Core.Path.{_≡_};
 ghost use Prim.Native.Nat.{ℕ, _*_, _<_, _≤_};
 ghost use lib.ListN.{length, getD};
@@ -6,7 +6,7 @@ ghost use Rattle.equivalence.specs.Lists.{every};
 ghost use Rattle.equivalence.specs.Equivalence.{isMap, blocks};
 ghost use Rattle.equivalence.specs.Refusal.{lowest};
 ghost use Rattle.algebra.specs.Algebra.{algebraIn, cellCount};
-ghost use Rattle.congruence.specs.Calls.{generateTests, containedTests, separateTests, quotientTests, decomposeTests, certifyTests};
+ghost use Rattle.congruence.specs.Calls.{generateTests, containedTests, separateTests, quotientTests, certifyTests};
 ghost use Rattle.maplist.specs.InnerMapLists.{mapList};
 use equivalence::Check;
 use equivalence::Refusal;
@@ -109,20 +109,6 @@ pub fn quotient_check(n: usize, arities: &[u8], cells: &[u8], map: &[u8], room: 
     }
     if !refinement::is_congruence(n, arities, cells, map) {
         return Check::Failed(Refusal::NotCongruence);
-    }
-    Check::Passed
-}
-
-// Decompose's tests but the last, 11.
-pub fn decompose_check(n: usize, arities: &[u8], cells: &[u8], room: usize) -> Check
-    ensures { λ r. ⌜ r ≡ lowest (decomposeTests (algebraIn n (arities .entry) (cells .entry)) room) ⌝ }
-{
-    let check = algebra::check(n, arities, cells);
-    if let Check::Failed(reason) = check {
-        return Check::Failed(reason);
-    }
-    if room < (n - 1) * n {
-        return Check::Failed(Refusal::Space);
     }
     Check::Passed
 }

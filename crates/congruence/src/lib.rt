@@ -4,6 +4,7 @@ ghost use Rattle.algebra.specs.Algebra.{algebraIn};
 ghost use Rattle.congruence.specs.Calls.{decomposeCall, generateCall, containedCall, separateCall, quotientCall, certifyCall};
 use decomposition::Found;
 use equivalence::Check;
+use equivalence::Refusal;
 use equivalence::Written;
 
 mod checks;
@@ -96,18 +97,20 @@ pub fn quotient(n: usize, arities: &[u8], cells: &[u8], map: &[u8], out: &mut [u
 
 // The subdirect factors: congruences that meet in the identity, none of which can be left out, each maximal for some pair. Factor i goes to the n bytes
 // from i × n on, and the answer is how many there are; bytes behind the last factor keep their value. An irreducible algebra (11) is answered with the
-// first pair common to all congruences but the identity, 0 and 0 for n = 1, and nothing is written. Reasons to decline besides: 1 to 6, and 9 where
-// fewer than (n − 1) × n bytes are lent; then nothing is written either.
+// first pair common to all congruences but the identity, 0 and 0 for n = 1, whatever is lent. Reasons to decline besides: 1 to 6, and 9 where the
+// algebra is reducible and fewer bytes are lent than its factors take; the count is not told then, and (n − 1) × n bytes are always enough. Nothing is
+// written but the factors.
 pub fn decompose(n: usize, arities: &[u8], cells: &[u8], out: &mut [u8]) -> Decomposed
     ensures { λ r. ⌜ (r, now (out .exit)) ≡ decomposeCall (algebraIn n (arities .entry) (cells .entry)) (now (out .entry)) ⌝ }
 {
-    let check = checks::decompose_check(n, arities, cells, out.len());
+    let check = algebra::check(n, arities, cells);
     if let Check::Failed(reason) = check {
         return Decomposed::Refused(reason);
     }
     let found = decomposition::factors(n, arities, cells, out);
     match found {
         Found::Factors(count) => Decomposed::Factors(count),
+        Found::Short => Decomposed::Refused(Refusal::Space),
         Found::Irreducible(x, y) => Decomposed::Irreducible(x, y),
     }
 }

@@ -1,13 +1,12 @@
--- `decompose`: a test declines, or the answer and the bytes are what was found.
+-- `decompose`: a test of the algebra declines, or the answer and the bytes are what was found.
 use borrow.Author.Needs.{needs}
-use Rattle.congruence.proofs.Decomposing.{decompose-factors, decompose-irreducible}
-use Rattle.algebra.proofs.Tested.{tests-passed}
-use Rattle.congruence.proofs.Serving.{of-decomposeTests, decompose-declined}
+use Rattle.algebra.proofs.Tested.{passed-accepted}
+use Rattle.congruence.proofs.Decomposing.{decompose-declined, found-factors, found-short, found-irreducible}
 use Rattle.congruence.proofs.decompose.Statement.{statement}
 use Rattle.congruence.proofs.decompose.Tie as tie
 
-decompose-check-requires : tie.Need-decompose-check-requires
-decompose-check-requires c κs = search needs
+check-requires : tie.Need-check-requires
+check-requires c κs = search needs
 
 enum-known-check : tie.Need-enum-known-check
 enum-known-check c = search needs
@@ -19,10 +18,13 @@ enum-told : tie.Need-enum-told
 enum-told c = search needs
 
 factors-requires : tie.Need-factors-requires
-factors-requires c κs = of-decomposeTests _ _ (search tests-passed)
+factors-requires c κs = search passed-accepted
 
 enum-known-found : tie.Need-enum-known-found
 enum-known-found c = search needs
+
+enum-told-2 : tie.Need-enum-told-2
+enum-told-2 c = search needs
 
 enum-known-found-2 : tie.Need-enum-known-found-2
 enum-known-found-2 c = search needs
@@ -31,26 +33,35 @@ same-length : tie.Need-same-length
 same-length c = search needs
 
 returns-2 : tie.Need-returns-2
-returns-2 c = search decompose-factors
+returns-2 c = search found-factors
 
 same-length-2 : tie.Need-same-length-2
 same-length-2 c = search needs
 
 returns-3 : tie.Need-returns-3
-returns-3 c = search decompose-irreducible
+returns-3 c = search found-short
+
+same-length-3 : tie.Need-same-length-3
+same-length-3 c = search needs
+
+returns-4 : tie.Need-returns-4
+returns-4 c = search found-irreducible
 
 pub decompose-spec : {M : Type 1} → statement M
 decompose-spec =
     tie.close
     (tie.spec
-    decompose-check-requires
+    check-requires
     enum-known-check
     returns
     enum-told
     factors-requires
     enum-known-found
+    enum-told-2
     enum-known-found-2
     same-length
     returns-2
     same-length-2
-    returns-3)
+    returns-3
+    same-length-3
+    returns-4)
