@@ -124,9 +124,9 @@ length-none [] e = refl
 length-none (x ∷ xs) e = absurd (omega (arith, e))
 
 -- the tables are the first cells, as many as were counted; a slice of no bytes holds nothing
-pub front-decomposed : (b : ℕ) (arities tables : List ℕ) {count : ℕ} {r : Decomposed} {lent after : List ℕ} → length lent ≡ 0 → count ≡ cellCount b arities
+pub front-decomposed : (b : ℕ) (arities tables lent : List ℕ) {count : ℕ} {r : Decomposed} {after : List ℕ} → length lent ≡ 0 → count ≡ cellCount b arities
     → (r, after) ≡ decomposeCall (algebraOf b arities (take (count - 0) tables)) lent → r ≡ decomposeCall (algebraFrom b arities tables) [] .0
-front-decomposed b arities tables {count} {lent = lent} none e f =
+front-decomposed b arities tables lent {count} none e f =
     let all : count - 0 ≡ cellCount b arities = omega arith in
     ap (λ (c : Decomposed × List ℕ). c .0)
     (f ∙ ap (λ (k : ℕ). decomposeCall (algebraOf b arities (take k tables)) lent) all ∙ ap (decomposeCall (algebraFrom b arities tables)) (length-none lent none))

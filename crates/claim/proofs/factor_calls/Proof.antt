@@ -1,46 +1,35 @@
+-- `factor_calls`: Quotient gives blocks, and the last call is made; or it declines.
 use borrow.Author.Needs.{needs}
+use Rattle.claim.proofs.Claims.{quotient-given, calls-given, calls-declined}
 use Rattle.claim.proofs.factor_calls.Statement.{statement}
 use Rattle.claim.proofs.factor_calls.Tie as tie
-use Rattle.claim.proofs.factor_calls.Reads as reads
-use Rattle.claim.proofs.factor_calls.Lts as lts
-use Rattle.claim.proofs.decompose_front.Reads as decompose-front-reads
-use Rattle.congruence.proofs.quotient.Reads as quotient-reads
 
--- src/lib.rt:62:9
 quotient-requires : tie.Need-quotient-requires
 quotient-requires c κs = search needs
 
--- src/lib.rt:64:25
 enum-known-divided : tie.Need-enum-known-divided
 enum-known-divided c = search needs
 
--- src/lib.rt:64:47
 cast-decompose-front : tie.Need-cast-decompose-front
 cast-decompose-front c = search needs
 
--- src/lib.rt:64:31
 decompose-front-requires : tie.Need-decompose-front-requires
-decompose-front-requires c κs = ?
+decompose-front-requires c κs = search quotient-given
 
--- src/lib.rt:65:26
 enum-known-divided-2 : tie.Need-enum-known-divided-2
 enum-known-divided-2 c = search needs
 
--- src/lib.rt:53:1
 same-length : tie.Need-same-length
 same-length c = search needs
 
--- src/lib.rt:53:1
 returns : tie.Need-returns
-returns c = ?
+returns c = search calls-given
 
--- src/lib.rt:53:1
 same-length-2 : tie.Need-same-length-2
 same-length-2 c = search needs
 
--- src/lib.rt:53:1
 returns-2 : tie.Need-returns-2
-returns-2 c = ?
+returns-2 c = search calls-declined
 
 pub factor-calls-spec : {M : Type 1} → statement M
 factor-calls-spec =

@@ -1,67 +1,57 @@
+-- `irreducible_among`: the laws of `Calling` start, keep and end the loop.
+use Prim.Native.Nat.{_-_}
+use native.Mathlib.Omega.{arith}
+use borrow.Author.Needs.{needs}
+use Rattle.algebra.specs.Algebra.{algebraOf}
+use Rattle.claim.proofs.Claims.{Calling, calling-start, calling-part, calling-fits, calling-more, calling-all}
 use Rattle.claim.proofs.irreducible_among.Statement.{statement}
 use Rattle.claim.proofs.irreducible_among.Tie as tie
-use Rattle.claim.proofs.irreducible_among.Reads as reads
-use Rattle.claim.proofs.irreducible_among.Lts as lts
-use Rattle.claim.proofs.factor_calls.Reads as factor-calls-reads
-use Rattle.claim.proofs.irreducible_count.Reads as irreducible-count-reads
 
 abbrev Inv-loop : tie.InvT-loop
-Inv-loop n arities cells count list tables₀ irreducible₀ i₀ at₀ tables irreducible i at = ?
+Inv-loop n arities cells count list tables₀ irreducible₀ i₀ at₀ tables irreducible i at =
+    Calling (algebraOf n arities cells) list count tables₀ i at irreducible tables
 
 abbrev μ-loop : tie.MeasureT-loop
-μ-loop n arities cells count list tables₀ irreducible₀ i₀ at₀ tables irreducible i at = ?
+μ-loop n arities cells count list tables₀ irreducible₀ i₀ at₀ tables irreducible i at = count - i
 
--- src/lib.rt:85:5
 loop-holds : tie.Need-loop-holds Inv-loop μ-loop
-loop-holds c = ?
+loop-holds c = search calling-start
 
--- src/lib.rt:86:20
 add-next : tie.Need-add-next Inv-loop μ-loop
-add-next c = ?
+add-next c = omega (arith, calling-part (c .before .loop .inv) (c .loop-test .taken))
 
--- src/lib.rt:87:52
 sub-factor-calls : tie.Need-sub-factor-calls Inv-loop μ-loop
-sub-factor-calls c = ?
+sub-factor-calls c = search needs
 
--- src/lib.rt:87:52
 part-factor-calls-start : tie.Need-part-factor-calls-start Inv-loop μ-loop
-part-factor-calls-start c = ?
+part-factor-calls-start c = search needs
 
--- src/lib.rt:87:52
 part-factor-calls-end : tie.Need-part-factor-calls-end Inv-loop μ-loop
-part-factor-calls-end c = ?
+part-factor-calls-end c = omega (arith, calling-part (c .before .loop .inv) (c .loop-test .taken))
 
--- src/lib.rt:87:13
 factor-calls-requires : tie.Need-factor-calls-requires Inv-loop μ-loop
-factor-calls-requires c κs = ?
+factor-calls-requires c κs = search needs
 
--- src/lib.rt:88:24
 irreducible-count-requires : tie.Need-irreducible-count-requires Inv-loop μ-loop
-irreducible-count-requires c κs = ?
+irreducible-count-requires c κs = search needs
 
--- src/lib.rt:88:9
 add-irreducible : tie.Need-add-irreducible Inv-loop μ-loop
-add-irreducible c = ?
+add-irreducible c = search (calling-fits, arith)
 
--- src/lib.rt:90:9
 add-i : tie.Need-add-i Inv-loop μ-loop
-add-i c = ?
+add-i c = search needs
 
--- src/lib.rt:85:5
 loop-less : tie.Need-loop-less Inv-loop μ-loop
-loop-less c = ?
+loop-less c = search needs
 
--- src/lib.rt:85:5
 loop-again : tie.Need-loop-again Inv-loop μ-loop
-loop-again c = ?
+loop-again c = search calling-more
 
--- src/lib.rt:70:1
 same-length : tie.Need-same-length Inv-loop μ-loop
-same-length c = ?
+same-length c = search needs
 
--- src/lib.rt:70:1
 returns : tie.Need-returns Inv-loop μ-loop
-returns c = ?
+returns c = calling-all (c .before .loop .inv) (c .loop-test .left)
 
 pub irreducible-among-spec : {M : Type 1} → statement M
 irreducible-among-spec =
