@@ -13,7 +13,7 @@ use Rattle.algebra.specs.Algebra.{cellCount, operationsOf, operations, argument
 use Rattle.algebra.specs.Congruence.{respects, isCongruence, congruences}
 use Rattle.congruence.specs.Calls.{generateCall, containedCall, separateCall, congruenceTest, quotientCall, decomposed, factorBytes, decomposeCall}
 use Rattle.quotient.specs.Quotient.{quotientTable, quotientCells}
-use Rattle.theory.specs.Decompose.{added, gathered, pruned, listed, reducible, commonPair}
+use Rattle.theory.specs.Decompose.{added, gathered, pruned, listed, reducible, factorSpace, commonPair}
 use Rattle.theory.specs.Extremal.{holdsAll, above, generated, contained, separated}
 use Rattle.reader.specs.Reading.{ascii, onward, _>>=_, mark, gap, branch, behind, begins, opened}
 use Rattle.reader.specs.Numbers.{digitAt, number}
@@ -105,7 +105,7 @@ unfolding ascii onward _>>=_ mark gap branch behind begins opened digitAt number
     inside namesOf blocks blockOf mapOf identity whole same isIdentity meet meetAll maps best join upTo every any keep first concat stretch pairs notLaterOn
     notLater firstHeld numberOf lowest sizeTest mapTest spaceTest answered written lentAfter serve algebraTests cellCount operationsOf operations arguments
     place value respects isCongruence congruences pairsTest elementsTest equalTest generateCall containedCall separateCall decomposed factorBytes decomposeCall
-    added gathered pruned listed reducible commonPair holdsAll above generated contained separated dividedOutcome quotientLines congruenceTest quotientCall
+    added gathered pruned listed reducible factorSpace commonPair holdsAll above generated contained separated dividedOutcome quotientLines congruenceTest quotientCall
     quotientTable quotientCells partedTexts tableText sizeText operationText algebraText
 text-examples =
     record {

@@ -117,7 +117,7 @@ fn answer_separate(
     write_written(answer, map, out)
 }
 
-// Decompose, lent just the zero bytes that it wants.
+// Decompose, lent zero bytes for the factors of any algebra over n elements.
 fn answer_decompose(
     n: usize,
     arities: &[u8],
@@ -172,7 +172,8 @@ fn answer_cells(n: usize, arities: &[u8], cells: &[u8], map: &[u8], out: &mut [u
     answer_quotient_into(n, arities, cells, map, &mut space, out)
 }
 
-// The answer to what a request asks, with the numbers that were stored for it; a service that writes maps is lent just the bytes that it wants.
+// The answer to what a request asks, with the numbers that were stored for it; a service that writes maps is lent the bytes that it wants, and no
+// more than any algebra over n elements can want.
 fn answer_into(
     n: usize,
     arities: &[u8],

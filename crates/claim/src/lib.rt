@@ -50,13 +50,7 @@ fn decompose_front(b: usize, arities: &[u8], tables: &[u8]) -> Decomposed
 }
 
 // The calls for one factor: Quotient by its map, and Decompose on what this gave. The answer of the last call; a refusal of Quotient is passed on.
-fn factor_calls(
-    n: usize,
-    arities: &[u8],
-    cells: &[u8],
-    map: &[u8],
-    tables: &mut [u8],
-) -> Decomposed
+fn factor_calls(n: usize, arities: &[u8], cells: &[u8], map: &[u8], tables: &mut [u8]) -> Decomposed
     ensures { λ r. ⌜ (r, now (tables .exit)) ≡ factorCalls (algebraIn n (arities .entry) (cells .entry)) (now (map .entry)) (now (tables .entry)) ⌝ }
 {
     let divided = congruence::quotient(n, arities, cells, map, tables);

@@ -24,6 +24,6 @@ pub record Reasons : Type 0 where
   pub separate : (a : Algebra) (v w : ℕ) (lent : List ℕ) → RefusalRight WriteRefused (separateCall a v w lent) (separateTests a v w (length lent)) lent
   pub quotient : (a : Algebra) (m : Map) (lent : List ℕ) → RefusalRight DivideRefused (quotientCall a m lent) (quotientTests a m (length lent)) lent
   pub decompose : (a : Algebra) (lent : List ℕ) → RefusalRight DecomposeRefused (decomposeCall a lent) (decomposeTests a (length lent)) lent
-  -- 11, whose condition `FactorTheorem` states, writes nothing either
+  -- 11, whose condition `SpaceTheorem` states, writes nothing either
   pub eleven : (a : Algebra) (lent : List ℕ) (x y : Element) → decomposeCall a lent .0 ≡ Irreducible x y → decomposeCall a lent .1 ≡ lent
   pub certify : (a : Algebra) (bytes : List ℕ) → ReasonRight CertifyRefused (certifyCall a bytes) (certifyTests a bytes)
