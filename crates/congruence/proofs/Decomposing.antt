@@ -2,7 +2,8 @@
 -- of the quotient by a congruence that is maximal for some pair; and that the answer and the lent bytes follow from what the search found.
 use Prim.Native.Nat.{ℕ, _*_, _≤_, _<_}
 use mathlib.Core.List.{List, []}
-use mathlib.Core.Path.{_≡_, refl, _∙_}
+use mathlib.Core.Path.{_≡_, refl, ap, _∙_}
+use native.Mathlib.Decide.{decLt}
 use native.Mathlib.Omega.{arith}
 use lib.Dec.{T}
 use lib.ListN.{length}
@@ -10,7 +11,7 @@ use Rattle.equivalence.specs.Equivalence.{Map}
 use Rattle.equivalence.specs.Lists.{concat}
 use Rattle.equivalence.specs.Lent.{written}
 use Rattle.equivalence.proofs.Refusals.{lowest-none, lowest-append, serve-passed, serve-failed, space-passed, space-refused}
-use Rattle.equivalence.proofs.Tests.{pick-yes, pick-no}
+use Rattle.equivalence.proofs.Tests.{T?, pick-yes, pick-no}
 use Rattle.equivalence.specs.Refusal.{lowest}
 use Rattle.equivalence.specs.declared.Check.{Check}
 use Rattle.equivalence.specs.declared.Check.the-variants.{Passed, Failed}
@@ -28,10 +29,12 @@ use Rattle.theory.specs.Splitting.{Splitting}
 use Rattle.theory.proofs.Factors.{split, unsplit, factorSpace-yes, factorSpace-no}
 use Rattle.theory.proofs.Quotients.{quotient-wellFormed, quotient-unsplit}
 use Rattle.theory.proofs.Separation.{MaximalFor}
-use Rattle.decomposition.specs.InnerFactored.{Factored}
+use Rattle.decomposition.specs.InnerFactored.{joinedPair, foundIn}
+use Rattle.decomposition.proofs.Finding.{listed-short, listed-all, found-reducible, found-irreducible as found-none}
 use Rattle.decomposition.specs.declared.Found.{Found}
 use Rattle.decomposition.specs.declared.Found.the-variants.{Factors as Counted, Short, Irreducible as Paired}
 use Rattle.congruence.specs.Calls.{irreducibleAnswer, decomposed, factorBytes, decomposeCall}
+use Rattle.congruence.specs.declared.Decomposed.{Decomposed}
 use Rattle.congruence.specs.declared.Decomposed.the-variants.{Factors, Irreducible, Refused as DecomposeRefused}
 
 module _ (a : Algebra) where
@@ -96,15 +99,39 @@ pub decompose-declined : (a : Algebra) (lent : List ℕ) {check : Check} (r : Re
 unfolding decomposeCall
 decompose-declined a lent r known e = declined DecomposeRefused _ _ _ lent (algebra-declines a _ r known e) r refl
 
-module _ (a : Algebra) (lent : List ℕ) {after : List ℕ} {found : Found} (f : Factored a found lent after)
+-- what was found, as the answer
+unfoldable answerOf : Found → Decomposed
+answerOf (Counted k) = Factors k
+answerOf Short = DecomposeRefused Space
+answerOf (Paired x y) = Irreducible x y
+
+-- the call answers what was found, and leaves the same bytes
+found-answered : (a : Algebra) → Accepted a → (lent : List ℕ) → decomposeCall a lent ≡ (answerOf (foundIn a lent .0), foundIn a lent .1)
+unfolding answerOf joinedPair
+found-answered a accepted lent =
+    elim (T? (reducible a)) [
+      | yes t ↦ elim (decLt (length lent) (length (listed a) * a .size)) [
+        | yes l ↦ rw (decompose-short a accepted lent t l, found-reducible a lent t, listed-short (a .size) (listed a) lent l)
+        | no l ↦
+            let room : length (listed a) * a .size ≤ length lent = omega (arith, l) in
+            rw (decompose-factors a accepted lent t room, found-reducible a lent t, listed-all (a .size) (listed a) lent room)
+      ]
+      | no t ↦ rw (decompose-irreducible a accepted lent t, found-none a lent t)
+    ]
+
+module _ (a : Algebra) (lent : List ℕ) {after : List ℕ} {found : Found} (f : (found, after) ≡ foundIn a lent)
     {check : Check} (known : check ≡ Passed) (e : check ≡ lowest (algebraTests a)) where
+  answered : {d : Decomposed} → answerOf found ≡ d → (d, after) ≡ decomposeCall a lent
+  answered is = rw (found-answered a (passed-accepted a known e) lent, ← f, is)
+
   pub found-factors : {k : ℕ} → found ≡ Counted k → (Factors k, after) ≡ decomposeCall a lent
-  found-factors {k} is =
-      let g : Factored a (Counted k) lent after = rw is at f in rw (decompose-factors a (passed-accepted a known e) lent (g .0) (g .2), g .1, g .3)
+  unfolding answerOf
+  found-factors is = answered (ap answerOf is)
 
   pub found-short : found ≡ Short → (DecomposeRefused Space, after) ≡ decomposeCall a lent
-  found-short is = let g : Factored a Short lent after = rw is at f in rw (decompose-short a (passed-accepted a known e) lent (g .0) (g .1), g .2)
+  unfolding answerOf
+  found-short is = answered (ap answerOf is)
 
   pub found-irreducible : {x y : Element} → found ≡ Paired x y → (Irreducible x y, after) ≡ decomposeCall a lent
-  found-irreducible {x} {y} is =
-      let g : Factored a (Paired x y) lent after = rw is at f in rw (decompose-irreducible a (passed-accepted a known e) lent (g .0), g .1, g .2)
+  unfolding answerOf
+  found-irreducible is = answered (ap answerOf is)

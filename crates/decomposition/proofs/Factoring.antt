@@ -1,7 +1,7 @@
 -- Decompose of an accepted algebra: what was gathered is a list of maps in a slice, and what is left of it are the factors; for n = 1 nothing is gathered.
 use Prim.Native.Nat.{ℕ, _+_, _-_, _*_, _≤_, _<_}
 use mathlib.Core.List.{List, []}
-use mathlib.Core.Path.{_≡_, refl, sym, ap, subst, _∙_}
+use mathlib.Core.Path.{_≡_, sym, ap, subst, _∙_}
 use native.Mathlib.Nat.{mul-le-mul-right}
 use native.Mathlib.Omega.{arith}
 use lib.ListN.{length, getD, drop}
@@ -24,9 +24,10 @@ use Rattle.equivalence.specs.declared.Element.{Element}
 use Rattle.decomposition.specs.InnerGathering.{GatheredRight}
 use Rattle.decomposition.specs.declared.gather.Collected.{Collected}
 use Rattle.decomposition.specs.declared.gather.Collected.the-variants.{All, Joined}
-use Rattle.decomposition.specs.InnerFactored.{Storage, NeededListed, Factored}
+use Rattle.decomposition.specs.InnerFactored.{Storage, listedIn, joinedPair, foundIn}
 use Rattle.decomposition.specs.declared.Found.{Found}
-use Rattle.decomposition.specs.declared.Found.the-variants.{Factors, Short, Irreducible}
+use Rattle.decomposition.specs.declared.Found.the-variants.{Irreducible}
+use Rattle.decomposition.proofs.Finding.{found-reducible, found-irreducible}
 
 module _ (a : Algebra) (accepted : Accepted a) where
   c : WellFormed a
@@ -102,20 +103,19 @@ module _ (a : Algebra) (accepted : Accepted a) where
             omega (arith, s .numbers, c .most),
           )
 
-      pub found-listed : (found : Found) (lent lent′ : List ℕ) → NeededListed (a .size) (mapList (a .size) k after) found lent lent′ → Factored a found lent lent′
-      found-listed found lent lent′ f = of-left found f
-        where
-          left : pruned (a .size) [] (mapList (a .size) k after) ≡ listed a
-          left = factors-left maps (all-gathered .1) (all-gathered .2) storage-maps
+      pub found-listed : (lent : List ℕ) {found : Found} {lent′ : List ℕ} → (found, lent′) ≡ listedIn (a .size) (pruned (a .size) [] (mapList (a .size) k after)) lent
+          → (found, lent′) ≡ foundIn a lent
+      found-listed lent f =
+          f ∙ ap (λ (ms : List Map). listedIn (a .size) ms lent) (factors-left maps (all-gathered .1) (all-gathered .2) storage-maps)
+          ∙ sym (found-reducible a lent (all-gathered .0))
 
-          of-left : (r : Found) → NeededListed (a .size) (mapList (a .size) k after) r lent lent′ → Factored a r lent lent′
-          of-left (Factors r) g = (all-gathered .0, rw (← left) (g .0), rw (← left) (g .1), rw (← left) (g .2))
-          of-left Short g = (all-gathered .0, rw (← left) (g .0), g .1)
-          of-left (Irreducible x y) g = absurd g
-
-    pub found-joined : {r : Collected} {x y : Element} → r ≡ Joined x y → (after lent : List ℕ) → GatheredRight a r maps after → Factored a (Irreducible x y) lent lent
-    found-joined e after lent g = let h = subst (λ (z : Collected). GatheredRight a z maps after) e g in (h .0, h .1, refl)
+    pub found-joined : {r : Collected} {x y : Element} → r ≡ Joined x y → (after lent : List ℕ) → GatheredRight a r maps after → (Irreducible x y, lent) ≡ foundIn a lent
+    unfolding joinedPair
+    found-joined e after lent g =
+        let h = subst (λ (z : Collected). GatheredRight a z maps after) e g in sym (found-irreducible a lent (h .0) ∙ rw (h .1))
 
   -- 11 for n = 1: nothing is gathered
-  pub found-one : a .size ≡ 1 → (out : List ℕ) → Factored a (Irreducible (record { 0 = 0 }) (record { 0 = 0 })) out out
-  found-one e out = (λ t. absurd (omega (arith, listed-law a c .few, split a c t .some)), commonPair-one a c e, refl)
+  pub found-one : a .size ≡ 1 → (lent : List ℕ) → (Irreducible (record { 0 = 0 }) (record { 0 = 0 }), lent) ≡ foundIn a lent
+  unfolding joinedPair
+  found-one e lent =
+      sym (found-irreducible a lent (λ t. absurd (omega (arith, listed-law a c .few, split a c t .some))) ∙ rw (commonPair-one a c e))

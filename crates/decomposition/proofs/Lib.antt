@@ -1,4 +1,5 @@
 pub mod Gathering
 pub mod Pruning
+pub mod Finding
 pub mod Writing
 pub mod Factoring

@@ -1,14 +1,11 @@
 -- The maps that are needed, written one after the other: what holds when those below number i stand in the lent list (`NeededWritten`), and the laws that start it, keep
 -- it and end it.
 use Prim.Native.Nat.{ℕ, _+_, _-_, _*_, _≤_, _<_}
-use mathlib.Core.Bool.{Bool, true, false, not}
 use mathlib.Core.List.{List, [], _∷_, _++_, map, map-append, append-nil}
 use mathlib.Core.Path.{_≡_, refl, sym, ap, _∙_}
 use native.Mathlib.Nat.{suc-mul, mul-le-mul, mul-le-mul-right}
 use native.Mathlib.Numerals.{add-one}
-use native.Mathlib.Decide.{decLt}
 use native.Mathlib.Omega.{arith}
-use lib.Dec.{ltb, ltb→lt, lt→ltb}
 use lib.ListN.{length, take, length-append, length-drop, length-map}
 use lib.Seq.{take-suc, length-take-le}
 use Rattle.equivalence.proofs.Laying.{rest-whole}
@@ -18,13 +15,14 @@ use Rattle.equivalence.specs.Lists.{concat}
 use Rattle.equivalence.specs.Lent.{stretch, written}
 use Rattle.equivalence.proofs.Maps.{IsMap, of-isMap}
 use Rattle.equivalence.proofs.Stretches.{concat-append}
-use Rattle.equivalence.proofs.Tests.{pick-yes, pick-no, T-of, not-T-of}
 use Rattle.equivalence.proofs.Writing.{written-length}
 use Rattle.decomposition.specs.InnerPruning.{chosen, ChosenMaps, NeededMaps}
-use Rattle.decomposition.specs.InnerFactored.{fitted, NeededListed}
+use Rattle.decomposition.specs.InnerFactored.{listedIn}
+use Rattle.decomposition.specs.declared.Found.{Found}
 use Rattle.decomposition.specs.declared.Found.the-variants.{Factors, Short}
+use Rattle.decomposition.proofs.Finding.{listed-short, listed-all}
 use Rattle.theory.specs.Decompose.{pruned}
-use Rattle.maplist.specs.InnerMapLists.{mapList, MapsListed}
+use Rattle.maplist.specs.InnerMapLists.{mapList}
 use Rattle.maplist.proofs.MapLists.{Begins, begins-sym, begins-take, onwards, laid-snoc, copied-laid}
 use borrow.Rule.Slice.PartMut.{midOf, putMid}
 use mir.Syntax.{w64}
@@ -102,71 +100,20 @@ module _ {n : ℕ} {maps : List ℕ} {k : ℕ} {needed : List ℕ} (c : ChosenMa
   chosen-length : length (chosen n maps k needed) ≡ k
   chosen-length = length-map (take k needed) (stretch n maps) ∙ length-take-le k needed (c .room)
 
-  -- and they are counted in a word
+  -- and their bytes are counted in a word
   pub chosen-counted : k ≤ 63 → Fits w64 (k * n)
   chosen-counted few = omega (arith, mul-le-mul {n₂ = 63} {m₂ = 64} few (c .most))
 
-module _ (n : ℕ) (ms : List Map) (lent : List ℕ) where
-  abbrev Fitted : Type 0
-  Fitted = Bool × List ℕ
+  module _ (lent : List ℕ) where
+    pub room-short : length lent < k * n → _≡_ {A = Found × List ℕ} (Short, lent) (listedIn n (chosen n maps k needed) lent)
+    room-short h = sym (listed-short n (chosen n maps k needed) lent (rw chosen-length h))
 
-  abbrev short : Fitted
-  short = (false, lent)
+    pub room-enough : k * n ≤ length lent → {after : List ℕ} → after ≡ written (concat (chosen n maps k needed)) lent
+        → _≡_ {A = Found × List ℕ} (Factors k, after) (listedIn n (chosen n maps k needed) lent)
+    room-enough h e = sym (listed-all n (chosen n maps k needed) lent (rw chosen-length h) ∙ rw (chosen-length, e))
 
-  abbrev whole-list : Fitted
-  whole-list = (true, written (concat ms) lent)
-
-  fitted-short : length lent < length ms * n → _≡_ {A = Fitted} short (fitted n ms lent)
-  unfolding fitted
-  fitted-short h = sym (pick-yes (ltb (length lent) (length ms * n)) short whole-list (lt→ltb (length lent) (length ms * n) h))
-
-  fitted-all : length ms * n ≤ length lent → _≡_ {A = Fitted} whole-list (fitted n ms lent)
-  unfolding fitted
-  fitted-all h = sym (pick-no (ltb (length lent) (length ms * n)) short whole-list (λ t. omega (arith, ltb→lt (length lent) (length ms * n) t)))
-
-  -- and back, by whether there was room
-  module _ {room : Bool} {after : List ℕ} (w : (room, after) ≡ fitted n ms lent) where
-    was-short : length lent < length ms * n → (room ≡ false) × (after ≡ lent)
-    was-short h = let e = w ∙ sym (fitted-short h) in (ap (λ (r : Fitted). r .0) e, ap (λ (r : Fitted). r .1) e)
-
-    was-all : length ms * n ≤ length lent → (room ≡ true) × (after ≡ written (concat ms) lent)
-    was-all h = let e = w ∙ sym (fitted-all h) in (ap (λ (r : Fitted). r .0) e, ap (λ (r : Fitted). r .1) e)
-
-    of-fitted-short : not room ≡ true → (length lent < length ms * n) × (after ≡ lent)
-    of-fitted-short t =
-        elim (decLt (length lent) (length ms * n)) [
-          | yes h ↦ (h, was-short h .1)
-          | no h ↦ absurd (not-T-of (ap not (was-all (omega (arith, h)) .0)) (T-of t))
-        ]
-
-    of-fitted-all : not room ≡ false → (length ms * n ≤ length lent) × (after ≡ written (concat ms) lent)
-    of-fitted-all t =
-        elim (decLt (length lent) (length ms * n)) [
-          | yes h ↦ absurd (not-T-of t (T-of (ap not (was-short h .0))))
-          | no h ↦ (omega (arith, h), was-all (omega (arith, h)) .1)
-        ]
-
-module _ {n : ℕ} {maps : List ℕ} {k : ℕ} {needed : List ℕ} (c : ChosenMaps n maps k needed) (lent : List ℕ) where
-  pub room-short : length lent < k * n → _≡_ {A = Bool × List ℕ} (false, lent) (fitted n (chosen n maps k needed) lent)
-  room-short h = fitted-short n (chosen n maps k needed) lent (rw (chosen-length c) h)
-
-  pub room-enough : k * n ≤ length lent → {after : List ℕ} → after ≡ written (concat (chosen n maps k needed)) lent
-      → _≡_ {A = Bool × List ℕ} (true, after) (fitted n (chosen n maps k needed) lent)
-  room-enough h e = rw e (fitted-all n (chosen n maps k needed) lent (rw (chosen-length c) h))
-
--- ---- what is needed of a list of maps
-
-module _ {n count : ℕ} {maps : List ℕ} (l : MapsListed n count maps) {kept : ℕ} {needed : List ℕ} (m : NeededMaps n count maps kept needed) where
-  abbrev left : List Map
-  left = pruned n [] (mapList n count maps)
-
-  module _ (lent : List ℕ) {room : Bool} {after : List ℕ} (w : (room, after) ≡ fitted n (chosen n maps kept needed) lent) where
-    of-left : (room, after) ≡ fitted n left lent
-    of-left = w ∙ ap (λ (ms : List Map). fitted n ms lent) (m .left)
-
-    pub needed-short : not room ≡ true → NeededListed n (mapList n count maps) Short lent after
-    needed-short t = of-fitted-short n left lent of-left t
-
-    pub needed-listed : not room ≡ false → NeededListed n (mapList n count maps) (Factors kept) lent after
-    needed-listed t =
-        let f = of-fitted-all n left lent of-left t in (sym (chosen-length (m .numbers)) ∙ ap length (m .left), f .0, f .1)
+-- what is needed of a list of maps
+pub needed-listed : {n count : ℕ} {maps : List ℕ} {kept : ℕ} {needed : List ℕ} (lent : List ℕ) {found : Found} {after : List ℕ}
+    → NeededMaps n count maps kept needed → (found, after) ≡ listedIn n (chosen n maps kept needed) lent
+    → (found, after) ≡ listedIn n (pruned n [] (mapList n count maps)) lent
+needed-listed {n} lent m e = e ∙ ap (λ (ms : List Map). listedIn n ms lent) (m .left)

@@ -1,15 +1,16 @@
 -- What Decompose finds of an algebra, and what it leaves in the lent list.
-use Prim.Native.Nat.{ℕ, _*_, _≤_, _<_}
-use mathlib.Core.Bool.{Bool, true, false}
+use Prim.Native.Nat.{ℕ, _*_}
+use mathlib.Core.Bool.{true, false}
 use mathlib.Core.Path.{_≡_}
-use mathlib.Core.List.{List, []}
-use lib.Dec.{T, ltb}
+use mathlib.Core.List.{List}
+use lib.Dec.{ltb}
 use lib.ListN.{length}
 use Rattle.equivalence.specs.Equivalence.{Map}
 use Rattle.equivalence.specs.Lists.{concat}
 use Rattle.equivalence.specs.Lent.{written}
+use Rattle.equivalence.specs.Order.{Pair}
 use Rattle.algebra.specs.Algebra.{Algebra}
-use Rattle.theory.specs.Decompose.{pruned, listed, reducible, commonPair}
+use Rattle.theory.specs.Decompose.{listed, reducible, commonPair}
 use Rattle.decomposition.specs.declared.Found.{Found}
 use Rattle.decomposition.specs.declared.Found.the-variants.{Factors, Short, Irreducible}
 
@@ -20,21 +21,14 @@ pub record Storage (maps suffixes met needed : List ℕ) : Type 0 where
   pub meets : length met ≡ 64
   pub numbers : length needed ≡ 64
 
--- the maps over n elements, one after the other at the start of the lent bytes, if so many are lent; and whether they are
-unfoldable pub fitted : ℕ → List Map → List ℕ → Bool × List ℕ
-fitted n ms lent = elim (ltb (length lent) (length ms * n)) [ true ↦ (false, lent) | false ↦ (true, written (concat ms) lent) ]
+-- the maps over n elements with their count, one after the other at the start of the lent bytes; or nothing, where fewer bytes are lent
+unfoldable pub listedIn : ℕ → List Map → List ℕ → Found × List ℕ
+listedIn n ms lent = elim (ltb (length lent) (length ms * n)) [ true ↦ (Short, lent) | false ↦ (Factors (length ms), written (concat ms) lent) ]
 
--- what is left of a list of maps, written if there is room for it, with the count; or nothing is
-abbrev pub NeededListed : ℕ → List Map → Found → List ℕ → List ℕ → Type 0
-NeededListed n ms (Factors k) lent after =
-    let left = pruned n [] ms in (k ≡ length left) × (length left * n ≤ length lent) × (after ≡ written (concat left) lent)
-NeededListed n ms Short lent after = (length lent < length (pruned n [] ms) * n) × (after ≡ lent)
-NeededListed n ms (Irreducible x y) lent after = ⊥
+-- the pair that 11 carries
+unfoldable pub joinedPair : Pair → Found
+joinedPair p = Irreducible (record { 0 = p.0 }) (record { 0 = p.1 })
 
--- the factors, one map after the other, with their count; that they take more bytes than are lent; or the pair that 11 carries: only the first
--- writes anything
-abbrev pub Factored : Algebra → Found → List ℕ → List ℕ → Type 0
-Factored a (Factors k) lent after =
-    T (reducible a) × (k ≡ length (listed a)) × (length (listed a) * a .size ≤ length lent) × (after ≡ written (concat (listed a)) lent)
-Factored a Short lent after = T (reducible a) × (length lent < length (listed a) * a .size) × (after ≡ lent)
-Factored a (Irreducible x y) lent after = (¬ T (reducible a)) × (commonPair a ≡ (x .0, y .0)) × (after ≡ lent)
+-- what is found of an algebra, and the lent bytes afterwards: the factors, if there is room for them; or the pair
+unfoldable pub foundIn : Algebra → List ℕ → Found × List ℕ
+foundIn a lent = elim (reducible a) [ true ↦ listedIn (a .size) (listed a) lent | false ↦ (joinedPair (commonPair a), lent) ]

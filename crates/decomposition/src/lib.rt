@@ -1,11 +1,14 @@
 // Decompose of an accepted algebra: congruences are gathered, those not needed are dropped, and what is left is written where it has room. Working
 // storage: 63 maps, the meets of 64 suffixes, one meet, and the numbers of the maps that are needed.
+ghost use mathlib.Core.List.{[]};
+ghost use mathlib.Core.Path.{_≡_};
 ghost use Prim.Native.Nat.{_+_, _*_, _≤_};
 ghost use lib.ListN.{length};
 ghost use Rattle.algebra.specs.Algebra.{algebraIn};
 ghost use Rattle.algebra.specs.Accepted.{Accepted};
+ghost use Rattle.theory.specs.Decompose.{pruned};
 ghost use Rattle.maplist.specs.InnerMapLists.{mapList, MapsListed};
-ghost use Rattle.decomposition.specs.InnerFactored.{Storage, NeededListed, Factored};
+ghost use Rattle.decomposition.specs.InnerFactored.{Storage, listedIn, foundIn};
 use crate::gather::Collected;
 use crate::gather::gather;
 use crate::prune::mark_needed;
@@ -39,13 +42,10 @@ fn list_needed(
     requires { ⌜ count * n + n ≤ length (now suffixes) ⌝ }
     requires { ⌜ n ≤ length (now met) ⌝ }
     requires { ⌜ count ≤ length (now needed) ⌝ }
-    ensures { λ r. ⌜ NeededListed n (mapList n count (now (maps .entry))) r (now (out .entry)) (now (out .exit)) ⌝ }
+    ensures { λ r. ⌜ (r, now (out .exit)) ≡ listedIn n (pruned n [] (mapList n count (now (maps .entry)))) (now (out .entry)) ⌝ }
 {
     let kept = mark_needed(n, count, maps, suffixes, met, needed);
-    if !write_if_room(n, maps, kept, needed, out) {
-        return Found::Short;
-    }
-    Found::Factors(kept as u8)
+    write_if_room(n, maps, kept, needed, out)
 }
 
 // `factors` for two elements or more, on lent storage: what is gathered stands in `maps`, and the numbers of the factors among it first in `needed`.
@@ -62,7 +62,7 @@ fn factors_in(
     requires { ⌜ Accepted (algebraIn n arities cells) ⌝ }
     requires { ⌜ 2 ≤ n ⌝ }
     requires { ⌜ Storage (now maps) (now suffixes) (now met) (now needed) ⌝ }
-    ensures { λ r. ⌜ Factored (algebraIn n (arities .entry) (cells .entry)) r (now (out .entry)) (now (out .exit)) ⌝ }
+    ensures { λ r. ⌜ (r, now (out .exit)) ≡ foundIn (algebraIn n (arities .entry) (cells .entry)) (now (out .entry)) ⌝ }
 {
     let gathered = gather(n, arities, cells, met, maps);
     match gathered {
@@ -84,7 +84,7 @@ fn factors_on(
 ) -> Found
     requires { ⌜ Accepted (algebraIn n arities cells) ⌝ }
     requires { ⌜ 2 ≤ n ⌝ }
-    ensures { λ r. ⌜ Factored (algebraIn n (arities .entry) (cells .entry)) r (now (out .entry)) (now (out .exit)) ⌝ }
+    ensures { λ r. ⌜ (r, now (out .exit)) ≡ foundIn (algebraIn n (arities .entry) (cells .entry)) (now (out .entry)) ⌝ }
 {
     factors_in(n, arities, cells, suffixes, met, maps, needed, out)
 }
@@ -93,7 +93,7 @@ fn factors_on(
 // answered with its pair, 0 and 0 for n = 1, whatever is lent. Where the factors are not the answer nothing is written.
 pub fn factors(n: usize, arities: &[u8], cells: &[u8], out: &mut [u8]) -> Found
     requires { ⌜ Accepted (algebraIn n arities cells) ⌝ }
-    ensures { λ r. ⌜ Factored (algebraIn n (arities .entry) (cells .entry)) r (now (out .entry)) (now (out .exit)) ⌝ }
+    ensures { λ r. ⌜ (r, now (out .exit)) ≡ foundIn (algebraIn n (arities .entry) (cells .entry)) (now (out .entry)) ⌝ }
 {
     if n < 2 {
         return Found::Irreducible(Element(0), Element(0));

@@ -5,7 +5,8 @@ ghost use lib.ListN.{length};
 ghost use Rattle.equivalence.specs.Lists.{concat};
 ghost use Rattle.equivalence.specs.Lent.{written};
 ghost use Rattle.decomposition.specs.InnerPruning.{chosen, ChosenMaps};
-ghost use Rattle.decomposition.specs.InnerFactored.{fitted};
+ghost use Rattle.decomposition.specs.InnerFactored.{listedIn};
+use crate::Found;
 use equivalence::blocks::copy;
 
 // Writes the maps whose numbers stand first in `needed`, so many as are kept: factor i from byte i × n on.
@@ -24,15 +25,15 @@ fn write_needed(n: usize, maps: &[u8], kept: usize, needed: &[u8], out: &mut [u8
     }
 }
 
-// Writes them where the list has room for all of them, and else nothing. Whether it has.
-pub fn write_if_room(n: usize, maps: &[u8], kept: usize, needed: &[u8], out: &mut [u8]) -> bool
+// Writes them where the list has room for all of them, and else nothing.
+pub fn write_if_room(n: usize, maps: &[u8], kept: usize, needed: &[u8], out: &mut [u8]) -> Found
     requires { ⌜ ChosenMaps n (now maps) kept (now needed) ⌝ }
     requires { ⌜ kept ≤ 63 ⌝ }
-    ensures { λ r. ⌜ (r, now (out .exit)) ≡ fitted n (chosen n (now (maps .entry)) kept (now (needed .entry))) (now (out .entry)) ⌝ }
+    ensures { λ r. ⌜ (r, now (out .exit)) ≡ listedIn n (chosen n (now (maps .entry)) kept (now (needed .entry))) (now (out .entry)) ⌝ }
 {
     if out.len() < kept * n {
-        return false;
+        return Found::Short;
     }
     write_needed(n, maps, kept, needed, out);
-    true
+    Found::Factors(kept as u8)
 }

@@ -13,6 +13,9 @@ returns c = search room-short
 write-needed-requires : tie.Need-write-needed-requires
 write-needed-requires c κs = search needs
 
+cast-t12 : tie.Need-cast-t12
+cast-t12 c = search needs
+
 same-length : tie.Need-same-length
 same-length c = search needs
 
@@ -21,4 +24,4 @@ returns-2 c = search room-enough
 
 pub write-if-room-spec : {M : Type 1} → statement M
 write-if-room-spec =
-    tie.close (tie.spec mul-if1 returns write-needed-requires same-length returns-2)
+    tie.close (tie.spec mul-if1 returns write-needed-requires cast-t12 same-length returns-2)
