@@ -9,7 +9,7 @@ use Rattle.algebra.specs.Algebra.{cellCount, operationsOf, operations, argument
 use Rattle.algebra.specs.Congruence.{respects, isCongruence, congruences}
 use Rattle.theory.specs.Samples.{u, c, bare, minimum}
 use Rattle.theory.specs.Certify.{isMaximalFor, certified}
-use Rattle.theory.specs.Decompose.{added, gathered, pruned, listed, reducible, commonPair}
+use Rattle.theory.specs.Decompose.{added, gathered, pruned, listed, reducible, factorSpace, commonPair}
 use Rattle.theory.specs.Extremal.{holdsAll, above, generated, contained, separated}
 use Rattle.quotient.specs.Quotient.{quotientTable, quotientCells}
 
@@ -35,12 +35,14 @@ pub record TheoryExamples : Type 0 where
       × (certified u ((0 ∷ 1 ∷ 0 ∷ 1 ∷ []) ∷ (0 ∷ 0 ∷ 2 ∷ 2 ∷ []) ∷ (0 ∷ 1 ∷ 0 ∷ 1 ∷ []) ∷ []) ≡ false)
       × (certified u ((0 ∷ 1 ∷ 2 ∷ 3 ∷ []) ∷ []) ≡ false)
       × (certified c ((0 ∷ 1 ∷ 2 ∷ 3 ∷ []) ∷ []) ≡ true)
+  -- what Decompose wants of space: two maps over four elements, and nothing
+  pub space : (factorSpace u ≡ 8) × (factorSpace c ≡ 0)
   pub divided : quotientCells u (0 ∷ 1 ∷ 0 ∷ 1 ∷ []) ≡ 1 ∷ 0 ∷ []
 
 pub theory-examples : TheoryExamples
 unfolding upTo every any first holds concat mapOf keep maps namesOf blocks blockOf best meetAll inside same isIdentity isMap notLater notLaterOn pairs
     identity whole meet firstHeld isCongruence operations operationsOf cellCount arguments place value respects quotientCells quotientTable
-    congruences holdsAll above generated contained separated added gathered pruned listed commonPair reducible certified isMaximalFor
+    congruences holdsAll above generated contained separated added gathered pruned listed commonPair reducible factorSpace certified isMaximalFor
 theory-examples =
     record {
       one = refl;
@@ -56,5 +58,6 @@ theory-examples =
       eleven = (refl, refl);
       closure = refl;
       certificates = (refl, refl, refl, refl, refl, refl);
+      space = (refl, refl);
       divided = refl;
     }
