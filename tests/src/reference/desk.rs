@@ -50,8 +50,6 @@ struct Desk {
     algebra: Reading,
     requested: bool,
     reference: Reference<Plain>,
-    /// Decompose's answer for this algebra, once asked.
-    decomposed: Option<Answer>,
 }
 
 impl Desk {
@@ -87,7 +85,7 @@ impl Desk {
             return self.end(14);
         };
         let (arities, cells) = (self.algebra.arities.clone(), self.algebra.cells.clone());
-        let mut lent = vec![0; n * n];
+        let lent = vec![0; n * n];
         match word.as_str() {
             "generate" => {
                 let mut pairs = Vec::new();
@@ -122,11 +120,7 @@ impl Desk {
                 self.map_or_refusal(answer, n);
             }
             "decompose" if items.is_empty() => {
-                if self.decomposed.is_none() {
-                    lent.truncate((n - 1) * n);
-                    self.decomposed = Some(self.reference.decompose(n, &arities, &cells, &lent));
-                }
-                let answer = self.decomposed.clone().unwrap();
+                let answer = self.reference.decompose(n, &arities, &cells, &lent);
                 self.factors_or_refusal(answer, n);
             }
             "quotient" => {

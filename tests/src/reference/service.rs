@@ -27,14 +27,23 @@ impl Answer {
     }
 }
 
-/// The services over one engine. It keeps the engine of the last algebra.
+/// What Decompose finds in an accepted algebra.
+enum Found {
+    Factors(Vec<Map>),
+    /// The first pair that all congruences but the identity hold; 0 0 for n = 1.
+    Irreducible(usize, usize),
+}
+
+/// The services over one engine. It keeps the engine of the last algebra, and
+/// what Decompose finds in it once that is asked.
 pub struct Reference<E> {
     last: Option<(Algebra, Rc<E>)>,
+    found: Option<Rc<Found>>,
 }
 
 impl<E: Engine> Default for Reference<E> {
     fn default() -> Self {
-        Reference { last: None }
+        Reference { last: None, found: None }
     }
 }
 
@@ -49,7 +58,13 @@ impl<E: Engine> Reference<E> {
         let algebra = Algebra { n, arities: arities.to_vec(), cells: cells.to_vec() };
         let engine = Rc::new(E::new(&algebra));
         self.last = Some((algebra, engine.clone()));
+        self.found = None;
         engine
+    }
+
+    fn find(&mut self, n: usize, arities: &[u8], cells: &[u8]) -> Rc<Found> {
+        let engine = self.engine(n, arities, cells);
+        self.found.get_or_insert_with(|| Rc::new(find(&*engine, n))).clone()
     }
 
     pub fn generate(&mut self, n: usize, arities: &[u8], cells: &[u8], pairs: &[u8], lent: &[u8]) -> Answer {
@@ -117,13 +132,12 @@ impl<E: Engine> Reference<E> {
         if lent.len() < (n - 1) * n {
             return Answer::refused(9, lent);
         }
-        let engine = self.engine(n, arities, cells);
-        let factors = factors(&*engine, n);
-        if factors.is_empty() || factors == [identity(n)] {
-            let (x, y) = if n == 1 { (0, 0) } else { engine.common_pair().unwrap() };
-            return Answer::refused(11 + 65_536 * x as u32 + 16_777_216 * y as u32, lent);
+        match &*self.find(n, arities, cells) {
+            Found::Irreducible(x, y) => {
+                Answer::refused(11 + 65_536 * *x as u32 + 16_777_216 * *y as u32, lent)
+            }
+            Found::Factors(list) => Answer::written(list.len(), &list.concat(), lent),
         }
-        Answer::written(factors.len(), &factors.concat(), lent)
     }
 
     pub fn quotient(&mut self, n: usize, arities: &[u8], cells: &[u8], map: &[u8], lent: &[u8]) -> Answer {
@@ -193,8 +207,8 @@ fn meets_in_identity<E: Engine>(engine: &E, n: usize, list: &[Map]) -> bool {
     meet == identity(n)
 }
 
-/// Decompose's list after the dropping.
-fn factors<E: Engine>(engine: &E, n: usize) -> Vec<Map> {
+/// Decompose's list after the dropping, or the pair of an irreducible algebra.
+fn find<E: Engine>(engine: &E, n: usize) -> Found {
     let mut list: Vec<Map> = Vec::new();
     let mut meet = all(n);
     while meet != identity(n) {
@@ -212,7 +226,11 @@ fn factors<E: Engine>(engine: &E, n: usize) -> Vec<Map> {
             i += 1;
         }
     }
-    list
+    if list.is_empty() || list == [identity(n)] {
+        let (x, y) = if n == 1 { (0, 0) } else { engine.common_pair().unwrap() };
+        return Found::Irreducible(x, y);
+    }
+    Found::Factors(list)
 }
 
 /// Meet and Join need no algebra; n and two maps.
