@@ -626,12 +626,13 @@ static void first_pair(const uint8_t *map, unsigned n, unsigned *v, unsigned *w)
 }
 
 /* Drops from first to last what the rest can spare: a member is met with those
- * kept before it and all after it. Writes the kept ones and counts them. */
-static unsigned keep_needed(const uint8_t list[][MAX_SIZE], unsigned count, unsigned n, uint8_t *out)
+ * kept before it and all after it. Lists the places of the kept ones and counts
+ * them. */
+static unsigned keep_needed(const uint8_t list[][MAX_SIZE], unsigned count, unsigned n, uint8_t *kept)
 {
     static const uint8_t all[MAX_SIZE];
     uint8_t after[MAX_SIZE][MAX_SIZE], before[MAX_SIZE], rest[MAX_SIZE];
-    unsigned kept = 0;
+    unsigned kept_count = 0;
     memcpy(after[count - 1], all, n);
     for (unsigned i = count - 1; i > 0; i--) {
         meet(after[i - 1], after[i], list[i], n);
@@ -640,12 +641,11 @@ static unsigned keep_needed(const uint8_t list[][MAX_SIZE], unsigned count, unsi
     for (unsigned i = 0; i < count; i++) {
         meet(rest, before, after[i], n);
         if (!is_identity(rest, n)) {
-            memcpy(out + (size_t)kept * n, list[i], n);
-            kept++;
+            kept[kept_count++] = (uint8_t)i;
             meet(before, before, list[i], n);
         }
     }
-    return kept;
+    return kept_count;
 }
 
 uint32_t baseline_decompose(size_t n, const uint8_t *arities, size_t arities_len,
@@ -653,14 +653,11 @@ uint32_t baseline_decompose(size_t n, const uint8_t *arities, size_t arities_len
                             uint8_t *out, size_t out_len)
 {
     struct algebra al;
-    uint8_t list[MAX_SIZE][MAX_SIZE], joined[MAX_SIZE] = {0};
+    uint8_t list[MAX_SIZE][MAX_SIZE], kept[MAX_SIZE], joined[MAX_SIZE] = {0};
     unsigned count = 0;
     const uint32_t reason = accept(&al, n, arities, arities_len, cells, cells_len);
     if (reason) {
         return reason;
-    }
-    if (out_len < (n - 1) * n) {
-        return 9;
     }
     if (n == 1) {
         return 11;
@@ -675,5 +672,13 @@ uint32_t baseline_decompose(size_t n, const uint8_t *arities, size_t arities_len
         meet(joined, joined, list[count], al.n);
         count++;
     }
-    return 256 * keep_needed((const uint8_t(*)[MAX_SIZE])list, count, al.n, out);
+    count = keep_needed((const uint8_t(*)[MAX_SIZE])list, count, al.n, kept);
+    /* Nothing is written before this is tested. */
+    if (out_len < count * n) {
+        return 9;
+    }
+    for (unsigned i = 0; i < count; i++) {
+        memcpy(out + i * n, list[kept[i]], n);
+    }
+    return 256 * count;
 }

@@ -277,11 +277,11 @@ fn document_refusals(library: Library, suite: &mut Suite) {
         ("9: contained", 4, none(), none(), Question::Contained(vec![0, 0, 0, 0]), 3, 9),
         ("9 before 10", 4, none(), none(), Question::Separate(1, 1), 3, 9),
         ("9: decompose", 3, none(), none(), Question::Decompose, 5, 9),
-        ("9 before 11", 2, none(), none(), Question::Decompose, 1, 9),
         ("10: 1 1", 4, none(), none(), Question::Separate(1, 1), 4, 10),
         ("10: n = 1", 1, none(), none(), Question::Separate(0, 0), 1, 10),
         ("11: n = 2", 2, none(), none(), Question::Decompose, 2, 11 + 16_777_216),
         ("11: n = 1, nothing lent", 1, none(), none(), Question::Decompose, 0, 11),
+        ("11: n = 2, nothing lent", 2, none(), none(), Question::Decompose, 0, 11 + 16_777_216),
     ];
     for (name, n, arities, cells, question, length, number) in rows {
         let lent = suite.rng.bytes(length);

@@ -9,7 +9,7 @@ use outside_tests::reference::brute::{self, Brute};
 use outside_tests::reference::desk::transcript;
 use outside_tests::reference::map;
 use outside_tests::reference::plain::Plain;
-use outside_tests::reference::service::{prefer, Reference};
+use outside_tests::reference::service::{prefer, Answer, Reference};
 use outside_tests::reference::Engine;
 use outside_tests::report::{Run, Suite};
 
@@ -20,11 +20,7 @@ fn examples<E: Engine>(s: &mut Suite) {
     let r = &mut Reference::<E>::default();
     let (u, c, one): (&[u8], &[u8], &[u8]) = (&[1, 0, 3, 2], &[1, 2, 3, 0], &[1]);
     let lent = [7u8; 14];
-    let show = |s: &mut Suite,
-                what: &str,
-                answer: outside_tests::reference::service::Answer,
-                number: u32,
-                written: &[u8]| {
+    let show = |s: &mut Suite, what: &str, answer: Answer, number: u32, written: &[u8]| {
         let mut after = lent.to_vec();
         after[..written.len()].copy_from_slice(written);
         s.same(what, (answer.number, answer.lent), (number, after));
@@ -98,6 +94,36 @@ fn examples<E: Engine>(s: &mut Suite) {
     s.same("prefer a bad map", prefer(3, &[0, 1, 2], &[0, 2, 2]), &[][..]);
 }
 
+/// Document 02's second request, for one engine: the factors of U, of three
+/// elements and of minimum take 8, 6 and 6 bytes; C, two elements and one want
+/// none.
+fn factor_space<E: Engine>(s: &mut Suite) {
+    let r = &mut Reference::<E>::default();
+    let minimum: &[u8] = &[0, 0, 0, 0, 1, 1, 0, 1, 2];
+    let rows: [(usize, &[u8], &[u8], u32, &[u8]); 6] = [
+        (4, &[1], &[1, 0, 3, 2], 512, &[0, 1, 0, 1, 0, 0, 2, 2]),
+        (3, &[], &[], 512, &[0, 1, 0, 0, 0, 2]),
+        (3, &[2], minimum, 512, &[0, 1, 1, 0, 0, 2]),
+        (4, &[1], &[1, 2, 3, 0], 11 + 2 * 16_777_216, &[]),
+        (2, &[], &[], 11 + 16_777_216, &[]),
+        (1, &[], &[], 11, &[]),
+    ];
+    for (n, arities, cells, number, written) in rows {
+        for length in 0..20 {
+            let lent = vec![7; length];
+            let found = r.decompose(n, arities, cells, &lent);
+            let mut wanted = Answer { number: 9, lent };
+            if length >= written.len() {
+                wanted.number = number;
+                wanted.lent[..written.len()].copy_from_slice(written);
+            }
+            s.same(&format!("n = {n}, {cells:?}, {length} bytes"), found, wanted);
+        }
+    }
+    let damaged = r.decompose(4, &[1], &[1, 0, 3, 4], &[]);
+    s.same("6 before 9", damaged, Answer { number: 6, lent: vec![] });
+}
+
 /// Whether both engines agree on everything about one algebra.
 fn agree(s: &mut Suite, a: &Algebra, maps: &[map::Map]) {
     let (brute, plain) = (Brute::new(a), Plain::new(a));
@@ -168,6 +194,8 @@ fn many(s: &mut Suite, limit: usize, cells: usize, times: usize) {
 pub fn suites(run: &mut Run) {
     run.suite("reference: document 01's examples, by brute force", examples::<Brute>);
     run.suite("reference: document 01's examples, plain", examples::<Plain>);
+    run.suite("reference: document 02's space for factors, by brute force", factor_space::<Brute>);
+    run.suite("reference: document 02's space for factors, plain", factor_space::<Plain>);
     run.suite("reference: brute force and plain agree, n to 5", |s| many(s, 5, 300, 6000));
     run.suite("reference: brute force and plain agree, n to 6", |s| many(s, 6, 250, 1000));
     run.suite("reference: pair places", |s| {

@@ -1,6 +1,6 @@
-//! A reference implementation of document 01 and of document 02's first request,
-//! written from these alone and for plainness: every service, twice where a
-//! definition can be searched.
+//! A reference implementation of document 01 and of document 02's first two
+//! requests, written from these alone and for plainness: every service, twice
+//! where a definition can be searched.
 //!
 //! - `map`: maps, pairs and their order
 //! - `algebra`: tables, reasons 1 to 6, "is a congruence"

@@ -64,7 +64,7 @@ impl<E: Engine> Reference<E> {
 
     fn find(&mut self, n: usize, arities: &[u8], cells: &[u8]) -> Rc<Found> {
         let engine = self.engine(n, arities, cells);
-        self.found.get_or_insert_with(|| Rc::new(find(&*engine, n))).clone()
+        self.found.get_or_insert_with(|| Rc::new(factors_or_pair(&*engine, n))).clone()
     }
 
     pub fn generate(&mut self, n: usize, arities: &[u8], cells: &[u8], pairs: &[u8], lent: &[u8]) -> Answer {
@@ -129,14 +129,20 @@ impl<E: Engine> Reference<E> {
         if refusal != 0 {
             return Answer::refused(refusal, lent);
         }
-        if lent.len() < (n - 1) * n {
-            return Answer::refused(9, lent);
-        }
         match &*self.find(n, arities, cells) {
             Found::Irreducible(x, y) => {
                 Answer::refused(11 + 65_536 * *x as u32 + 16_777_216 * *y as u32, lent)
             }
+            Found::Factors(list) if lent.len() < list.len() * n => Answer::refused(9, lent),
             Found::Factors(list) => Answer::written(list.len(), &list.concat(), lent),
+        }
+    }
+
+    /// How many factors an accepted algebra has: 0 if it is irreducible.
+    pub fn factor_count(&mut self, n: usize, arities: &[u8], cells: &[u8]) -> usize {
+        match &*self.find(n, arities, cells) {
+            Found::Irreducible(..) => 0,
+            Found::Factors(list) => list.len(),
         }
     }
 
@@ -208,7 +214,7 @@ fn meets_in_identity<E: Engine>(engine: &E, n: usize, list: &[Map]) -> bool {
 }
 
 /// Decompose's list after the dropping, or the pair of an irreducible algebra.
-fn find<E: Engine>(engine: &E, n: usize) -> Found {
+fn factors_or_pair<E: Engine>(engine: &E, n: usize) -> Found {
     let mut list: Vec<Map> = Vec::new();
     let mut meet = all(n);
     while meet != identity(n) {
