@@ -111,16 +111,23 @@ pub fn expected(reference: &mut Reference<Plain>, call: &Call) -> Answer {
     }
 }
 
-struct Comparison<'a> {
-    library: Library,
-    reference: Reference<Plain>,
-    suite: &'a mut Suite,
-    reducible: u32,
+pub struct Comparison<'a> {
+    pub library: Library,
+    pub reference: Reference<Plain>,
+    pub suite: &'a mut Suite,
+    /// What Decompose answered: factors, 9, 11.
+    answered: u32,
+    short: u32,
     irreducible: u32,
 }
 
-impl Comparison<'_> {
-    fn call(&mut self, call: &Call) -> Answer {
+impl<'a> Comparison<'a> {
+    pub fn new(library: Library, suite: &'a mut Suite) -> Comparison<'a> {
+        let reference = Reference::default();
+        Comparison { library, reference, suite, answered: 0, short: 0, irreducible: 0 }
+    }
+
+    pub fn call(&mut self, call: &Call) -> Answer {
         let wanted = expected(&mut self.reference, call);
         let (answer, untouched) = ask(&self.library, call, &mut self.suite.rng);
         self.suite.check(answer == wanted && untouched, || {
@@ -131,7 +138,7 @@ impl Comparison<'_> {
         answer
     }
 
-    fn of(&mut self, algebra: &Algebra, question: Question, lent: usize) -> Answer {
+    pub fn of(&mut self, algebra: &Algebra, question: Question, lent: usize) -> Answer {
         let lent = self.suite.rng.bytes(lent);
         let (n, arities, cells) = (algebra.n, algebra.arities.clone(), algebra.cells.clone());
         self.call(&Call { n, arities, cells, question, lent })
@@ -174,23 +181,65 @@ impl Comparison<'_> {
         self.of(algebra, Question::Separate(v, w), length);
     }
 
+    /// A length to lend to Decompose: mostly what the factors take or a byte
+    /// more or fewer, nothing, or what any list takes.
+    fn factor_length(&mut self, algebra: &Algebra) -> usize {
+        let Algebra { n, arities, cells } = algebra;
+        let exact = self.reference.factor_count(*n, arities, cells) * n;
+        let most = (n - 1) * n;
+        let rng = &mut self.suite.rng;
+        match rng.below(8) {
+            0 => 0,
+            1 => exact.saturating_sub(1),
+            2 => exact + 1,
+            3 => most,
+            4 => most + rng.below(70),
+            5 => rng.below(most + 1),
+            _ => exact,
+        }
+    }
+
     fn decompose(&mut self, algebra: &Algebra) {
-        let n = algebra.n;
-        let length = self.length((n - 1) * n);
+        let length = self.factor_length(algebra);
         let answer = self.of(algebra, Question::Decompose, length);
         match answer.number & 255 {
-            0 => self.reducible += 1,
+            0 => self.answered += 1,
+            9 => self.short += 1,
             11 => self.irreducible += 1,
             _ => {}
         }
     }
 
-    /// Decompose must have met both kinds of algebras.
+    /// Decompose must have met both kinds of algebras, and too little space.
     fn check_kinds(&mut self) {
-        let (reducible, irreducible) = (self.reducible, self.irreducible);
-        self.suite.check(reducible.min(irreducible) * 10 >= reducible.max(irreducible), || {
-            format!("  too few of a kind: {reducible} reducible, {irreducible} irreducible")
+        let (answered, short, irreducible) = (self.answered, self.short, self.irreducible);
+        let most = answered.max(short).max(irreducible);
+        self.suite.check(answered.min(short).min(irreducible) * 10 >= most, || {
+            format!("  too few of a kind: {answered} lists, {short} without space, {irreducible} irreducible")
         });
+    }
+
+    /// A call about a random small algebra with nothing bad in it; Decompose
+    /// may lack space.
+    fn good_call(&mut self, limit: usize) -> Call {
+        let algebra = algebras::any(limit, 300, &mut self.suite.rng).algebra;
+        let n = algebra.n;
+        let rng = &mut self.suite.rng;
+        let more = if rng.once_in(2) { 0 } else { rng.below(20) };
+        let (question, length) = match rng.below(4) {
+            0 => {
+                let count = rng.below(4);
+                (Question::Generate((0..2 * count).map(|_| rng.below(n) as u8).collect()), n + more)
+            }
+            1 => {
+                let most = rng.within(1, n);
+                (Question::Contained(rng.map(n, most)), n + more)
+            }
+            2 => (Question::Separate(rng.below(n), rng.below(n)), n + more),
+            _ => (Question::Decompose, self.factor_length(&algebra)),
+        };
+        let lent = self.suite.rng.bytes(length);
+        Call { n, arities: algebra.arities, cells: algebra.cells, question, lent }
     }
 
     fn each(&mut self, algebra: &Algebra, times: usize) {
@@ -353,39 +402,29 @@ fn damage(call: &mut Call, rng: &mut Rng) {
     }
 }
 
-/// A good call about a random small algebra.
-fn good_call(rng: &mut Rng, limit: usize) -> Call {
-    let algebra = algebras::any(limit, 300, rng).algebra;
-    let n = algebra.n;
-    let (question, wanted) = match rng.below(4) {
-        0 => {
-            let count = rng.below(4);
-            (Question::Generate((0..2 * count).map(|_| rng.below(n) as u8).collect()), n)
-        }
-        1 => {
-            let most = rng.within(1, n);
-            (Question::Contained(rng.map(n, most)), n)
-        }
-        2 => (Question::Separate(rng.below(n), rng.below(n)), n),
-        _ => (Question::Decompose, (n - 1) * n),
-    };
-    let more = if rng.once_in(2) { 0 } else { rng.below(20) };
-    let lent = rng.bytes(wanted + more);
-    Call { n, arities: algebra.arities, cells: algebra.cells, question, lent }
+/// Decompose of an accepted algebra with so many bytes lent.
+pub fn ask_decompose(library: &Library, algebra: &Algebra, length: usize, rng: &mut Rng) -> (Answer, bool) {
+    let lent = rng.bytes(length);
+    let Algebra { n, arities, cells } = algebra.clone();
+    ask(library, &Call { n, arities, cells, question: Question::Decompose, lent }, rng)
+}
+
+/// The number of factors, which a call with room for any list says; 0 for 11.
+pub fn count_of(library: &Library, algebra: &Algebra, rng: &mut Rng) -> usize {
+    let number = ask_decompose(library, algebra, (algebra.n - 1) * algebra.n, rng).0.number;
+    number.to_le_bytes()[1] as usize
 }
 
 /// What demand 3 says of Decompose, checked without the reference's own list.
+/// Nothing is lent that the factors do not take.
 fn demand_three(library: Library, suite: &mut Suite, one: &Named) {
     let a = &one.algebra;
     let (n, name) = (a.n, &one.name);
     let engine = Plain::new(a);
-    let call = |algebra: &Algebra, question, rng: &mut Rng| {
-        let lent = rng.bytes(algebra.n * algebra.n);
-        let (arities, cells) = (algebra.arities.clone(), algebra.cells.clone());
-        ask(&library, &Call { n: algebra.n, arities, cells, question, lent }, rng).0
-    };
-    let answer = call(a, Question::Decompose, &mut suite.rng);
+    let known = count_of(&library, a, &mut suite.rng);
+    let (answer, _) = ask_decompose(&library, a, known * n, &mut suite.rng);
     let [reason, count, x, y] = answer.number.to_le_bytes();
+    suite.same("the count where just its space is lent", count as usize, known);
     if reason == 11 {
         let pair = if n == 1 { Some((0, 0)) } else { engine.common_pair() };
         suite.check(pair == Some((x as usize, y as usize)), || {
@@ -393,7 +432,7 @@ fn demand_three(library: Library, suite: &mut Suite, one: &Named) {
         });
         return;
     }
-    let list: Vec<&[u8]> = answer.lent[..count as usize * n].chunks(n).collect();
+    let list: Vec<&[u8]> = answer.lent.chunks(n).collect();
     let meet = |list: &[&[u8]]| list.iter().fold(vec![0; n], |m, f| engine.meet(&m, f));
     let mut good = reason == 0 && count > 0 && meet(&list) == identity(n);
     let without = |i: usize| [&list[..i], &list[i + 1..]].concat();
@@ -407,7 +446,7 @@ fn demand_three(library: Library, suite: &mut Suite, one: &Named) {
         let (cells, b) = engine.quotient(factor);
         let quotient = Algebra { n: b, arities: a.arities.clone(), cells };
         let pair = Plain::new(&quotient).common_pair();
-        let again = call(&quotient, Question::Decompose, &mut suite.rng);
+        let (again, _) = ask_decompose(&library, &quotient, 0, &mut suite.rng);
         let irreducible = again.number & 255 == 11;
         suite.check(irreducible && pair.is_some(), || {
             format!("  {name} {a:?}\n  factor {factor:?} has the quotient {quotient:?}\n  {again:?}, common pair {pair:?}")
@@ -448,10 +487,9 @@ fn within_a_second(library: Library, suite: &mut Suite) {
         list.push(algebras::any(64, 32_768, &mut suite.rng));
     }
     for one in list {
-        let Algebra { n, arities, cells } = one.algebra.clone();
-        let call = Call { n, arities, cells, question: Question::Decompose, lent: vec![0; n * n] };
+        let n = one.algebra.n;
         let begin = Instant::now();
-        ask(&library, &call, &mut suite.rng);
+        ask_decompose(&library, &one.algebra, n * n, &mut suite.rng);
         let taken = begin.elapsed();
         suite.check(taken.as_secs_f64() < 1.0, || format!("  {}: {taken:?}, {:?}", one.name, one.algebra));
     }
@@ -460,20 +498,17 @@ fn within_a_second(library: Library, suite: &mut Suite) {
 /// All suites of one library. `share` divides the number of random cases.
 pub fn suites(run: &mut Run, library: Library, share: usize) {
     let name = |part: &str| format!("{}: {part}", library.name);
-    fn with<'a>(library: Library, suite: &'a mut Suite) -> Comparison<'a> {
-        Comparison { library, reference: Reference::default(), suite, reducible: 0, irreducible: 0 }
-    }
     run.suite(&name("document 01's examples"), |s| document_examples(library, s));
     run.suite(&name("document 01's refusals and edges"), |s| document_refusals(library, s));
     run.suite(&name("structured algebras, n to 30"), |s| {
         let list = algebras::structured(30, &mut s.rng);
-        let mut comparison = with(library, s);
+        let mut comparison = Comparison::new(library, s);
         for one in list {
             comparison.each(&one.algebra, 6);
         }
     });
     run.suite(&name("random algebras, n to 6"), |s| {
-        let mut comparison = with(library, s);
+        let mut comparison = Comparison::new(library, s);
         for _ in 0..20_000 / share {
             let one = algebras::any(6, 300, &mut comparison.suite.rng);
             comparison.each(&one.algebra, 4);
@@ -484,7 +519,7 @@ pub fn suites(run: &mut Run, library: Library, share: usize) {
         comparison.check_kinds();
     });
     run.suite(&name("random algebras, n to 20"), |s| {
-        let mut comparison = with(library, s);
+        let mut comparison = Comparison::new(library, s);
         for _ in 0..2400 / share {
             let one = algebras::any(20, 8000, &mut comparison.suite.rng);
             comparison.each(&one.algebra, 6);
@@ -495,7 +530,7 @@ pub fn suites(run: &mut Run, library: Library, share: usize) {
         comparison.check_kinds();
     });
     run.suite(&name("random algebras, n to 64"), |s| {
-        let mut comparison = with(library, s);
+        let mut comparison = Comparison::new(library, s);
         for _ in 0..300 / share {
             let one = algebras::any(64, 9000, &mut comparison.suite.rng);
             comparison.each(&one.algebra, 8);
@@ -507,13 +542,13 @@ pub fn suites(run: &mut Run, library: Library, share: usize) {
     });
     run.suite(&name("full-size algebras"), |s| {
         let list = algebras::workloads(&mut s.rng);
-        let mut comparison = with(library, s);
+        let mut comparison = Comparison::new(library, s);
         for one in list {
             comparison.each(&one.algebra, 10);
         }
     });
     run.suite(&name("every pair and every short map, n to 4"), |s| {
-        let mut comparison = with(library, s);
+        let mut comparison = Comparison::new(library, s);
         for round in 0..300 {
             let one = algebras::any(4, 100, &mut comparison.suite.rng);
             let n = one.algebra.n;
@@ -533,7 +568,7 @@ pub fn suites(run: &mut Run, library: Library, share: usize) {
         }
     });
     run.suite(&name("every length of the output"), |s| {
-        let mut comparison = with(library, s);
+        let mut comparison = Comparison::new(library, s);
         for _ in 0..200 {
             let one = algebras::any(7, 300, &mut comparison.suite.rng);
             let n = one.algebra.n;
@@ -547,11 +582,11 @@ pub fn suites(run: &mut Run, library: Library, share: usize) {
         }
     });
     run.suite(&name("bad input"), |s| {
-        let mut comparison = with(library, s);
+        let mut comparison = Comparison::new(library, s);
         let mut refused = [0u32; 256];
         for _ in 0..300_000 / share {
+            let mut call = comparison.good_call(5);
             let rng = &mut comparison.suite.rng;
-            let mut call = good_call(rng, 5);
             for _ in 0..rng.within(1, 3) {
                 damage(&mut call, rng);
             }
@@ -566,7 +601,7 @@ pub fn suites(run: &mut Run, library: Library, share: usize) {
         }
     });
     run.suite(&name("long pair lists"), |s| {
-        let mut comparison = with(library, s);
+        let mut comparison = Comparison::new(library, s);
         for length in [2000, 9999, 10_000, 65_536, 65_537, 131_072] {
             let one = algebras::lifted(40, 6, &[2, 1], &mut comparison.suite.rng);
             let pairs: Vec<u8> = (0..length).map(|i| (i % 7) as u8).collect();
@@ -602,10 +637,9 @@ pub fn suites(run: &mut Run, library: Library, share: usize) {
     run.suite(&name("a second for Decompose"), |s| within_a_second(library, s));
     run.suite(&name("merges are n minus the blocks"), |s| {
         for _ in 0..3000 {
-            let mut call = good_call(&mut s.rng, 12);
-            let n = call.n;
-            call.question = Question::Generate(vec![s.rng.below(n) as u8, s.rng.below(n) as u8]);
-            call.lent = vec![0; n];
+            let Algebra { n, arities, cells } = algebras::any(12, 300, &mut s.rng).algebra;
+            let question = Question::Generate(vec![s.rng.below(n) as u8, s.rng.below(n) as u8]);
+            let call = Call { n, arities, cells, question, lent: vec![0; n] };
             let (answer, _) = ask(&library, &call, &mut s.rng);
             s.same("merges", answer.number, 256 * (n - blocks(&answer.lent)) as u32);
         }

@@ -12,6 +12,7 @@ mod desk;
 mod ffi;
 mod probe;
 mod self_check;
+mod space;
 mod texts;
 
 use outside_tests::report::Run;
@@ -55,7 +56,10 @@ fn main() {
     algebra_texts::reference_suites(&mut run);
     for (name, library, share) in [("baseline", ffi::baseline(), 4), ("worksheet", ffi::worksheet(), 1)] {
         match library {
-            Some(library) => compare::suites(&mut run, library, share),
+            Some(library) => {
+                compare::suites(&mut run, library, share);
+                space::suites(&mut run, library, share);
+            }
             None => run.left_out(name, "not linked", required(name)),
         }
     }

@@ -21,7 +21,7 @@ mod linked {
     use outside_tests::reference::Engine;
     use outside_tests::report::{Run, Suite};
 
-    use crate::compare::{ask, Call, Guarded, Question};
+    use crate::compare::{ask_decompose, count_of, Guarded};
     use crate::ffi::{probe, worksheet, Library};
 
     /// A map, sometimes damaged into none.
@@ -166,6 +166,17 @@ mod linked {
         a
     }
 
+    /// Quotient's answer, and whether all else was left alone.
+    fn ask_quotient(a: &Algebra, given: &[u8], lent: &[u8], rng: &mut Rng) -> (Answer, bool) {
+        let (mut ar, mut ce) = (Guarded::new(&a.arities, rng), Guarded::new(&a.cells, rng));
+        let (mut mp, mut out) = (Guarded::new(given, rng), Guarded::new(lent, rng));
+        let (al, cl, ml, ol) = (ar.len(), ce.len(), mp.len(), out.len());
+        let (arities, cells, map, tables) = (ar.pointer(), ce.pointer(), mp.pointer(), out.pointer());
+        let number = unsafe { probe::probe_quotient(a.n, arities, al, cells, cl, map, ml, tables, ol) };
+        let untouched = ar.is_intact() && ce.is_intact() && mp.is_intact() && out.is_intact_around();
+        (Answer { number, lent: out.content() }, untouched)
+    }
+
     fn quotients(s: &mut Suite) {
         let mut reference = Reference::<Plain>::default();
         let mut seen = [0u32; 256];
@@ -188,24 +199,7 @@ mod linked {
             let lent = s.rng.bytes(length);
             let expected = reference.quotient(a.n, &a.arities, &a.cells, &given, &lent);
             seen[expected.number as usize & 255] += 1;
-            let (mut ar, mut ce) = (Guarded::new(&a.arities, &mut s.rng), Guarded::new(&a.cells, &mut s.rng));
-            let (mut mp, mut out) = (Guarded::new(&given, &mut s.rng), Guarded::new(&lent, &mut s.rng));
-            let (al, cl, ml, ol) = (ar.len(), ce.len(), mp.len(), out.len());
-            let number = unsafe {
-                probe::probe_quotient(
-                    a.n,
-                    ar.pointer(),
-                    al,
-                    ce.pointer(),
-                    cl,
-                    mp.pointer(),
-                    ml,
-                    out.pointer(),
-                    ol,
-                )
-            };
-            let untouched = ar.is_intact() && ce.is_intact() && mp.is_intact() && out.is_intact_around();
-            let found = Answer { number, lent: out.content() };
+            let (found, untouched) = ask_quotient(&a, &given, &lent, &mut s.rng);
             s.check(found == expected && untouched, || {
                 format!("  {a:?}\n  map {given:?}, lent {lent:?}\n  found    {found:?}\n  expected {expected:?}\n  all else untouched: {untouched}")
             });
@@ -502,6 +496,7 @@ mod linked {
 
     /// Demand 3 through the product's own calls: Decompose; Quotient by each
     /// factor as listed; Decompose on what that gave, which must be refusal 11.
+    /// Each is lent just what it writes, the last one nothing.
     fn demand_three(s: &mut Suite, library: Library) {
         let mut list = algebras::structured(16, &mut s.rng);
         list.extend(algebras::workloads(&mut s.rng));
@@ -509,38 +504,26 @@ mod linked {
             list.push(algebras::any(10, 1000, &mut s.rng));
         }
         for one in list {
-            let Algebra { n, arities, cells } = one.algebra.clone();
-            let decompose = |n: usize, cells: &[u8], rng: &mut Rng| {
-                let lent = rng.bytes((n - 1) * n);
-                let (arities, cells) = (arities.clone(), cells.to_vec());
-                ask(&library, &Call { n, arities, cells, question: Question::Decompose, lent }, rng)
-            };
-            let (answer, untouched) = decompose(n, &cells, &mut s.rng);
+            let a = &one.algebra;
+            let known = count_of(&library, a, &mut s.rng);
+            let (answer, untouched) = ask_decompose(&library, a, known * a.n, &mut s.rng);
             let [reason, count, _, _] = answer.number.to_le_bytes();
-            s.check(untouched && (reason == 0 || reason == 11), || format!("  {}: {answer:?}", one.name));
-            for i in 0..count as usize {
-                let factor = &answer.lent[i * n..(i + 1) * n];
-                let mut tables = vec![0; cells.len()];
-                let number = unsafe {
-                    probe::probe_quotient(
-                        n,
-                        arities.as_ptr(),
-                        arities.len(),
-                        cells.as_ptr(),
-                        cells.len(),
-                        factor.as_ptr(),
-                        n,
-                        tables.as_mut_ptr(),
-                        tables.len(),
-                    )
-                };
-                let b = number as usize / 256;
-                tables.truncate(arities.iter().map(|&k| b.pow(k as u32)).sum());
-                let (again, untouched) = decompose(b, &tables, &mut s.rng);
-                s.check(number & 255 == 0 && again.number & 255 == 11 && untouched, || {
+            let wanted = if known == 0 { 11 } else { 0 };
+            s.check(untouched && reason == wanted && count as usize == known, || {
+                format!("  {} {a:?}\n  {answer:?}, not {known} factors", one.name)
+            });
+            for factor in answer.lent.chunks(a.n) {
+                let b = map::blocks(factor);
+                let wanted = a.arities.iter().map(|&k| b.pow(k as u32)).sum();
+                let lent = s.rng.bytes(wanted);
+                let (divided, intact) = ask_quotient(a, factor, &lent, &mut s.rng);
+                let quotient = Algebra { n: b, arities: a.arities.clone(), cells: divided.lent };
+                let (again, untouched) = ask_decompose(&library, &quotient, 0, &mut s.rng);
+                let good = divided.number == 256 * b as u32 && again.number & 255 == 11;
+                s.check(good && intact && untouched, || {
                     format!(
-                        "  {} {:?}\n  factor {factor:?}: quotient {number}, then {again:?}",
-                        one.name, one.algebra
+                        "  {} {a:?}\n  factor {factor:?}: quotient {}, then {again:?}",
+                        one.name, divided.number
                     )
                 });
             }
