@@ -37,6 +37,13 @@ static const char *const faults[] = {
     "pair",                 /* 11 carries its pair turned */
     "prefix",               /* the first n bytes of a longer map count */
     "separate-turned",      /* separate takes the latest congruence's pairs first */
+    "space-irreducible",    /* decompose: an irreducible algebra wants n bytes */
+    "space-early",          /* decompose: a byte more is wanted than the factors take */
+    "space-late",           /* decompose: a byte less is enough */
+    "space-old",            /* decompose: (n - 1) * n bytes are wanted */
+    "space-scratch",        /* decompose: the lent bytes are written before 9 is said */
+    "space-count",          /* decompose: 9 carries the count */
+    "space-first",          /* decompose: 9 is tested before 1 to 6 */
     "meet", "join", "prefer", "place", "quotient", "certify", "start", "tally", "other-sheet", "clear-tally",
     "write-length",         /* the length is one too high */
     "write-nine-early",     /* a byte more is wanted than the text has */
@@ -274,16 +281,48 @@ uint32_t congruence_separate(size_t n, const uint8_t *arities, size_t arities_le
     return spoil(number, n, out, out_len);
 }
 
+/* Decompose with the right number and list found: 9, or the list handed over. */
+static uint32_t hand_over(uint32_t number, size_t n, const uint8_t *maps, uint8_t *out, size_t out_len)
+{
+    const uint32_t reason = number & 255, count = number >> 8 & 255;
+    const size_t space = count * n;
+    size_t wanted = space;
+    if (reason >= 1 && reason <= 6) {
+        return out_len < n && fault("space-first") ? 9 : number;
+    }
+    if (fault("space-old")) {
+        wanted = (n - 1) * n;
+    }
+    if (reason == 11 && fault("space-irreducible")) {
+        wanted = n;
+    }
+    if (reason == 0 && (fault("space-early") || fault("space-late"))) {
+        wanted = fault("space-early") ? space + 1 : space - 1;
+    }
+    if (out_len < wanted) {
+        if (out_len > 0 && fault("space-scratch")) {
+            memcpy(out, maps, out_len);
+        }
+        return fault("space-count") ? 9 + 256 * count : 9;
+    }
+    if (space > 0) {
+        memcpy(out, maps, out_len < space ? out_len : space);
+    }
+    return number;
+}
+
 uint32_t congruence_decompose(size_t n, const uint8_t *arities, size_t arities_len,
                               const uint8_t *cells, size_t cells_len, uint8_t *out, size_t out_len)
 {
-    uint32_t number = baseline_decompose(n, arities, arities_len, cells, cells_len, out, out_len);
+    uint8_t maps[STRIDE * STRIDE];
+    uint32_t number = baseline_decompose(n, arities, arities_len, cells, cells_len, maps, sizeof maps);
+    if ((number & 255) == 0 && fault("always-irreducible")) {
+        return 11 + (1 << 24);
+    }
+    number = hand_over(number, n, maps, out, out_len);
     const uint32_t reason = number & 255, count = number >> 8 & 255;
     if (reason == 11 && fault("pair")) {
         number = 11 + (number >> 24 << 16) + ((number >> 16 & 255) << 24);
-    }
-    if (reason == 0 && fault("always-irreducible")) {
-        return 11 + (1 << 24);
     }
     if (reason == 11 && n > 1 && fault("reducible-too-early")) {
         if (baseline_separate(n, arities, arities_len, cells, cells_len, 0, 1, out, out_len) == 0) {
@@ -294,7 +333,7 @@ uint32_t congruence_decompose(size_t n, const uint8_t *arities, size_t arities_l
         for (size_t k = n; k < count * n && fault("identities"); k++) {
             out[k] = (uint8_t)(k % n);
         }
-        if (count < n - 1 && fault("scratch")) {
+        if (count * n < out_len && fault("scratch")) {
             out[count * n]++;
         }
     }
