@@ -7,7 +7,8 @@
  * start, so that one byte too far stops the program. Of each answer it is
  * checked that the reason is the lowest that applies, that only the promised
  * bytes are written, that the maps have the promised properties, and that the
- * optimized baseline gives the same. The last line is `N passed, M failed`,
+ * optimized baseline gives the same. Whether Decompose must answer 9 says a
+ * second call, which lends enough. The last line is `N passed, M failed`,
  * counting calls. */
 #define _DEFAULT_SOURCE
 #include <string.h>
@@ -113,11 +114,26 @@ static void make_rest(struct call *c)
         c->w = once_in(40) ? c->n : below(n);
         break;
     case DECOMPOSE:
-        wanted = n * (n - 1);
+        /* So many maps, from none to the most that there can be; or nearly. */
+        wanted = n * (once_in(3) ? n - 1 : below(n));
+        wanted -= wanted > 0 && once_in(4);
         break;
     }
     place(&c->out, once_in(20) ? below(wanted + 1) : once_in(2) ? wanted : wanted + below(100));
     fill(&c->out, 256);
+}
+
+/* The reason of Decompose for an accepted algebra, by what it answers where
+ * there is room for any list. */
+static uint32_t factors_reason(const struct call *c)
+{
+    static uint8_t room[64 * 63];
+    const uint32_t number = congruence_decompose(c->n, c->arities.slice, c->arities.len, c->cells.slice,
+                                                 c->cells.len, room, sizeof room);
+    if (CONGRUENCE_REASON(number) == CONGRUENCE_IRREDUCIBLE) {
+        return CONGRUENCE_IRREDUCIBLE;
+    }
+    return c->out.len < CONGRUENCE_COUNT(number) * c->n ? CONGRUENCE_SPACE : CONGRUENCE_OK;
 }
 
 static uint32_t wanted_reason(const struct call *c)
@@ -142,7 +158,10 @@ static uint32_t wanted_reason(const struct call *c)
     if (c->service == CONTAINED && (c->slice.len != c->n || !is_map(c->n, c->slice.slice))) {
         return CONGRUENCE_MAP;
     }
-    if (c->out.len < (c->service == DECOMPOSE ? c->n * (c->n - 1) : c->n)) {
+    if (c->service == DECOMPOSE) {
+        return factors_reason(c);
+    }
+    if (c->out.len < c->n) {
         return CONGRUENCE_SPACE;
     }
     if (c->service == SEPARATE && c->v == c->w) {
@@ -173,9 +192,8 @@ static const char *fault(const struct call *c, uint32_t number, const uint8_t *b
     const uint8_t *out = c->out.slice;
     const size_t n = c->n;
     const uint32_t reason = CONGRUENCE_REASON(number), count = CONGRUENCE_COUNT(number);
-    const uint32_t wanted = wanted_reason(c);
     size_t written = c->service == DECOMPOSE ? count * n : n;
-    if (reason != wanted && !(wanted == 0 && reason == CONGRUENCE_IRREDUCIBLE && c->service == DECOMPOSE)) {
+    if (reason != wanted_reason(c)) {
         return "another reason";
     }
     if (reason) {
@@ -217,7 +235,10 @@ static const char *fault(const struct call *c, uint32_t number, const uint8_t *b
     case SEPARATE:
         return number == 0 && out[c->v] != out[c->w] ? NULL : "not held apart";
     default:
-        return count > 0 && meets_in_identity(n, out, count) ? NULL : "the factors do not meet in the identity";
+        if (count < 2 || count >= n) {
+            return "another number of factors";
+        }
+        return meets_in_identity(n, out, count) ? NULL : "the factors do not meet in the identity";
     }
 }
 
