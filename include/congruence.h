@@ -102,10 +102,10 @@ uint32_t congruence_separate(size_t n,
  * Writes count * n bytes and wants out_len >= count * n: factor i is the map in
  * the n bytes from out + i * n. The count is not known before the call, and
  * reason 9 does not tell it; (n - 1) * n bytes are always enough.
- * A subdirectly irreducible algebra is reason 11 with the first pair that all
- * its congruences but the identity hold, or with 0 0 for n = 1. It needs no
- * space: out may be null with length 0, and an accepted algebra that has
- * factors then is 9.
+ * A subdirectly irreducible algebra needs no space: it is reason 11 with the
+ * first pair that all its congruences but the identity hold, or with 0 0 for
+ * n = 1. So a call with out null and out_len 0 says whether there are factors:
+ * 9 if there are, 11 if not.
  * Reasons: 1 to 6, 9, 11. */
 uint32_t congruence_decompose(size_t n,
                               const uint8_t *arities, size_t arities_len,
