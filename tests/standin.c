@@ -41,6 +41,7 @@ static const char *const faults[] = {
     "space-early",          /* decompose: a byte more is wanted than the factors take */
     "space-late",           /* decompose: a byte less is enough */
     "space-old",            /* decompose: (n - 1) * n bytes are wanted */
+    "space-listed",         /* decompose: what the list takes before the dropping is wanted */
     "space-scratch",        /* decompose: the lent bytes are written before 9 is said */
     "space-count",          /* decompose: 9 carries the count */
     "space-first",          /* decompose: 9 is tested before 1 to 6 */
@@ -122,6 +123,17 @@ static int join_pair(size_t n, uint8_t *m, uint8_t x, uint8_t y)
         m[z] = m[z] == b ? a : m[z];
     }
     return a != b;
+}
+
+static void meet(size_t n, uint8_t *out, const uint8_t *a, const uint8_t *b)
+{
+    for (size_t x = 0; x < n; x++) {
+        size_t first = 0;
+        while (a[first] != a[x] || b[first] != b[x]) {
+            first++;
+        }
+        out[x] = (uint8_t)first;
+    }
 }
 
 static size_t power(size_t n, unsigned s)
@@ -281,24 +293,47 @@ uint32_t congruence_separate(size_t n, const uint8_t *arities, size_t arities_le
     return spoil(number, n, out, out_len);
 }
 
-/* Decompose with the right number and list found: 9, or the list handed over. */
-static uint32_t hand_over(uint32_t number, size_t n, const uint8_t *maps, uint8_t *out, size_t out_len)
+/* How many congruences Decompose lists before the dropping. */
+static size_t listed(size_t n, const uint8_t *arities, size_t arities_len, const uint8_t *cells, size_t cells_len)
 {
-    const uint32_t reason = number & 255, count = number >> 8 & 255;
-    const size_t space = count * n;
-    size_t wanted = space;
-    if (reason >= 1 && reason <= 6) {
-        return out_len < n && fault("space-first") ? 9 : number;
+    uint8_t now[STRIDE] = {0};
+    size_t count = 0;
+    for (size_t v = 0; v < n; v++) {
+        for (size_t w = v + 1; w < n; w++) {
+            if (now[v] == now[w]) {
+                uint8_t map[STRIDE], next[STRIDE];
+                baseline_separate(n, arities, arities_len, cells, cells_len, v, w, map, STRIDE);
+                meet(n, next, now, map);
+                memcpy(now, next, n);
+                count++;
+            }
+        }
     }
+    return count;
+}
+
+/* The bytes that an accepted algebra with this answer wants lent. */
+static size_t wanted_space(uint32_t number, size_t n, const uint8_t *arities, size_t arities_len,
+                           const uint8_t *cells, size_t cells_len)
+{
     if (fault("space-old")) {
-        wanted = (n - 1) * n;
+        return (n - 1) * n;
     }
-    if (reason == 11 && fault("space-irreducible")) {
-        wanted = n;
+    if ((number & 255) == 11) {
+        return fault("space-irreducible") ? n : 0;
     }
-    if (reason == 0 && (fault("space-early") || fault("space-late"))) {
-        wanted = fault("space-early") ? space + 1 : space - 1;
+    if (fault("space-listed")) {
+        return listed(n, arities, arities_len, cells, cells_len) * n;
     }
+    return (number >> 8) * n + fault("space-early") - fault("space-late");
+}
+
+/* The maps that were found are written, or 9 is said. */
+static uint32_t hand_over(uint32_t number, size_t n, size_t wanted, const uint8_t *maps, uint8_t *out,
+                          size_t out_len)
+{
+    const uint32_t count = number >> 8 & 255;
+    const size_t space = count * n;
     if (out_len < wanted) {
         if (out_len > 0 && fault("space-scratch")) {
             memcpy(out, maps, out_len);
@@ -316,10 +351,14 @@ uint32_t congruence_decompose(size_t n, const uint8_t *arities, size_t arities_l
 {
     uint8_t maps[STRIDE * STRIDE];
     uint32_t number = baseline_decompose(n, arities, arities_len, cells, cells_len, maps, sizeof maps);
+    if (number >= 1 && number <= 6) {
+        return out_len < n && fault("space-first") ? 9 : number;
+    }
     if ((number & 255) == 0 && fault("always-irreducible")) {
         return 11 + (1 << 24);
     }
-    number = hand_over(number, n, maps, out, out_len);
+    const size_t wanted = wanted_space(number, n, arities, arities_len, cells, cells_len);
+    number = hand_over(number, n, wanted, maps, out, out_len);
     const uint32_t reason = number & 255, count = number >> 8 & 255;
     if (reason == 11 && fault("pair")) {
         number = 11 + (number >> 24 << 16) + ((number >> 16 & 255) << 24);
@@ -355,17 +394,6 @@ static uint32_t maps_reason(size_t n, const uint8_t *a, size_t a_len, const uint
         return 8;
     }
     return out_len < n ? 9 : 0;
-}
-
-static void meet(size_t n, uint8_t *out, const uint8_t *a, const uint8_t *b)
-{
-    for (size_t x = 0; x < n; x++) {
-        size_t first = 0;
-        while (a[first] != a[x] || b[first] != b[x]) {
-            first++;
-        }
-        out[x] = (uint8_t)first;
-    }
 }
 
 uint32_t probe_meet(size_t n, const uint8_t *a, size_t a_len, const uint8_t *b, size_t b_len,
