@@ -8,21 +8,17 @@ use lib.ListN.{length, take, replicate, length-replicate}
 use Rattle.equivalence.specs.Lists.{upTo}
 use Rattle.equivalence.specs.Lent.{stretch}
 use Rattle.equivalence.specs.Outcome.{success, writtenOutcome}
-use Rattle.equivalence.specs.Refusal.{lowest, answered, serve}
-use Rattle.equivalence.specs.declared.Check.{Check}
-use Rattle.equivalence.specs.declared.Check.the-variants.{Passed, Failed}
 use Rattle.equivalence.specs.declared.Element.{Element}
 use Rattle.equivalence.specs.declared.Refusal.{Refusal}
 use Rattle.equivalence.specs.declared.Written.{Written}
 use Rattle.equivalence.specs.declared.Written.the-variants.{Done, Refused as WriteRefused}
 use Rattle.algebra.specs.Algebra.{Algebra, algebraOf}
 use Rattle.algebra.proofs.Accepted.{accepted-wellFormed}
-use Rattle.congruence.specs.Calls.{generateCall, containedCall, separateCall, decomposed, decomposeTests, decomposeCall}
+use Rattle.congruence.specs.Calls.{generateCall, containedCall, separateCall, decomposeCall}
 use Rattle.congruence.specs.Outcome.{generatedOutcome, decomposedOutcome}
-use Rattle.congruence.proofs.Calls.{factors-reducible}
 use Rattle.theory.specs.Decompose.{mostFactorSpace}
 use Rattle.theory.proofs.Factors.{listed-law}
-use Rattle.congruence.proofs.Serving.{of-decomposeTests}
+use Rattle.congruence.proofs.Meanings.{decompose-gave}
 use Rattle.congruence.specs.declared.Decomposed.{Decomposed}
 use Rattle.congruence.specs.declared.Decomposed.the-variants.{Factors, Irreducible, Refused as DecomposeRefused}
 use Rattle.congruence.specs.declared.Generated.{Generated}
@@ -127,19 +123,10 @@ module _ (answer : Decomposed) (n : ℕ) (factors lent : List ℕ) (f : FactorsF
     line-of-decompose-refused r e l = rw (e, outcome-refused) l
 
 -- Decompose gives fewer factors than there are elements
-few-factors : (a : Algebra) (lent : List ℕ) (k : ℕ) (c : Check) → c ≡ lowest (decomposeTests a (length lent))
-    → answered DecomposeRefused c (decomposed a) ≡ Factors k → k < a .size
-unfolding answered
-few-factors a lent k Passed e g =
-    let w = accepted-wellFormed a (of-decomposeTests a (length lent) e .0) in
-    rw (factors-reducible a k g .1) (listed-law a w .few)
-few-factors a lent k (Failed r) e g = let z : _≡_ {A = ℕ} 0 1 = cc in absurd (omega arith)
-
 pub factors-few : (a : Algebra) (lent map : List ℕ) (d : Decomposed) → (d, map) ≡ decomposeCall a lent → (k : ℕ) → d ≡ Factors k → k < a .size
-unfolding decomposeCall serve
 factors-few a lent map d e k g =
-    few-factors a lent k (lowest (decomposeTests a (length lent))) refl
-    (sym (ap (λ (p : Decomposed × List ℕ). p .0) e) ∙ g)
+    let h = decompose-gave a lent map k (rw g at (sym e)) in
+    omega (arith, h .1 .1 .0, listed-law a (accepted-wellFormed a (h .0)) .few)
 
 -- the calls, lent zeros
 module _ (n : ℕ) (arities cells before map lent out : List ℕ) (end : ℕ) (z : Zeros n n (length cells) before lent) where

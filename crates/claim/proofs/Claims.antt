@@ -1,8 +1,7 @@
 -- What the calls of the claim may rely on and answer, one by one; the loop over the factors (`Calling`); and the claim, that every last call answers 11.
 use Prim.Native.Nat.{ℕ, zero, suc, _+_, _-_, _*_, _≤_, _<_}
 use mathlib.Core.List.{List, [], _∷_}
-use mathlib.Core.Logic.{_⊎_, inl, inr}
-use mathlib.Core.Path.{_≡_, refl, sym, ap, subst, _∙_}
+use mathlib.Core.Path.{_≡_, refl, sym, ap, _∙_}
 use native.Mathlib.Nat.{suc-mul, mul-le-mul-right}
 use native.Mathlib.Numerals.{add-one}
 use native.Mathlib.Omega.{arith}
@@ -12,28 +11,21 @@ use mir.Syntax.{w64}
 use mir.Val.{Fits}
 use Rattle.equivalence.specs.Equivalence.{Map, blocks}
 use Rattle.equivalence.specs.Lent.{stretch, written}
-use Rattle.equivalence.specs.Refusal.{lowest}
 use Rattle.equivalence.proofs.BlockNumbers.{blocks-le}
-use Rattle.equivalence.proofs.Refusals.{serve-passed, serve-failed}
-use Rattle.equivalence.proofs.Tests.{T?}
 use Rattle.equivalence.proofs.Writing.{written-length}
 use Rattle.algebra.specs.Accepted.{Accepted}
 use Rattle.algebra.specs.Algebra.{Algebra, algebraOf, cellCount}
-use Rattle.algebra.proofs.Accepted.{WellFormed, accepted-wellFormed}
-use Rattle.congruence.specs.Calls.{quotientSpace, quotientTests, quotientCall, algebraFrom, decomposed, factorBytes, decomposeTests, decomposeCall}
-use Rattle.theory.specs.Decompose.{reducible}
-use Rattle.theory.proofs.Factors.{factorSpace-yes}
+use Rattle.algebra.proofs.Accepted.{accepted-wellFormed}
+use Rattle.congruence.specs.Calls.{quotientSpace, quotientCall, algebraFrom, decomposed, decomposeCall}
 use Rattle.congruence.specs.Demands.{QuotientAnswers11, FactorCalls}
 use Rattle.congruence.proofs.Calls.{factor-calls}
-use Rattle.congruence.proofs.Decomposing.{decomposed-yes, decomposed-no}
 use Rattle.theory.proofs.Quotients.{quotientCells-length}
-use Rattle.congruence.proofs.Serving.{of-quotientTests, of-decomposeTests}
+use Rattle.congruence.proofs.Meanings.{quotient-gave, decompose-gave}
+use Rattle.congruence.proofs.Reasons.{reasons}
 use Rattle.quotient.specs.Quotient.{quotientCells}
 use Rattle.claim.specs.Calls.{factorCount, irreducibleCount, lastCall, factorCalls, tablesAt, lastAnswer, irreducibleAmong, CallsMade, LentEnough, EveryLastCall11, Claim, Slice}
 use Rattle.claim.specs.InnerPromises.{TablesFit}
 use Rattle.equivalence.specs.declared.Refusal.{Refusal}
-use Rattle.equivalence.specs.declared.Check.{Check}
-use Rattle.equivalence.specs.declared.Check.the-variants.{Passed, Failed}
 use Rattle.equivalence.specs.declared.Element.{Element}
 use Rattle.congruence.specs.declared.Divided.{Divided}
 use Rattle.congruence.specs.declared.Divided.the-variants.{Blocks, Refused as DivideRefused}
@@ -42,18 +34,6 @@ use Rattle.congruence.specs.declared.Decomposed.the-variants.{Factors, Irreduci
 use Rattle.claim.specs.declared.FactorsDecomposed.{FactorsDecomposed}
 
 -- ---- answers by cases
-
--- all tests pass, or one declines
-passes : (c : Check) → (c ≡ Passed) ⊎ ((r : Refusal) × (c ≡ Failed r))
-passes Passed = inl refl
-passes (Failed r) = inr (r, refl)
-
--- Quotient's answers differ where their blocks do, and a refusal is no number of blocks
-same-blocks : (b c : ℕ) → Blocks b ≡ Blocks c → b ≡ c
-same-blocks b c e = cc
-
-refused-blocks : (r : Refusal) (b : ℕ) → DivideRefused r ≡ Blocks b → ⊥
-refused-blocks r b e = let z : _≡_ {A = ℕ} 0 1 = cc in omega arith
 
 -- an answer that counts a factor is a list of factors
 counts-factors : (d : Decomposed) (i : ℕ) → i < factorCount d → d ≡ Factors (factorCount d)
@@ -75,43 +55,28 @@ irreducible-counted d x y e = rw e
 -- ---- Quotient
 
 module _ (a : Algebra) (m : Map) (tables : List ℕ) where
-  quotient-passed : lowest (quotientTests a m (length tables)) ≡ Passed → quotientCall a m tables ≡ (Blocks (blocks (a .size) m), written (quotientCells a m) tables)
-  unfolding quotientCall
-  quotient-passed e = serve-passed DivideRefused _ (Blocks (blocks (a .size) m)) (quotientCells a m) tables e
-
-  quotient-failed : (r : Refusal) → lowest (quotientTests a m (length tables)) ≡ Failed r → quotientCall a m tables ≡ (DivideRefused r, tables)
-  unfolding quotientCall
-  quotient-failed r e = serve-failed DivideRefused _ (Blocks (blocks (a .size) m)) (quotientCells a m) tables r e
-
-  of-tests : lowest (quotientTests a m (length tables)) ≡ Passed → WellFormed a × (quotientSpace a m ≤ length tables)
-  of-tests e = let t = of-quotientTests a (length tables) m (sym e) in (accepted-wellFormed a (t .1 .0), t .1 .1 .1)
-
   -- the lent tables keep their length
   pub quotient-length : length (quotientCall a m tables .1) ≡ length tables
-  quotient-length =
-      elim (passes (lowest (quotientTests a m (length tables)))) [
-        | inl e ↦ rw (quotient-passed e) (written-length (quotientCells a m) tables (omega (arith, of-tests e .1, quotientCells-length a m)))
-        | inr e ↦ rw (quotient-failed (e .0) (e .1))
-      ]
+  quotient-length = by-answer (quotientCall a m tables .0) refl
+    where
+      by-answer : (d : Divided) → quotientCall a m tables .0 ≡ d → length (quotientCall a m tables .1) ≡ length tables
+      by-answer (Blocks b) e =
+          let g = quotient-gave a m tables (quotientCall a m tables .1) b (ap (λ (d : Divided). (d, quotientCall a m tables .1)) e) in
+          rw (← g .1 .1 .1 .1) (written-length (quotientCells a m) tables (omega (arith, g .1 .1 .1 .0, quotientCells-length a m)))
+      by-answer (DivideRefused r) e = ap length (reasons .quotient a m tables .unwritten r e)
 
   -- where b blocks are given, the algebra is accepted, and the tables over b have room
   given-fits : {d : Divided} {after : List ℕ} {b : ℕ} → (d, after) ≡ quotientCall a m tables → d ≡ Blocks b → TablesFit b (a .arities) after
-  given-fits {d} {after} {b} g h =
-      let long : length after ≡ length tables = ap (λ (c : Divided × List ℕ). length (c .1)) g ∙ quotient-length in
-      let answer : quotientCall a m tables .0 ≡ Blocks b = sym (ap (λ (c : Divided × List ℕ). c .0) g) ∙ h in
-      elim (passes (lowest (quotientTests a m (length tables)))) [
-        | inl e ↦
-            let t = of-tests e in
-            let same : blocks (a .size) m ≡ b = same-blocks (blocks (a .size) m) b (sym (ap (λ (c : Divided × List ℕ). c .0) (quotient-passed e)) ∙ answer) in
-            let room : cellCount b (a .arities) ≤ length tables = subst (λ (c : ℕ). cellCount c (a .arities) ≤ length tables) same (t .1) in
-            record {
-              most = omega (arith, t .0 .most, blocks-le (a .size) m, same);
-              operations = t .0 .operations;
-              arity = t .0 .arity;
-              room = omega (arith, room, long);
-            }
-        | inr e ↦ absurd (refused-blocks (e .0) b (sym (ap (λ (c : Divided × List ℕ). c .0) (quotient-failed (e .0) (e .1))) ∙ answer))
-      ]
+  given-fits {d} {after} {b} e h =
+      let g = quotient-gave a m tables after b (rw h at (sym e)) in
+      let w = accepted-wellFormed a (g .0) in
+      let long : length after ≡ length tables = ap (λ (c : Divided × List ℕ). length (c .1)) e ∙ quotient-length in
+      record {
+        most = omega (arith, w .most, blocks-le (a .size) m, g .1 .1 .0);
+        operations = w .operations;
+        arity = w .arity;
+        room = rw (long, ← g .1 .1 .0) (g .1 .1 .1 .0);
+      }
 
 pub quotient-given : (n : ℕ) (arities cells : List ℕ) (m : Map) (tables : List ℕ) {d : Divided} {after : List ℕ} {b : ℕ}
     → (d, after) ≡ quotientCall (algebraOf n arities cells) m tables → d ≡ Blocks b → TablesFit b arities after
@@ -131,28 +96,15 @@ front-decomposed b arities tables lent {count} none e f =
     ap (λ (c : Decomposed × List ℕ). c .0)
     (f ∙ ap (λ (k : ℕ). decomposeCall (algebraOf b arities (take k tables)) lent) all ∙ ap (decomposeCall (algebraFrom b arities tables)) (length-none lent none))
 
-module _ (a : Algebra) (lent : List ℕ) where
-  decompose-passed : lowest (decomposeTests a (length lent)) ≡ Passed → decomposeCall a lent ≡ (decomposed a, written (factorBytes a) lent)
-  unfolding decomposeCall
-  decompose-passed e = serve-passed DecomposeRefused _ (decomposed a) (factorBytes a) lent e
-
-  decompose-failed : (r : Refusal) → lowest (decomposeTests a (length lent)) ≡ Failed r → decomposeCall a lent ≡ (DecomposeRefused r, lent)
-  unfolding decomposeCall
-  decompose-failed r e = serve-failed DecomposeRefused _ (decomposed a) (factorBytes a) lent r e
-
-  -- the factors that are counted stand in the lent list
-  factors-fit : factorCount (decomposeCall a lent .0) * a .size ≤ length lent
-  unfolding factorCount
-  factors-fit =
-      elim (passes (lowest (decomposeTests a (length lent)))) [
-        | inl e ↦
-            rw (decompose-passed e)
-            elim (T? (reducible a)) [
-              | yes r ↦ rw (decomposed-yes a r) (omega (arith, of-decomposeTests a (length lent) (sym e) .1, factorSpace-yes a r))
-              | no r ↦ rw (decomposed-no a r) (omega arith)
-            ]
-        | inr e ↦ rw (decompose-failed (e .0) (e .1)) (omega arith)
-      ]
+-- the factors that are counted stand in the lent list
+factors-fit : (a : Algebra) (lent : List ℕ) → factorCount (decomposeCall a lent .0) * a .size ≤ length lent
+unfolding factorCount
+factors-fit a lent = by-answer (decomposeCall a lent .0) refl
+  where
+    by-answer : (d : Decomposed) → decomposeCall a lent .0 ≡ d → factorCount d * a .size ≤ length lent
+    by-answer (Factors k) e = decompose-gave a lent (decomposeCall a lent .1) k (ap (λ (d : Decomposed). (d, decomposeCall a lent .1)) e) .1 .1 .1 .0
+    by-answer (Irreducible x y) e = omega arith
+    by-answer (DecomposeRefused r) e = omega arith
 
 -- ---- the calls for one factor
 

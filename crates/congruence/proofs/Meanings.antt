@@ -33,7 +33,7 @@ use Rattle.maplist.proofs.MapLists.{mapList-concat, concat-length}
 use Rattle.theory.specs.Certify.{certified}
 use Rattle.theory.specs.Decompose.{reducible, listed}
 use Rattle.theory.specs.Extremal.{generated, contained, separated}
-use Rattle.theory.proofs.Factors.{listed-long}
+use Rattle.theory.proofs.Factors.{listed-long, factorSpace-yes}
 use Rattle.theory.proofs.Quotients.{quotientCells-length}
 use Rattle.congruence.specs.Calls.{generateTests, generateCall, containedTests, containedCall, separateTests, separateCall, quotientSpace, quotientTests}
 use Rattle.congruence.specs.Calls.{quotientCall, decomposed, factorBytes, decomposeTests, decomposeCall, certifyTests, certifyCall}
@@ -175,6 +175,18 @@ module _ (a : Algebra) (m : Map) (lent out : List ℕ) (b : ℕ) (e : quotientCa
         kept = wrote-past (cellCount b (a .arities)) (quotientCells a m) lent (quotientCells-length a m ∙ ap (λ (c : ℕ). cellCount c (a .arities)) is) (g .1 .1 .1 .1);
       }
 
+-- ---- Decompose
+
+-- where it counts k factors it had passed its tests, and wrote the list
+pub decompose-gave : (a : Algebra) (lent out : List ℕ) (k : ℕ) → decomposeCall a lent ≡ (Factors k, out)
+    → Accepted a × (T (reducible a) × ((k ≡ length (listed a)) × ((k * a .size ≤ length lent) × (written (concat (listed a)) lent ≡ out))))
+unfolding decomposeCall
+decompose-gave a lent out k e =
+    let g = serve-given DecomposeRefused (decomposed a) (factorBytes a) lent (refused-factors k) (decomposeTests a (length lent)) e in
+    let t = of-decomposeTests a (length lent) (sym (g .0)) in
+    let r = factors-reducible a k (g .1) in
+    (t .0, (r .0, (r .1, (rw (r .1, ← factorSpace-yes a (r .0)) (t .1), ap (λ (new : List ℕ). written new lent) (sym (factorBytes-yes a (r .0))) ∙ g .2))))
+
 -- ---- Certify over Decompose's list
 
 module _ (a : Algebra) (accepted : Accepted a) where
@@ -210,14 +222,10 @@ module _ (a : Algebra) (accepted : Accepted a) where
       every-map ms h = every-of (isMap (a .size)) ms (λ m i. let j = member-index ms m [] i in subst (λ (c : Map). T (isMap (a .size) c)) (j .2) (h (j .0) (j .1)))
 
 certify-means : (a : Algebra) (lent out : List ℕ) (k : ℕ) → decomposeCall a lent ≡ (Factors k, out) → certifyCall a (take (k * a .size) out) ≡ Yes
-unfolding decomposeCall
 certify-means a lent out k e =
-    let g = serve-given DecomposeRefused (decomposed a) (factorBytes a) lent (refused-factors k) (decomposeTests a (length lent)) e in
-    let t = of-decomposeTests a (length lent) (sym (g .0)) in
-    let r = factors-reducible a k (g .1) in
-    let laid : written (concat (listed a)) lent ≡ out = ap (λ (new : List ℕ). written new lent) (sym (factorBytes-yes a (r .0))) ∙ g .2 in
-    let long : length (concat (listed a)) ≡ k * a .size = listed-bytes a (t .0) ∙ ap (λ (c : ℕ). c * a .size) (sym (r .1)) in
-    ap (certifyCall a) (wrote-first (k * a .size) (concat (listed a)) lent long laid) ∙ certify-listed a (t .0) (r .0)
+    let g = decompose-gave a lent out k e in
+    let long : length (concat (listed a)) ≡ k * a .size = listed-bytes a (g .0) ∙ ap (λ (c : ℕ). c * a .size) (sym (g .1 .1 .0)) in
+    ap (certifyCall a) (wrote-first (k * a .size) (concat (listed a)) lent long (g .1 .1 .1 .1)) ∙ certify-listed a (g .0) (g .1 .0)
 
 -- ---- all of them
 
