@@ -16,13 +16,16 @@ const SMALL: usize = 12;
 /// Larger sizes at which both kinds of algebras are tried.
 const LARGE: [usize; 5] = [13, 31, 33, 63, 64];
 
-/// The lengths up to what any list takes, of larger algebras those at and
-/// beside multiples of n; and some beyond.
-fn lengths(n: usize) -> Vec<usize> {
+/// The lengths up to what any list takes, and some beyond.
+fn every_length(n: usize) -> Vec<usize> {
     let most = (n - 1) * n;
-    let mut list: Vec<usize> = (0..=most).filter(|length| n <= SMALL || (length + 1) % n <= 2).collect();
-    list.extend([1, n, 70].map(|more| most + more));
-    list
+    (0..=most).chain([1, n, 70].map(|more| most + more)).collect()
+}
+
+/// Of larger algebras those at and beside multiples of n, and beyond.
+fn lengths(n: usize) -> Vec<usize> {
+    let beside = |length: &usize| n <= SMALL || (length + 1) % n <= 2 || *length > (n - 1) * n;
+    every_length(n).into_iter().filter(beside).collect()
 }
 
 /// Document 02's own case, 64 elements and two factors, and the edges: the
@@ -41,7 +44,7 @@ fn document_values(library: Library, suite: &mut Suite) {
     ] {
         let Algebra { n, arities, cells } = algebra;
         let mut call = Call { n, arities, cells, question: Question::Decompose, lent: vec![] };
-        for length in lengths(n) {
+        for length in every_length(n) {
             call.lent = suite.rng.bytes(length);
             let (answer, untouched) = ask(&library, &call, &mut suite.rng);
             let (number, written) = if length < wanted { (9, 0) } else { (number, wanted) };
