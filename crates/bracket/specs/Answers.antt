@@ -38,7 +38,8 @@ unfoldable pub quotientLines : List ℕ → Divided → List ℕ → List ℕ
 quotientLines arities a cells = let o = dividedOutcome a in outcomeLine o (algebraText (algebraOf (o .count) arities cells))
 
 -- the answer to what a request asks, with the numbers that it lists: what the service answers, lent just the bytes that it
--- wants, Decompose as many as any algebra over n elements can want, and Quotient as many as the algebra has cells
+-- wants, Decompose as many as any algebra over n elements can want, and Quotient as many as the algebra has cells, of which
+-- these two leave those past their own 0
 unfoldable pub answer : Algebra → Asked → List ℕ → List ℕ
 answer a Generate ps = let r = generateCall a ps (replicate (a .size) 0) in generatedLine (r .0) (r .1)
 answer a Contained m = let r = containedCall a m (replicate (a .size) 0) in mapLine (r .0) (r .1)

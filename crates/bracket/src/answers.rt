@@ -172,8 +172,8 @@ fn answer_cells(n: usize, arities: &[u8], cells: &[u8], map: &[u8], out: &mut [u
     answer_quotient_into(n, arities, cells, map, &mut space, out)
 }
 
-// The answer to what a request asks, with the numbers that were stored for it; a service that writes maps is lent the bytes that it wants, and no
-// more than any algebra over n elements can want.
+// The answer to what a request asks, with the numbers that were stored for it; a service that writes maps is lent just what any algebra over n elements
+// can want.
 fn answer_into(
     n: usize,
     arities: &[u8],

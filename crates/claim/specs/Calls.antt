@@ -64,10 +64,10 @@ pub record CallsMade (a : Algebra) (list tables : Slice) (r : FactorsDecomposed)
   pub counted : r .irreducible ≡ irreducibleAmong a (now (list .exit)) (now (tables .entry)) (factorCount (r .first))
   pub rest : now (tables .exit) ≡ tablesAt a (now (list .exit)) (now (tables .entry)) (factorCount (r .first))
 
--- Decompose is lent count × n bytes at least, and Quotient the cells over each factor's blocks
-pub record LentEnough (a : Algebra) (bytes cells : List ℕ) : Type 0 where
-  pub list : factorSpace a ≤ length bytes
-  pub tables : (i : ℕ) → i < factorCount (decomposed a) → quotientSpace a (stretch (a .size) (decomposeCall a bytes .1) i) ≤ length cells
+-- Decompose is lent at least what it wants for its list, and Quotient, by each factor's map, for its tables
+pub record LentEnough (a : Algebra) (listLent tablesLent : List ℕ) : Type 0 where
+  pub list : factorSpace a ≤ length listLent
+  pub tables : (i : ℕ) → i < factorCount (decomposed a) → quotientSpace a (stretch (a .size) (decomposeCall a listLent .1) i) ≤ length tablesLent
 
 -- of an accepted algebra: Decompose finds the factors or 11, and every factor's last call answers 11
 pub record EveryLastCall11 (a : Algebra) (list tables : List ℕ) (r : FactorsDecomposed) : Type 0 where

@@ -25,8 +25,7 @@ use Rattle.congruence.specs.Calls.{element, irreducibleAnswer, congruenc
 use Rattle.theory.specs.Decompose.{listed, factorSpace, reducible, commonPair}
 use Rattle.congruence.specs.Demands.{Answers11, SpaceTheorem, QuotientAnswers11, FactorCalls}
 use Rattle.congruence.proofs.Demands.{listed-right}
-use Rattle.theory.proofs.Factors.{listed-long, split, unsplit, factorSpace-most}
-use Rattle.theory.specs.Splitting.{Unsplit}
+use Rattle.theory.proofs.Factors.{listed-long, unsplit, reducible-splits, splits-reducible, factorSpace-most}
 use Rattle.congruence.proofs.Decomposing.{decomposed-yes, decomposed-no, of-irreducible, factorBytes-yes, decompose-served, decompose-factors, decompose-short, decompose-irreducible}
 use Rattle.theory.proofs.Quotients.{quotientCells-length, quotient-wellFormed}
 use Rattle.quotient.specs.Quotient.{quotientCells, quotient}
@@ -55,11 +54,8 @@ module _ (a : Algebra) (accepted : Accepted a) (lent : List ℕ) where
   abbrev wanted : ℕ
   wanted = length (listed a) * a .size
 
-  splits : T (reducible a) → ¬ Unsplit a
-  splits t u = u (listed a) (split a (accepted-wellFormed a accepted) t)
-
-  reduced : ¬ Unsplit a → T (reducible a)
-  reduced s = elim (T? (reducible a)) [ yes t ↦ t | no t ↦ absurd (s (unsplit a (accepted-wellFormed a accepted) t)) ]
+  well : WellFormed a
+  well = accepted-wellFormed a accepted
 
   answer-short : T (reducible a) → length lent < wanted → answer ≡ DecomposeRefused Space
   answer-short t l = ap (λ (r : Decomposed × List ℕ). r .0) (decompose-short a accepted lent t l)
@@ -91,11 +87,13 @@ module _ (a : Algebra) (accepted : Accepted a) (lent : List ℕ) where
   pub space-theorem : SpaceTheorem a lent
   space-theorem =
       record {
-        nine = (λ e. (splits (of-nine e .0), of-nine e .1), λ h. answer-short (reduced (h .0)) (h .1));
-        eleven = (λ e. unsplit a (accepted-wellFormed a accepted) (of-eleven e), λ u. answer-eleven (λ t. splits t u));
-        factors = λ s l. decompose-factors a accepted lent (reduced s) l;
-        most = λ room. ap (λ (r : Decomposed × List ℕ). r .0)
-            (decompose-served a accepted lent (omega (arith, factorSpace-most a (accepted-wellFormed a accepted))));
+        nine = (
+          λ e. (reducible-splits a well (of-nine e .0), of-nine e .1),
+          λ h. answer-short (splits-reducible a well (h .0)) (h .1),
+        );
+        eleven = (λ e. unsplit a well (of-eleven e), λ u. answer-eleven (λ t. reducible-splits a well t u));
+        factors = λ s l. decompose-factors a accepted lent (splits-reducible a well s) l;
+        most = λ room. ap (λ (r : Decomposed × List ℕ). r .0) (decompose-served a accepted lent (omega (arith, factorSpace-most a well)));
       }
 
 -- ---- Quotient

@@ -29,8 +29,8 @@ use Rattle.theory.specs.Splitting.{Splitting}
 use Rattle.theory.proofs.Factors.{split, unsplit, factorSpace-yes, factorSpace-no}
 use Rattle.theory.proofs.Quotients.{quotient-wellFormed, quotient-unsplit}
 use Rattle.theory.proofs.Separation.{MaximalFor}
-use Rattle.decomposition.specs.InnerFactored.{joinedPair, foundIn}
-use Rattle.decomposition.proofs.Finding.{listed-short, listed-all, found-reducible, found-irreducible as found-none}
+use Rattle.decomposition.specs.InnerFactored.{irreducibleWith, foundIn}
+use Rattle.decomposition.proofs.Finding.{listed-short, listed-all, found-reducible, found-irreducible}
 use Rattle.decomposition.specs.declared.Found.{Found}
 use Rattle.decomposition.specs.declared.Found.the-variants.{Factors as Counted, Short, Irreducible as Paired}
 use Rattle.congruence.specs.Calls.{irreducibleAnswer, decomposed, factorBytes, decomposeCall}
@@ -107,7 +107,7 @@ answerOf (Paired x y) = Irreducible x y
 
 -- the call answers what was found, and leaves the same bytes
 found-answered : (a : Algebra) → Accepted a → (lent : List ℕ) → decomposeCall a lent ≡ (answerOf (foundIn a lent .0), foundIn a lent .1)
-unfolding answerOf joinedPair
+unfolding answerOf irreducibleWith
 found-answered a accepted lent =
     elim (T? (reducible a)) [
       | yes t ↦ elim (decLt (length lent) (length (listed a) * a .size)) [
@@ -116,22 +116,22 @@ found-answered a accepted lent =
             let room : length (listed a) * a .size ≤ length lent = omega (arith, l) in
             rw (decompose-factors a accepted lent t room, found-reducible a lent t, listed-all (a .size) (listed a) lent room)
       ]
-      | no t ↦ rw (decompose-irreducible a accepted lent t, found-none a lent t)
+      | no t ↦ rw (decompose-irreducible a accepted lent t, found-irreducible a lent t)
     ]
 
 module _ (a : Algebra) (lent : List ℕ) {after : List ℕ} {found : Found} (f : (found, after) ≡ foundIn a lent)
     {check : Check} (known : check ≡ Passed) (e : check ≡ lowest (algebraTests a)) where
-  answered : {d : Decomposed} → answerOf found ≡ d → (d, after) ≡ decomposeCall a lent
-  answered is = rw (found-answered a (passed-accepted a known e) lent, ← f, is)
+  as-found : {d : Decomposed} → answerOf found ≡ d → (d, after) ≡ decomposeCall a lent
+  as-found is = rw (found-answered a (passed-accepted a known e) lent, ← f, is)
 
-  pub found-factors : {k : ℕ} → found ≡ Counted k → (Factors k, after) ≡ decomposeCall a lent
+  pub factors-answered : {k : ℕ} → found ≡ Counted k → (Factors k, after) ≡ decomposeCall a lent
   unfolding answerOf
-  found-factors is = answered (ap answerOf is)
+  factors-answered is = as-found (ap answerOf is)
 
-  pub found-short : found ≡ Short → (DecomposeRefused Space, after) ≡ decomposeCall a lent
+  pub short-answered : found ≡ Short → (DecomposeRefused Space, after) ≡ decomposeCall a lent
   unfolding answerOf
-  found-short is = answered (ap answerOf is)
+  short-answered is = as-found (ap answerOf is)
 
-  pub found-irreducible : {x y : Element} → found ≡ Paired x y → (Irreducible x y, after) ≡ decomposeCall a lent
+  pub irreducible-answered : {x y : Element} → found ≡ Paired x y → (Irreducible x y, after) ≡ decomposeCall a lent
   unfolding answerOf
-  found-irreducible is = answered (ap answerOf is)
+  irreducible-answered is = as-found (ap answerOf is)

@@ -24,7 +24,7 @@ use Rattle.equivalence.specs.declared.Element.{Element}
 use Rattle.decomposition.specs.InnerGathering.{GatheredRight}
 use Rattle.decomposition.specs.declared.gather.Collected.{Collected}
 use Rattle.decomposition.specs.declared.gather.Collected.the-variants.{All, Joined}
-use Rattle.decomposition.specs.InnerFactored.{Storage, listedIn, joinedPair, foundIn}
+use Rattle.decomposition.specs.InnerFactored.{Storage, listedIn, irreducibleWith, foundIn}
 use Rattle.decomposition.specs.declared.Found.{Found}
 use Rattle.decomposition.specs.declared.Found.the-variants.{Irreducible}
 use Rattle.decomposition.proofs.Finding.{found-reducible, found-irreducible}
@@ -110,12 +110,12 @@ module _ (a : Algebra) (accepted : Accepted a) where
           ∙ sym (found-reducible a lent (all-gathered .0))
 
     pub found-joined : {r : Collected} {x y : Element} → r ≡ Joined x y → (after lent : List ℕ) → GatheredRight a r maps after → (Irreducible x y, lent) ≡ foundIn a lent
-    unfolding joinedPair
+    unfolding irreducibleWith
     found-joined e after lent g =
         let h = subst (λ (z : Collected). GatheredRight a z maps after) e g in sym (found-irreducible a lent (h .0) ∙ rw (h .1))
 
   -- 11 for n = 1: nothing is gathered
   pub found-one : a .size ≡ 1 → (lent : List ℕ) → (Irreducible (record { 0 = 0 }) (record { 0 = 0 }), lent) ≡ foundIn a lent
-  unfolding joinedPair
+  unfolding irreducibleWith
   found-one e lent =
       sym (found-irreducible a lent (λ t. absurd (omega (arith, listed-law a c .few, split a c t .some))) ∙ rw (commonPair-one a c e))

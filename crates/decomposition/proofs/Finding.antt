@@ -11,7 +11,7 @@ use Rattle.equivalence.specs.Lent.{written}
 use Rattle.equivalence.proofs.Tests.{pick-yes, pick-no}
 use Rattle.algebra.specs.Algebra.{Algebra}
 use Rattle.theory.specs.Decompose.{listed, reducible, commonPair}
-use Rattle.decomposition.specs.InnerFactored.{listedIn, joinedPair, foundIn}
+use Rattle.decomposition.specs.InnerFactored.{listedIn, irreducibleWith, foundIn}
 use Rattle.decomposition.specs.declared.Found.{Found}
 use Rattle.decomposition.specs.declared.Found.the-variants.{Factors, Short}
 
@@ -32,7 +32,7 @@ module _ (n : ℕ) (ms : List Map) (lent : List ℕ) where
 
 module _ (a : Algebra) (lent : List ℕ) where
   abbrev joined : Found × List ℕ
-  joined = (joinedPair (commonPair a), lent)
+  joined = (irreducibleWith (commonPair a), lent)
 
   pub found-reducible : T (reducible a) → foundIn a lent ≡ listedIn (a .size) (listed a) lent
   unfolding foundIn

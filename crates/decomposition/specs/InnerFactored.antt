@@ -25,10 +25,10 @@ pub record Storage (maps suffixes met needed : List ℕ) : Type 0 where
 unfoldable pub listedIn : ℕ → List Map → List ℕ → Found × List ℕ
 listedIn n ms lent = elim (ltb (length lent) (length ms * n)) [ true ↦ (Short, lent) | false ↦ (Factors (length ms), written (concat ms) lent) ]
 
--- the pair that 11 carries
-unfoldable pub joinedPair : Pair → Found
-joinedPair p = Irreducible (record { 0 = p.0 }) (record { 0 = p.1 })
+-- that an algebra is irreducible, with a pair as elements
+unfoldable pub irreducibleWith : Pair → Found
+irreducibleWith p = Irreducible (record { 0 = p.0 }) (record { 0 = p.1 })
 
 -- what is found of an algebra, and the lent bytes afterwards: the factors, if there is room for them; or the pair
 unfoldable pub foundIn : Algebra → List ℕ → Found × List ℕ
-foundIn a lent = elim (reducible a) [ true ↦ listedIn (a .size) (listed a) lent | false ↦ (joinedPair (commonPair a), lent) ]
+foundIn a lent = elim (reducible a) [ true ↦ listedIn (a .size) (listed a) lent | false ↦ (irreducibleWith (commonPair a), lent) ]

@@ -25,7 +25,7 @@ use Rattle.algebra.specs.Algebra.{Algebra}
 use Rattle.algebra.proofs.Accepted.{WellFormed}
 use Rattle.algebra.proofs.Congruences.{congruence-is, congruence-of}
 use Rattle.theory.specs.Decompose.{added, gathered, pruned, listed, reducible, factorSpace, mostFactorSpace}
-use Rattle.theory.specs.Splitting.{Splitting}
+use Rattle.theory.specs.Splitting.{Splitting, Unsplit}
 use Rattle.theory.proofs.Separation.{MaximalFor, separated-law}
 
 -- ms refines the meet d so far to the identity
@@ -191,6 +191,13 @@ module _ (a : Algebra) (c : WellFormed a) where
           let e = s .each (r .0) (r .1) in
           subst (λ (z : Map). Holds z (p .0) (p .1)) (r .2)
           (p .4 .joined (getD ms (r .0) []) (congruence-is a (getD ms (r .0) []) (e .0)) (λ x y l k g. ap (byte (getD ms (r .0) [])) (fine x y l k g)) (λ g. e .1 (g ∙ is))))))
+
+  -- reducible: some list splits the algebra
+  pub reducible-splits : T (reducible a) → ¬ Unsplit a
+  reducible-splits t u = u (listed a) (split t)
+
+  pub splits-reducible : ¬ Unsplit a → T (reducible a)
+  splits-reducible s = elim (T? (reducible a)) [ yes t ↦ t | no t ↦ absurd (s (unsplit t)) ]
 
 pub gathered-end : (k : ℕ) (a : Algebra) (d : Map) → Discrete (a .size) d → gathered k a d ≡ []
 unfolding gathered

@@ -1,7 +1,7 @@
 -- `decompose`: a test of the algebra declines, or the answer and the bytes are what was found.
 use borrow.Author.Needs.{needs}
 use Rattle.algebra.proofs.Tested.{passed-accepted}
-use Rattle.congruence.proofs.Decomposing.{decompose-declined, found-factors, found-short, found-irreducible}
+use Rattle.congruence.proofs.Decomposing.{decompose-declined, factors-answered, short-answered, irreducible-answered}
 use Rattle.congruence.proofs.decompose.Statement.{statement}
 use Rattle.congruence.proofs.decompose.Tie as tie
 
@@ -33,19 +33,19 @@ same-length : tie.Need-same-length
 same-length c = search needs
 
 returns-2 : tie.Need-returns-2
-returns-2 c = search found-factors
+returns-2 c = search factors-answered
 
 same-length-2 : tie.Need-same-length-2
 same-length-2 c = search needs
 
 returns-3 : tie.Need-returns-3
-returns-3 c = search found-short
+returns-3 c = search short-answered
 
 same-length-3 : tie.Need-same-length-3
 same-length-3 c = search needs
 
 returns-4 : tie.Need-returns-4
-returns-4 c = search found-irreducible
+returns-4 c = search irreducible-answered
 
 pub decompose-spec : {M : Type 1} → statement M
 decompose-spec =
