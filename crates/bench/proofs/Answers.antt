@@ -16,9 +16,10 @@ use Rattle.algebra.specs.Accepted.{algebraTests}
 use Rattle.algebra.specs.Algebra.{Algebra}
 use Rattle.equivalence.proofs.Outcomes.{refusal-injective, success-apart}
 use Rattle.bench.specs.Calls.{sheetTest, benchTest, tallyTest, benched, startTests, startCall, placeTests, handedTests, addTests, addCall, clearTests, clearCall}
+use Rattle.bench.specs.Conversion.{widened, convertTests, convertV1Call}
 use Rattle.bench.specs.Outcome.{answerOutcome}
 use Rattle.bench.specs.Reasons.{BenchReasons}
-use Rattle.bench.proofs.Testing.{doneWith, refused}
+use Rattle.bench.proofs.Testing.{benched-answer}
 use Rattle.bench.specs.declared.Answer.the-variants.{Done, Refused}
 use Rattle.bench.specs.declared.Bench.{Bench}
 
@@ -36,6 +37,10 @@ rises-clear : (b : Bench) (k : ℕ) → T (rises (clearTests b k))
 unfolding rises rank numberOf clearTests sizeTest sheetTest benchTest
 rises-clear b k = tt
 
+rises-convert : (b : Bench) → T (rises (convertTests b))
+unfolding rises rank numberOf convertTests sizeTest benchTest
+rises-convert b = tt
+
 -- ---- a call is refused with the lowest reason
 
 refused-apart : Injective Refused
@@ -44,22 +49,17 @@ refused-apart r s e = cc
 done-never : (r : Refusal) → ¬ (Done ≡ Refused r)
 done-never r e = let z : _≡_ {A = ℕ} 0 1 = cc in omega arith
 
-answer-by : (new other : Bench) (c : Check) → answered (λ r. refused r other) c (doneWith new) .answer ≡ answered Refused c Done
-unfolding answered
-answer-by new other Passed = refl
-answer-by new other (Failed r) = refl
-
 benched-reason : (tests : List Test) (new other : Bench) → T (rises tests) → ReasonRight Refused (benched tests new other .answer) tests
-unfolding benched
-benched-reason tests new other up = rw (answer-by new other (lowest tests)) (answered-reason Refused Done refused-apart done-never tests up)
+benched-reason tests new other up = rw (benched-answer tests new other) (answered-reason Refused Done refused-apart done-never tests up)
 
 pub bench-reasons : BenchReasons
-unfolding startCall addCall clearCall
+unfolding startCall addCall clearCall convertV1Call
 bench-reasons =
     record {
       start = λ n. benched-reason (startTests n) _ _ (rises-start n);
       add = λ b a k x y. benched-reason (addTests b a k x y) _ _ (rises-add b a k x y);
       clear = λ b k. benched-reason (clearTests b k) _ _ (rises-clear b k);
+      convert = λ old. benched-reason (convertTests (widened old)) _ _ (rises-convert (widened old));
     }
 
 -- ---- answers of one outcome are equal

@@ -8,16 +8,21 @@ use lib.ListN.{length, replicate, getD-replicate}
 use Rattle.equivalence.specs.Equivalence.{Map, byte, identity}
 use Rattle.equivalence.proofs.Maps.{identity-map}
 use Rattle.equivalence.proofs.Writing.{written-old}
+use Rattle.equivalence.specs.Refusal.{answered}
+use Rattle.equivalence.specs.declared.Check.{Check}
 use Rattle.equivalence.specs.declared.Refusal.{Refusal}
 use Rattle.algebra.specs.Algebra.{Algebra}
-use Rattle.bench.specs.Calls.{startTests, startCall, mapByAdd, lostByAdd, addCall, clearCall}
-use Rattle.bench.specs.Promises.{OnlySheet, StartPromise, AddPromise, ClearPromise}
+use Rattle.bench.specs.Calls.{startTests, startCall, mapByAdd, lostByAdd, addCall, clearTests, clearCall}
+use Rattle.bench.specs.Conversion.{widened, convertTests, convertV1Call}
+use Rattle.bench.specs.Promises.{OnlySheet, StartPromise, AddPromise, ClearPromise, ConvertPromise}
 use Rattle.bench.specs.State.{mapOn, zeroSheet, sheetWith, eightOf, zeroBench, freshBench, noSheet, sheetOf, withSheet, withMap, raisedBy}
 use Rattle.bench.proofs.Adding.{afterAdd, add-cases, added-length, afterAdd-map, added-least, cleared-map, clear-cases}
+use Rattle.bench.proofs.Conversions.{convert-clear}
 use Rattle.bench.proofs.SheetMaps.{mapOn-sheetWith, withMap-other, withMap-sheets, withMap-past}
-use Rattle.bench.proofs.Testing.{doneWith, refused, benched-cases, start-passed, Addable}
+use Rattle.bench.proofs.Testing.{doneWith, refused, benched-cases, benched-answer, start-passed, Addable}
 use Rattle.bench.specs.declared.Answer.the-variants.{Done, Refused}
 use Rattle.bench.specs.declared.Bench.{Bench}
+use Rattle.bench.specs.declared.conversion.BenchV1.{BenchV1}
 use Rattle.bench.specs.declared.Benched.{Benched}
 
 -- ---- what a call leaves as it was
@@ -131,5 +136,32 @@ start-promise n =
         zeros = λ f. absurd (never-done _ zeroBench (p .0) (p .1) f);
         tally = rw (p .1);
         refused = λ reason f. ap (λ (r : Benched). r .bench) (p .1);
+      }
+    ]
+
+as-clear : (old : BenchV1) (b : Bench) → b .n ≡ old .n → b .sheets ≡ old .sheets → (k : ℕ) → k < 8 → convertV1Call old .answer ≡ clearCall b k .answer
+unfolding convertV1Call clearCall
+as-clear old b e f k h =
+    benched-answer (convertTests (widened old)) (widened old) zeroBench
+    ∙ ap (λ (c : Check). answered Refused c Done) (convert-clear (widened old) b (sym e) (sym f) k h)
+    ∙ sym (benched-answer (clearTests b k) _ b)
+
+pub convert-promise : (old : BenchV1) → ConvertPromise old
+unfolding convertV1Call
+convert-promise old =
+    elim (benched-cases (convertTests (widened old)) (widened old) zeroBench) [
+      | inl p ↦ record {
+        size = λ f. rw (p .1);
+        tally = λ f. rw (p .1);
+        sheets = λ f. rw (p .1);
+        refused = λ reason f. absurd (never-refused _ _ (p .1) reason f);
+        asClear = as-clear old;
+      }
+      | inr p ↦ record {
+        size = λ f. absurd (never-done _ zeroBench (p .0) (p .1) f);
+        tally = λ f. absurd (never-done _ zeroBench (p .0) (p .1) f);
+        sheets = λ f. absurd (never-done _ zeroBench (p .0) (p .1) f);
+        refused = λ reason f. ap (λ (r : Benched). r .bench) (p .1);
+        asClear = as-clear old;
       }
     ]

@@ -51,6 +51,15 @@ module _ (tests : List Test) (new other : Bench) where
       by Passed e = inl (e, benched-passed e)
       by (Failed r) e = inr (r, benched-failed r e)
 
+-- the answer is that of the tests, whatever the benches
+pub benched-answer : (tests : List Test) (new other : Bench) → benched tests new other .answer ≡ answered Refused (lowest tests) Done
+unfolding benched answered
+benched-answer tests new other = by (lowest tests)
+  where
+    by : (c : Check) → answered (λ r. refused r other) c (doneWith new) .answer ≡ answered Refused c Done
+    by Passed = refl
+    by (Failed r) = refl
+
 -- by what the tests found
 module _ (tests : List Test) (new other : Bench) {check : Check} (s : check ≡ lowest tests) where
   pub benched-no : {r : Refusal} → check ≡ Failed r → (b : Bench) → b ≡ other → refused r b ≡ benched tests new other
@@ -66,14 +75,14 @@ benched-append ts rest new other e = rw (lowest-append ts rest e)
 
 -- 13 applies, or does not
 module _ (tally : ℕ) (new other : Bench) where
-  pub tally-refused : 4294967295 < tally → benched (tallyTest tally ∷ []) new other ≡ refused Tally other
+  pub tally-refused : 18446744073709551615 < tally → benched (tallyTest tally ∷ []) new other ≡ refused Tally other
   unfolding tallyTest
-  tally-refused h = benched-failed (tallyTest tally ∷ []) new other Tally (lowest-here (tallyTest tally) [] (lt→ltb 4294967295 tally h))
+  tally-refused h = benched-failed (tallyTest tally ∷ []) new other Tally (lowest-here (tallyTest tally) [] (lt→ltb 18446744073709551615 tally h))
 
-  pub tally-passed : tally ≤ 4294967295 → benched (tallyTest tally ∷ []) new other ≡ doneWith new
+  pub tally-passed : tally ≤ 18446744073709551615 → benched (tallyTest tally ∷ []) new other ≡ doneWith new
   unfolding tallyTest
   tally-passed h =
-      benched-passed (tallyTest tally ∷ []) new other (lowest-next (tallyTest tally) [] (λ t. omega (arith, ltb→lt 4294967295 tally t)) ∙ lowest-none)
+      benched-passed (tallyTest tally ∷ []) new other (lowest-next (tallyTest tally) [] (λ t. omega (arith, ltb→lt 18446744073709551615 tally t)) ∙ lowest-none)
 
 no-or-left : (a b : Bool) → ¬ T (a || b) → ¬ T a
 no-or-left a b h t = h (or-left a b t)
@@ -108,7 +117,7 @@ module _ (k : ℕ) (rest : List Test) where
   unfolding sheetTest
   sheet-failed h = lowest-here (sheetTest k) rest (lt→ltb 7 k (omega arith))
 
-  sheet-next : k < 8 → lowest (sheetTest k ∷ rest) ≡ lowest rest
+  pub sheet-next : k < 8 → lowest (sheetTest k ∷ rest) ≡ lowest rest
   unfolding sheetTest
   sheet-next h = lowest-next (sheetTest k) rest (λ t. omega (arith, ltb→lt 7 k t))
 

@@ -23,9 +23,9 @@ sheetTest k = record { applies = ltb 7 k; reason = Range }
 unfoldable pub benchTest : ℕ → Bench → Test
 benchTest n b = record { applies = not (eqb (b .n) n) || not (every (λ s. isMap n (mapOn n s)) (b .sheets)); reason = NotMap }
 
--- 13: the tally would pass the top of 32 bits
+-- 13: the tally would pass the top of 64 bits
 unfoldable pub tallyTest : ℕ → Test
-tallyTest tally = record { applies = ltb 4294967295 tally; reason = Tally }
+tallyTest tally = record { applies = ltb 18446744073709551615 tally; reason = Tally }
 
 -- a call by its tests: done, with the new bench; or refused, with the other
 unfoldable pub benched : List Test → Bench → Bench → Benched

@@ -8,9 +8,11 @@ use Rattle.equivalence.specs.declared.Refusal.{Refusal}
 use Rattle.algebra.specs.Algebra.{Algebra}
 use Rattle.algebra.specs.Congruence.{Congruence}
 use Rattle.bench.specs.Calls.{startCall, addCall, clearCall}
+use Rattle.bench.specs.Conversion.{convertV1Call}
 use Rattle.bench.specs.State.{mapOn, zeroBench, sheetOf, blocksLost}
 use Rattle.bench.specs.declared.Answer.the-variants.{Done, Refused}
 use Rattle.bench.specs.declared.Bench.{Bench}
+use Rattle.bench.specs.declared.conversion.BenchV1.{BenchV1}
 use Rattle.bench.specs.declared.Benched.{Benched}
 
 -- a call on sheet k left everything but that sheet's map and the tally: n, how many sheets there are, the other sheets, and every byte past n
@@ -53,3 +55,12 @@ pub record ClearPromise (b : Bench) (k : ℕ) : Type 0 where
   pub only : OnlySheet k b (clearCall b k .bench)
   pub map : clearCall b k .answer ≡ Done → mapOn (b .n) (sheetOf (clearCall b k .bench) k) ≡ identity (b .n)
   pub tally : clearCall b k .bench .tally ≡ b .tally
+
+-- Conversion. Accepted: n, the tally as a number and every byte of every sheet are the old bench's. Refused: a bench of zeros. It answers as Clear
+-- does, of whichever of the eight sheets, on a bench with the old one's n and sheets
+pub record ConvertPromise (old : BenchV1) : Type 0 where
+  pub size : convertV1Call old .answer ≡ Done → convertV1Call old .bench .n ≡ old .n
+  pub tally : convertV1Call old .answer ≡ Done → convertV1Call old .bench .tally ≡ old .tally
+  pub sheets : convertV1Call old .answer ≡ Done → convertV1Call old .bench .sheets ≡ old .sheets
+  pub refused : (reason : Refusal) → convertV1Call old .answer ≡ Refused reason → convertV1Call old .bench ≡ zeroBench
+  pub asClear : (b : Bench) → b .n ≡ old .n → b .sheets ≡ old .sheets → (k : ℕ) → k < 8 → convertV1Call old .answer ≡ clearCall b k .answer

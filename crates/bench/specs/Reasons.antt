@@ -3,11 +3,14 @@ use Prim.Native.Nat.{ℕ}
 use Rattle.equivalence.specs.Ranks.{ReasonRight}
 use Rattle.algebra.specs.Algebra.{Algebra}
 use Rattle.bench.specs.Calls.{startTests, startCall, addTests, addCall, clearTests, clearCall}
+use Rattle.bench.specs.Conversion.{widened, convertTests, convertV1Call}
 use Rattle.bench.specs.declared.Answer.the-variants.{Refused}
 use Rattle.bench.specs.declared.Bench.{Bench}
+use Rattle.bench.specs.declared.conversion.BenchV1.{BenchV1}
 
 -- every call, whatever it is handed
 pub record BenchReasons : Type 0 where
   pub start : (n : ℕ) → ReasonRight Refused (startCall n .answer) (startTests n)
   pub add : (b : Bench) (a : Algebra) (k x y : ℕ) → ReasonRight Refused (addCall b a k x y .answer) (addTests b a k x y)
   pub clear : (b : Bench) (k : ℕ) → ReasonRight Refused (clearCall b k .answer) (clearTests b k)
+  pub convert : (old : BenchV1) → ReasonRight Refused (convertV1Call old .answer) (convertTests (widened old))

@@ -5,6 +5,7 @@ ghost use Prim.Native.Nat.{_≤_};
 ghost use Rattle.equivalence.specs.Refusal.{lowest};
 ghost use Rattle.algebra.specs.Algebra.{algebraIn};
 ghost use Rattle.bench.specs.Calls.{startTests, benchTest, clearTests, placeTests, handedTests};
+ghost use Rattle.bench.specs.Conversion.{convertTests};
 use super::Bench;
 use super::SHEETS;
 use super::sheets;
@@ -46,6 +47,17 @@ pub fn clear_check(bench: Bench, sheet: usize) -> Check
     }
     if sheet >= SHEETS {
         return Check::Failed(Refusal::Range);
+    }
+    bench_check(bench, n)
+}
+
+// A conversion's, of the bench that it makes: 1 and 8.
+pub fn convert_check(bench: Bench) -> Check
+    ensures { λ r. ⌜ r ≡ lowest (convertTests bench) ⌝ }
+{
+    let n = bench.n;
+    if !equivalence::checks::is_size(n) {
+        return Check::Failed(Refusal::Size);
     }
     bench_check(bench, n)
 }

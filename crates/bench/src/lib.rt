@@ -12,7 +12,11 @@ use equivalence::Check;
 use equivalence::Refusal;
 
 pub mod checks;
+pub mod conversion;
 pub mod sheets;
+
+pub use conversion::BenchV1;
+pub use conversion::convert_v1;
 
 // How many sheets a bench has.
 pub const SHEETS: usize = 8;
@@ -21,7 +25,7 @@ pub const SHEETS: usize = 8;
 pub const SHEET_BYTES: usize = 64;
 
 // The top of the tally.
-const MAX_TALLY: u64 = 4294967295;
+const MAX_TALLY: u64 = 18446744073709551615;
 
 // A map in its first n bytes. Bytes past n are never read, and no call changes them.
 pub struct Sheet {
@@ -30,7 +34,7 @@ pub struct Sheet {
 
 pub struct Bench {
     pub n: usize,
-    pub tally: u32,
+    pub tally: u64,
     pub sheets: [Sheet; SHEETS],
 }
 
@@ -68,15 +72,15 @@ fn raised(bench: Bench, k: usize, sheet: Sheet, lost: usize) -> Benched
     requires { ⌜ lost ≤ 64 ⌝ }
     ensures { λ r. ⌜ r ≡ benched (tallyTest (bench .tally + lost) ∷ []) (raisedBy lost (withSheet bench k sheet)) bench ⌝ }
 {
-    let total = bench.tally as u64 + lost as u64;
-    if total > MAX_TALLY {
+    let left = MAX_TALLY - bench.tally;
+    if lost as u64 > left {
         return Benched {
             answer: Answer::Refused(Refusal::Tally),
             bench,
         };
     }
     let mut next = sheets::with_sheet(bench, k, sheet);
-    next.tally = total as u32;
+    next.tally = bench.tally + lost as u64;
     Benched {
         answer: Answer::Done,
         bench: next,

@@ -1,7 +1,8 @@
-// Start, Add and Clear on cases that a reader can check by hand: each line is a call, its answer, and the first four bytes of the sheet that it names
-// and the tally after it. The algebra has the elements 0 to 3 and one unary operation with cells 1 0 3 2, but where a line says otherwise.
+// Start, Add, Clear and the conversion of old benches on cases that a reader can check by hand: each line is a call, its answer, and the first four bytes
+// of the sheet that it names (of sheet 5, where it names none) and the tally after it. The algebra has the elements 0 to 3 and one unary operation with cells 1 0 3 2, but where a line says otherwise.
 use bench::Answer;
 use bench::Bench;
+use bench::BenchV1;
 use bench::Benched;
 use bench::Sheet;
 
@@ -25,7 +26,7 @@ fn print_bench(made: Benched, sheet: usize) {
         printing::print_bytes(&[map[0], map[1], map[2], map[3]]);
     }
     io::write_all(1, b", tally ");
-    io::print_decimal(1, made.bench.tally as u64);
+    io::print_decimal(1, made.bench.tally);
     io::write_all(1, b"\n");
 }
 
@@ -97,20 +98,25 @@ fn declined(bench: Bench) {
     let length = add_under(bench, 4, b"\x01\x00\x03", 0, 0, 1);
 }
 
-// A bench of the caller's own making: four elements, identities but on sheet 5, and this tally.
-fn forged(map: [u8; 64], tally: u32) -> Bench {
+// Eight sheets over four elements, with identities but on sheet 5.
+fn sheets_with(map: [u8; 64]) -> [Sheet; 8] {
     let made = bench::start(4);
     let fresh = made.bench;
     let mut sheets = fresh.sheets;
     sheets[5] = Sheet { map };
+    sheets
+}
+
+// A bench of the caller's own making, with these sheets and this tally.
+fn forged(map: [u8; 64], tally: u64) -> Bench {
     Bench {
         n: 4,
         tally,
-        sheets,
+        sheets: sheets_with(map),
     }
 }
 
-// 0 1 2 3, or 0 2 2 3, which is no map.
+// 0 1 2 3, 0 0 2 3, or 0 2 2 3, which is no map.
 fn bytes(second: u8) -> [u8; 64] {
     let mut map = [0u8; 64];
     map[1] = second;
@@ -125,7 +131,7 @@ fn edges() {
     let unnamed = add(faulty, 0, 0, 1);
     let cleared = clear(faulty, 5);
     say(b"the tally one below its top:");
-    let near = forged(bytes(1), 4294967294);
+    let near = forged(bytes(1), 18446744073709551614);
     let passed = add(near, 0, 0, 2);
     let at_top = add(near, 1, 0, 1);
     say(b"and at it:");
@@ -133,8 +139,35 @@ fn edges() {
     let over = add(held, 2, 2, 3);
 }
 
+// Converts an old bench over n, whose tally is at the top of 32 bits.
+fn convert(n: usize, map: [u8; 64]) -> Bench {
+    io::write_all(1, b"convert an old bench over ");
+    io::print_decimal(1, n as u64);
+    io::write_all(1, b" ->");
+    let made = bench::convert_v1(BenchV1 {
+        n,
+        tally: 4294967295,
+        sheets: sheets_with(map),
+    });
+    print_bench(made, 5);
+    made.bench
+}
+
+// Old benches: 0 0 2 3 on sheet 5 is kept, and the tally goes on where 32 bits ended.
+fn conversions() {
+    say(b"sheet 5 is 0 0 2 3, and the tally as it was at its old top:");
+    let kept = convert(4, bytes(0));
+    let more = add(kept, 5, 2, 3);
+    say(b"over another n, and with 0 2 2 3 on sheet 5:");
+    let none = convert(0, bytes(0));
+    let many = convert(65, bytes(0));
+    let faulty = convert(4, bytes(2));
+    let again = clear(faulty, 5);
+}
+
 fn main() {
     let left = work();
     declined(left);
     edges();
+    conversions();
 }

@@ -14,7 +14,7 @@ use Rattle.equivalence.specs.Lent.{laid, stretch}
 use Rattle.equivalence.specs.Lists.{upTo, concat}
 use Rattle.equivalence.proofs.Lists.{upTo-length, table-at}
 use Rattle.equivalence.proofs.Stretches.{concat-append, stretch-concat}
-use Rattle.image.specs.Image.{little, littleIn, part, sheetBytes, sizeBytes, tallyBytes, imageOf, sheetsIn, benchIn, Showable, ImageRight}
+use Rattle.image.specs.Image.{little, littleIn, part, sheetBytes, sizeBytes, tallyBytes, layout, imageOf, imageV1Of, sheetsIn, sizeIn, tallyIn, benchIn, benchV1In, Showable, ImageRight}
 use Rattle.image.specs.InnerSteps.{SheetsLaid}
 use Rattle.image.proofs.Copies.{laid-behind}
 use Rattle.image.proofs.Littles.{little-length, littleIn-little}
@@ -58,16 +58,16 @@ sheetsIn-at image s h = table-at (λ k. record { map = part (k * 64) 64 image })
 
 -- ---- the whole image
 
-pub image-written : (b : Bench) (old begun sized after : List ℕ) → length old ≡ 517 → length (b .sheets) ≡ 8 → SheetsLaid 8 (b .sheets) old begun
-    → sized ≡ laid begun 512 (little 1 (b .n)) → after ≡ laid sized 513 (little 4 (b .tally)) → after ≡ imageOf b
-unfolding imageOf sizeBytes tallyBytes
+pub image-written : (b : Bench) (old begun sized after : List ℕ) → length old ≡ 521 → length (b .sheets) ≡ 8 → SheetsLaid 8 (b .sheets) old begun
+    → sized ≡ laid begun 512 (little 1 (b .n)) → after ≡ laid sized 513 (little 8 (b .tally)) → after ≡ imageOf b
+unfolding imageOf layout sizeBytes tallyBytes
 image-written b old begun sized after long eight l e f =
     let sheets : List ℕ = sheetBytes (b .sheets) in
     let n : List ℕ = little 1 (b .n) in
-    let tally : List ℕ = little 4 (b .tally) in
+    let tally : List ℕ = little 8 (b .tally) in
     let all : take 8 (b .sheets) ≡ b .sheets = take-all 8 (b .sheets) (omega arith) in
     let size : length n ≡ 1 = little-length 1 (b .n) in
-    let four : length tally ≡ 4 = little-length 4 (b .tally) in
+    let wide : length tally ≡ 8 = little-length 8 (b .tally) in
     let front : length sheets ≡ 512 = rw all at (l .long) in
     let first : begun ≡ sheets ++ drop 512 old = rw all at (l .bytes) in
     let second : sized ≡ sheets ++ n ++ drop 513 old =
@@ -75,8 +75,8 @@ image-written b old begun sized after long eight l e f =
     let behind : length (sheets ++ n) ≡ 513 = omega (arith, length-append sheets n) in
     f ∙ ap (λ (x : List ℕ). laid x 513 tally) second
     ∙ laid-behind (sheets ++ n) old tally 513 behind
-    ∙ ap (λ (k : ℕ). sheets ++ n ++ tally ++ drop (513 + k) old) four
-    ∙ ap (λ (x : List ℕ). sheets ++ n ++ tally ++ x) (drop-of-length-le old {i = 517} (omega arith))
+    ∙ ap (λ (k : ℕ). sheets ++ n ++ tally ++ drop (513 + k) old) wide
+    ∙ ap (λ (x : List ℕ). sheets ++ n ++ tally ++ x) (drop-of-length-le old {i = 521} (omega arith))
     ∙ append-nil (sheets ++ n ++ tally)
 
 -- ---- the bench that its image shows
@@ -92,41 +92,54 @@ sheetBytes-length sheets (suc s) l full =
 abbrev sheetWith : List ℕ → Sheet
 sheetWith m = record { map = m }
 
-module _ (b : Bench) (h : Showable b) where
-  sheets-long : length (sheetBytes (b .sheets)) ≡ 512
-  sheets-long =
-      let all : take 8 (b .sheets) ≡ b .sheets = take-all 8 (b .sheets) (omega (arith, h .count)) in
-      rw all at (sheetBytes-length (b .sheets) 8 (omega (arith, h .count)) (h .full))
-
-  sheets-shown : (rest : List ℕ) → sheetsIn (sheetBytes (b .sheets) ++ rest) ≡ b .sheets
-  unfolding sheetBytes part stretch
-  sheets-shown rest =
-      let image : List ℕ = sheetBytes (b .sheets) ++ rest in
-      let maps : List (List ℕ) = map (λ t. t .map) (b .sheets) in
-      let count : length maps ≡ 8 = length-map (b .sheets) (λ t. t .map) ∙ h .count in
-      let at : (k : ℕ) → getD maps k [] ≡ getD (b .sheets) k noSheet .map = λ k. List·getD-map (λ t. t .map) (b .sheets) k noSheet in
-      ext-getD noSheet (sheetsIn image) (b .sheets) (sheetsIn-length image ∙ sym (h .count))
-      (λ k l.
-      let j : k < 8 = omega (arith, sheetsIn-length image) in
-      sheetsIn-at image k j
-      ∙ ap sheetWith (stretch-concat 64 maps rest (λ i o. rw (at i) (h .full i (omega (arith, count)))) k (omega (arith, count)) ∙ at k))
-
 part-mid : (front mid rest : List ℕ) (at k : ℕ) → length front ≡ at → length mid ≡ k → part at k (front ++ mid ++ rest) ≡ mid
 unfolding part
 part-mid front mid rest at k e f = rw (append-assoc front mid rest, drop-at front (mid ++ rest) at e) (take-at mid rest k f)
 
+module _ (k : ℕ) (sheets : List Sheet) (n tally : ℕ) (h : Showable k sheets n tally) where
+  sheets-long : length (sheetBytes sheets) ≡ 512
+  sheets-long =
+      let all : take 8 sheets ≡ sheets = take-all 8 sheets (omega (arith, h .count)) in
+      rw all at (sheetBytes-length sheets 8 (omega (arith, h .count)) (h .full))
+
+  sheets-shown : (rest : List ℕ) → sheetsIn (sheetBytes sheets ++ rest) ≡ sheets
+  unfolding sheetBytes part stretch
+  sheets-shown rest =
+      let image : List ℕ = sheetBytes sheets ++ rest in
+      let maps : List (List ℕ) = map (λ t. t .map) sheets in
+      let count : length maps ≡ 8 = length-map sheets (λ t. t .map) ∙ h .count in
+      let at : (s : ℕ) → getD maps s [] ≡ getD sheets s noSheet .map = λ s. List·getD-map (λ t. t .map) sheets s noSheet in
+      ext-getD noSheet (sheetsIn image) sheets (sheetsIn-length image ∙ sym (h .count))
+      (λ s l.
+      let j : s < 8 = omega (arith, sheetsIn-length image) in
+      sheetsIn-at image s j
+      ∙ ap sheetWith (stretch-concat 64 maps rest (λ i o. rw (at i) (h .full i (omega (arith, count)))) s (omega (arith, count)) ∙ at s))
+
+  -- each of the three parts
+  layout-sheets : sheetsIn (layout k sheets n tally) ≡ sheets
+  unfolding layout
+  layout-sheets = ap sheetsIn (append-assoc (sheetBytes sheets) (sizeBytes n) (tallyBytes k tally)) ∙ sheets-shown (sizeBytes n ++ tallyBytes k tally)
+
+  layout-size : sizeIn (layout k sheets n tally) ≡ n
+  unfolding sizeIn layout sizeBytes
+  layout-size =
+      ap littleIn (part-mid (sheetBytes sheets) (little 1 n) (tallyBytes k tally) 512 1 sheets-long (little-length 1 n)) ∙ littleIn-little 1 n (h .size)
+
+  layout-tally : tallyIn k (layout k sheets n tally) ≡ tally
+  unfolding tallyIn layout sizeBytes tallyBytes
+  layout-tally =
+      let front : List ℕ = sheetBytes sheets ++ little 1 n in
+      let behind : length front ≡ 513 = omega (arith, length-append (sheetBytes sheets) (little 1 n), sheets-long, little-length 1 n) in
+      ap (λ (l : List ℕ). littleIn (part 513 k l)) (sym (append-nil (front ++ little k tally)))
+      ∙ ap littleIn (part-mid front (little k tally) [] 513 k behind (little-length k tally))
+      ∙ littleIn-little k tally (h .tally)
+
 pub image-right : ImageRight
-unfolding benchIn imageOf sizeBytes tallyBytes
-image-right b h =
-    let sheets : List ℕ = sheetBytes (b .sheets) in
-    let n : List ℕ = little 1 (b .n) in
-    let tally : List ℕ = little 4 (b .tally) in
-    let behind : length (sheets ++ n) ≡ 513 = omega (arith, length-append sheets n, sheets-long b h, little-length 1 (b .n)) in
-    let first : sheetsIn (sheets ++ n ++ tally) ≡ b .sheets = ap sheetsIn (append-assoc sheets n tally) ∙ sheets-shown b h (n ++ tally) in
-    let second : littleIn (part 512 1 (sheets ++ n ++ tally)) ≡ b .n =
-    ap littleIn (part-mid sheets n tally 512 1 (sheets-long b h) (little-length 1 (b .n))) ∙ littleIn-little 1 (b .n) (h .size) in
-    let third : littleIn (part 513 4 (sheets ++ n ++ tally)) ≡ b .tally =
-    ap (λ (l : List ℕ). littleIn (part 513 4 l)) (sym (append-nil (sheets ++ n ++ tally)))
-    ∙ ap littleIn (part-mid (sheets ++ n) tally [] 513 4 behind (little-length 4 (b .tally)))
-    ∙ littleIn-little 4 (b .tally) (h .tally) in
-    rw (first, second, third) refl
+unfolding benchIn imageOf benchV1In imageV1Of
+image-right =
+    record {
+      bench = λ b h.
+          rw (layout-sheets 8 (b .sheets) (b .n) (b .tally) h, layout-size 8 (b .sheets) (b .n) (b .tally) h, layout-tally 8 (b .sheets) (b .n) (b .tally) h) refl;
+      first = λ b h.
+          rw (layout-sheets 4 (b .sheets) (b .n) (b .tally) h, layout-size 4 (b .sheets) (b .n) (b .tally) h, layout-tally 4 (b .sheets) (b .n) (b .tally) h) refl;
+    }

@@ -1,24 +1,30 @@
-// A bench as 517 bytes, its image: eight sheets of 64 bytes, the bench's n, and the tally with its lowest byte first.
+// A bench as 521 bytes, its image: eight sheets of 64 bytes, the bench's n, and the tally with its lowest byte first. A bench of the first kind, whose
+// tally is shorter, has 517, and is only read.
 ghost use mathlib.Core.Path.{_≡_};
 ghost use Prim.Native.Nat.{_+_, _≤_, _<_, _^_};
 ghost use lib.ListN.{length};
 ghost use Rattle.equivalence.specs.Lent.{laid};
-ghost use Rattle.image.specs.Image.{part, little, littleIn, sheetsIn, imageOf, benchIn};
+ghost use Rattle.image.specs.Image.{part, little, littleIn, sheetsIn, imageOf, benchIn, benchV1In};
 ghost use Rattle.image.specs.Copies.{copied};
 ghost use Rattle.image.specs.InnerSteps.{SheetsLaid};
 use bench::Bench;
+use bench::BenchV1;
 use bench::SHEET_BYTES;
 use bench::SHEETS;
 use bench::Sheet;
 
-pub const LENGTH: usize = 517;
+pub const LENGTH: usize = 521;
 
-// Where n and the tally begin, and how many bytes the tally has.
+pub const LENGTH_V1: usize = 517;
+
+// Where n and the tally begin, and how many bytes the tally has, and had.
 const SIZE_AT: usize = 512;
 
 const TALLY_AT: usize = 513;
 
-const TALLY_BYTES: usize = 4;
+const TALLY_BYTES: usize = 8;
+
+const TALLY_BYTES_V1: usize = 4;
 
 // Copies the part to the start of out, as far as it fits.
 pub fn copy_part(part: &[u8], out: &mut [u8])
@@ -75,7 +81,7 @@ fn read_map(bytes: &[u8], from: usize) -> [u8; SHEET_BYTES]
 
 // The eight sheets.
 fn read_sheets(bytes: &[u8]) -> [Sheet; SHEETS]
-    requires { ⌜ length (now bytes) ≡ 517 ⌝ }
+    requires { ⌜ 512 ≤ length (now bytes) ⌝ }
     ensures { λ r. ⌜ r ≡ sheetsIn (now (bytes .entry)) ⌝ }
 {
     let mut sheets = [Sheet {
@@ -92,13 +98,28 @@ fn read_sheets(bytes: &[u8]) -> [Sheet; SHEETS]
 
 // The bench that the image shows.
 pub fn read(bytes: &[u8]) -> Bench
-    requires { ⌜ length (now bytes) ≡ 517 ⌝ }
+    requires { ⌜ length (now bytes) ≡ 521 ⌝ }
     ensures { λ r. ⌜ r ≡ benchIn (now (bytes .entry)) ⌝ }
 {
     let sheets = read_sheets(bytes);
     let n = read_little(bytes, SIZE_AT, 1) as usize;
-    let tally = read_little(bytes, TALLY_AT, TALLY_BYTES) as u32;
+    let tally = read_little(bytes, TALLY_AT, TALLY_BYTES);
     Bench {
+        n: n,
+        tally: tally,
+        sheets: sheets,
+    }
+}
+
+// The bench of the first kind that the image shows.
+pub fn read_v1(bytes: &[u8]) -> BenchV1
+    requires { ⌜ length (now bytes) ≡ 517 ⌝ }
+    ensures { λ r. ⌜ r ≡ benchV1In (now (bytes .entry)) ⌝ }
+{
+    let sheets = read_sheets(bytes);
+    let n = read_little(bytes, SIZE_AT, 1) as usize;
+    let tally = read_little(bytes, TALLY_AT, TALLY_BYTES_V1) as u32;
+    BenchV1 {
         n: n,
         tally: tally,
         sheets: sheets,
@@ -129,7 +150,7 @@ fn lay_map(map: &[u8; SHEET_BYTES], bytes: &mut [u8], to: usize)
 
 // Writes the eight sheets.
 fn write_sheets(sheets: [Sheet; SHEETS], bytes: &mut [u8])
-    requires { ⌜ length (now bytes) ≡ 517 ⌝ }
+    requires { ⌜ length (now bytes) ≡ 521 ⌝ }
     ensures { λ _. ⌜ SheetsLaid 8 sheets (now (bytes .entry)) (now (bytes .exit)) × (length sheets ≡ 8) ⌝ }
 {
     let mut s = 0;
@@ -143,11 +164,11 @@ fn write_sheets(sheets: [Sheet; SHEETS], bytes: &mut [u8])
 
 // Writes the image of a bench.
 pub fn write(bench: Bench, bytes: &mut [u8])
-    requires { ⌜ length (now bytes) ≡ 517 ⌝ }
+    requires { ⌜ length (now bytes) ≡ 521 ⌝ }
     ensures { λ _. ⌜ now (bytes .exit) ≡ imageOf bench ⌝ }
 {
     let sheets = bench.sheets;
     write_sheets(sheets, bytes);
     write_little(bench.n as u64, 1, bytes, SIZE_AT);
-    write_little(bench.tally as u64, TALLY_BYTES, bytes, TALLY_AT);
+    write_little(bench.tally, TALLY_BYTES, bytes, TALLY_AT);
 }

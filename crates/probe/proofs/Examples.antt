@@ -3,14 +3,15 @@ use mathlib.Core.List.{[], _∷_}
 use mathlib.Core.Path.{_≡_, refl}
 use Rattle.bench.specs.Calls.{clearCall}
 use Rattle.equivalence.specs.Order.{rowStart, placeOf}
-use Rattle.probe.specs.Calls.{placeNumber, imageCall}
+use Rattle.probe.specs.Calls.{placeNumber, imageCall, oldImageCall}
 
 pub record ProbeExamples : Type 0 where
-  -- an image of another length
+  -- an image of another length, and an old one
   pub other : imageCall (λ b. clearCall b 0) (1 ∷ []) ≡ (255, 1 ∷ [])
+  pub old : oldImageCall (1 ∷ []) (2 ∷ []) ≡ (255, 2 ∷ [])
   -- the first pair, and no pair
   pub place : (placeNumber (placeOf 0 1) ≡ 0) × (placeNumber (placeOf 1 1) ≡ 65535)
 
 pub probe-examples : ProbeExamples
-unfolding rowStart placeOf placeNumber imageCall
-probe-examples = record { other = refl; place = (refl, refl) }
+unfolding rowStart placeOf placeNumber imageCall oldImageCall
+probe-examples = record { other = refl; old = refl; place = (refl, refl) }

@@ -7,8 +7,10 @@ use native.Mathlib.Omega.{arith}
 use lib.Dec.{eqb, eqb→eq}
 use lib.ListN.{length}
 use denote.Ref.{RefT, now}
+use Rattle.bench.specs.Conversion.{convertV1Call}
 use Rattle.bench.specs.Outcome.{answerOutcome}
 use Rattle.bench.specs.declared.Bench.{Bench}
+use Rattle.bench.specs.declared.conversion.BenchV1.{BenchV1}
 use Rattle.bench.specs.declared.Benched.{Benched}
 use Rattle.equivalence.specs.Outcome.{Outcome, packed}
 use Rattle.equivalence.specs.Calls.{preferCheck, earlierOf, Preferred}
@@ -20,8 +22,8 @@ use Rattle.equivalence.specs.declared.Check.the-variants.{Passed, Failed}
 use Rattle.equivalence.specs.declared.Place.the-variants.{At}
 use Rattle.equivalence.proofs.Places.{place-index}
 use Rattle.equivalence.proofs.Tests.{eq→eqb, pick, pick-yes, pick-no}
-use Rattle.image.specs.Image.{imageOf, benchIn}
-use Rattle.probe.specs.Calls.{preferred, imageCall}
+use Rattle.image.specs.Image.{imageOf, benchIn, benchV1In}
+use Rattle.probe.specs.Calls.{preferred, shown, imageCall, oldImageCall}
 
 -- ---- places
 
@@ -59,16 +61,40 @@ call-number {A} outcome call e f = (f ∙ ap (λ (p : A × List ℕ). packed (ou
 
 -- ---- a call over an image
 
+pub shown-by : (r : Benched) (number : ℕ) (after : List ℕ) → after ≡ imageOf (r .bench) → number ≡ packed (answerOutcome (r .answer)) → (number, after) ≡ shown r
+unfolding shown
+shown-by r number after e f = rw (e, f)
+
 module _ (call : Bench → Benched) (image : List ℕ) where
-  pub image-other : ¬ (length image ≡ 517) → (255, image) ≡ imageCall call image
+  pub image-other : ¬ (length image ≡ 521) → (255, image) ≡ imageCall call image
   unfolding imageCall
-  image-other h = sym (pick-no (eqb (length image) 517) _ (255, image) (λ t. h (eqb→eq (length image) 517 t)))
+  image-other h = sym (pick-no (eqb (length image) 521) _ (255, image) (λ t. h (eqb→eq (length image) 521 t)))
 
-  called : length image ≡ 517 → (packed (answerOutcome (call (benchIn image) .answer)), imageOf (call (benchIn image) .bench)) ≡ imageCall call image
+  -- by its steps: the bench read, the call made, what it gave shown
+  pub image-called : length image ≡ 521 → (before : Bench) → before ≡ benchIn image → (r : Benched) → r ≡ call before → (after : ℕ × List ℕ) → after ≡ shown r
+      → after ≡ imageCall call image
   unfolding imageCall
-  called e = sym (pick-yes (eqb (length image) 517) _ (255, image) (eq→eqb (length image) 517 e))
+  image-called e before f r g after h = rw (h, g, f) (sym (pick-yes (eqb (length image) 521) _ (255, image) (eq→eqb (length image) 521 e)))
 
-  -- by its steps: the bench read, the call made, the bench after it written, the answer's number
-  pub image-called : (before : Bench) (r : Benched) (number : ℕ) (after : List ℕ) → length image ≡ 517 → before ≡ benchIn image → r ≡ call before
-      → after ≡ imageOf (r .bench) → number ≡ packed (answerOutcome (r .answer)) → (number, after) ≡ imageCall call image
-  image-called before r number after e f g h i = rw (h, i, g, f) (called e)
+-- a call that looks at no bench
+pub image-given : (given : Benched) (image : List ℕ) → length image ≡ 521 → (r : Benched) → r ≡ given → (after : ℕ × List ℕ) → after ≡ shown r
+    → after ≡ imageCall (λ b. given) image
+image-given given image e r f after g = image-called (λ b. given) image e (benchIn image) refl r f after g
+
+-- a conversion, over two images
+module _ (old image : List ℕ) where
+  pub old-other : ¬ (length old ≡ 517) → (255, image) ≡ oldImageCall old image
+  unfolding oldImageCall
+  old-other h = sym (pick-no (eqb (length old) 517) _ (255, image) (λ t. h (eqb→eq (length old) 517 t)))
+
+  module _ (e : length old ≡ 517) where
+    old-read : imageCall (λ b. convertV1Call (benchV1In old)) image ≡ oldImageCall old image
+    unfolding oldImageCall
+    old-read = sym (pick-yes (eqb (length old) 517) _ (255, image) (eq→eqb (length old) 517 e))
+
+    pub new-other : ¬ (length image ≡ 521) → (255, image) ≡ oldImageCall old image
+    new-other h = image-other _ image h ∙ old-read
+
+    pub old-called : length image ≡ 521 → (before : BenchV1) → before ≡ benchV1In old → (r : Benched) → r ≡ convertV1Call before → (after : ℕ × List ℕ)
+        → after ≡ shown r → after ≡ oldImageCall old image
+    old-called f before g r h after i = image-given _ image f r (h ∙ ap convertV1Call g) after i ∙ old-read

@@ -4,6 +4,7 @@ use mathlib.Core.Bool.{true, false}
 use mathlib.Core.List.{List, []}
 use lib.Dec.{eqb}
 use lib.ListN.{length}
+use Rattle.bench.specs.Conversion.{convertV1Call}
 use Rattle.bench.specs.Outcome.{answerOutcome}
 use Rattle.bench.specs.declared.Bench.{Bench}
 use Rattle.bench.specs.declared.Benched.{Benched}
@@ -16,7 +17,7 @@ use Rattle.equivalence.specs.declared.Place.the-variants.{At, Nowhere}
 use Rattle.algebratext.specs.Calls.{readCall}
 use Rattle.head.specs.Head.{readNumber, headOf}
 use Rattle.image.specs.Copies.{copied}
-use Rattle.image.specs.Image.{imageOf, benchIn}
+use Rattle.image.specs.Image.{imageOf, benchIn, benchV1In}
 
 -- a place, or 65,535 for none
 unfoldable pub placeNumber : Place → ℕ
@@ -31,13 +32,17 @@ preferred n a b = answered (λ r. []) (preferCheck n a b) (earlierOf n a b a b)
 unfoldable pub preferCopy : ℕ → Map → Map → List ℕ → ℕ × List ℕ
 preferCopy n a b lent = (length (preferred n a b), copied (preferred n a b) lent)
 
--- a call of the bench over an image: the number of its answer, and the image of the bench after it; an image of another length gives 255 and stays
+-- what a call of the bench gave, as the number of its answer and the image of the bench after it
+unfoldable pub shown : Benched → ℕ × List ℕ
+shown r = (packed (answerOutcome (r .answer)), imageOf (r .bench))
+
+-- a call of the bench over an image: its number, and the image after it; an image of another length gives 255 and stays
 unfoldable pub imageCall : (Bench → Benched) → List ℕ → ℕ × List ℕ
-imageCall call image =
-    elim (eqb (length image) 517) [
-      | true ↦ (packed (answerOutcome (call (benchIn image) .answer)), imageOf (call (benchIn image) .bench))
-      | false ↦ (255, image)
-    ]
+imageCall call image = elim (eqb (length image) 521) [ true ↦ shown (call (benchIn image)) | false ↦ (255, image) ]
+
+-- a conversion over an old image and a new one: its number, and the new image after it; where either has another length, 255, and the new one stays
+unfoldable pub oldImageCall : List ℕ → List ℕ → ℕ × List ℕ
+oldImageCall old image = elim (eqb (length old) 517) [ true ↦ imageCall (λ b. convertV1Call (benchV1In old)) image | false ↦ (255, image) ]
 
 -- Read, over a head of 18 bytes: the number, the cells and the head after it; a head of another length gives 255, and nothing is written
 unfoldable pub headCall : List ℕ → List ℕ → List ℕ → ℕ × (List ℕ × List ℕ)

@@ -1,5 +1,6 @@
 // Services that have no C function, made callable for the comparisons in tests/ (tests/PROBE.md). Only the tests link this library.
 ghost use mathlib.Core.Path.{_≡_};
+ghost use lib.ListN.{length};
 ghost use Rattle.equivalence.specs.Calls.{meetCall, joinCall};
 ghost use Rattle.equivalence.specs.Order.{placeOf};
 ghost use Rattle.algebra.specs.Algebra.{algebraIn};
@@ -7,11 +8,13 @@ ghost use Rattle.congruence.specs.Calls.{quotientCall, certifyCall};
 ghost use Rattle.equivalence.specs.Outcome.{packed, writtenOutcome};
 ghost use Rattle.congruence.specs.Outcome.{dividedOutcome, certifiedOutcome};
 ghost use Rattle.bench.specs.Calls.{startCall, addCall, clearCall};
-ghost use Rattle.probe.specs.Calls.{placeNumber, preferCopy, imageCall, headCall};
+ghost use Rattle.probe.specs.Calls.{placeNumber, preferCopy, shown, imageCall, oldImageCall, headCall};
 ghost use Rattle.head.specs.Head.{textNumber};
 ghost use Rattle.algebratext.specs.Calls.{writeCall};
+use bench::Benched;
 use head::HEAD_LENGTH;
 use image::LENGTH as IMAGE_LENGTH;
+use image::LENGTH_V1 as OLD_IMAGE_LENGTH;
 
 mod numbers;
 
@@ -77,6 +80,17 @@ pub extern "C" fn probe_certify(n: usize, arities: &[u8], cells: &[u8], maps: &[
     outcome::certified_number(congruence::certify(n, arities, cells, maps))
 }
 
+// Writes the image of the bench that a call gave, and gives the number of its answer.
+fn show(done: Benched, bytes: &mut [u8]) -> u32
+    requires { ⌜ length (now bytes) ≡ 521 ⌝ }
+    ensures { λ r. ⌜ (r, now (bytes .exit)) ≡ shown done ⌝ }
+{
+    let after = done.bench;
+    image::write(after, bytes);
+    let answer = done.answer;
+    numbers::answer_number(answer)
+}
+
 // Start, over a bench's image: the reason, or 255 for an image of another length.
 #[no_mangle]
 pub extern "C" fn probe_bench_start(n: usize, bytes: &mut [u8]) -> u32
@@ -86,10 +100,7 @@ pub extern "C" fn probe_bench_start(n: usize, bytes: &mut [u8]) -> u32
         return OTHER_LENGTH;
     }
     let done = bench::start(n);
-    let after = done.bench;
-    image::write(after, bytes);
-    let answer = done.answer;
-    numbers::answer_number(answer)
+    show(done, bytes)
 }
 
 // Add, over a bench's image.
@@ -110,10 +121,7 @@ pub extern "C" fn probe_bench_add(
     }
     let before = image::read(bytes);
     let done = bench::add(before, n, arities, cells, sheet, x, y);
-    let after = done.bench;
-    image::write(after, bytes);
-    let answer = done.answer;
-    numbers::answer_number(answer)
+    show(done, bytes)
 }
 
 // Clear, over a bench's image.
@@ -126,10 +134,23 @@ pub extern "C" fn probe_bench_clear(bytes: &mut [u8], sheet: usize) -> u32
     }
     let before = image::read(bytes);
     let done = bench::clear(before, sheet);
-    let after = done.bench;
-    image::write(after, bytes);
-    let answer = done.answer;
-    numbers::answer_number(answer)
+    show(done, bytes)
+}
+
+// The conversion of an old bench, over its image and one for the new bench: the reason, or 255 where either has another length.
+#[no_mangle]
+pub extern "C" fn probe_bench_convert(old: &[u8], bytes: &mut [u8]) -> u32
+    ensures { λ r. ⌜ (r, now (bytes .exit)) ≡ oldImageCall (now (old .entry)) (now (bytes .entry)) ⌝ }
+{
+    if old.len() != OLD_IMAGE_LENGTH {
+        return OTHER_LENGTH;
+    }
+    if bytes.len() != IMAGE_LENGTH {
+        return OTHER_LENGTH;
+    }
+    let before = image::read_v1(old);
+    let done = bench::convert_v1(before);
+    show(done, bytes)
 }
 
 // The writer of algebras: the reason, or 256 × the length of the text.

@@ -1,17 +1,14 @@
 -- `bench::raised` meets its contract.
 use mathlib.Core.Path.{sym}
 use native.Mathlib.Omega.{arith}
-use borrow.Author.Needs.{needs}
 use Rattle.bench.specs.State.{raisedBy, withSheet}
 use Rattle.bench.proofs.Testing.{tally-refused, tally-passed}
+use borrow.Author.Needs.{needs}
 use Rattle.bench.proofs.raised.Statement.{statement}
 use Rattle.bench.proofs.raised.Tie as tie
 
-cast-total : tie.Need-cast-total
-cast-total c = search needs
-
-add-total : tie.Need-add-total
-add-total c = search needs
+sub-left : tie.Need-sub-left
+sub-left c = search needs
 
 returns : tie.Need-returns
 returns c = sym (tally-refused _ _ _ (omega arith))
@@ -19,14 +16,12 @@ returns c = sym (tally-refused _ _ _ (omega arith))
 with-sheet-requires : tie.Need-with-sheet-requires
 with-sheet-requires c κs = search needs
 
-cast-next : tie.Need-cast-next
-cast-next c = search needs
+add-next : tie.Need-add-next
+add-next c = search needs
 
 returns-2 : tie.Need-returns-2
 unfolding raisedBy withSheet
-returns-2 c = rw (c .with-sheet .ensures) (sym (tally-passed _ _ _ (omega arith)))
+returns-2 c = rw (c .before .with-sheet .ensures) (sym (tally-passed _ _ _ (omega arith)))
 
 pub raised-spec : {M : Type 1} → statement M
-raised-spec =
-    tie.close
-    (tie.spec cast-total add-total returns with-sheet-requires cast-next returns-2)
+raised-spec = tie.close (tie.spec sub-left returns with-sheet-requires add-next returns-2)

@@ -1,6 +1,6 @@
 -- `image::write` meets its contract.
-use borrow.Author.Needs.{needs}
 use Rattle.image.proofs.Images.{image-written}
+use borrow.Author.Needs.{needs}
 use Rattle.image.proofs.write.Statement.{statement}
 use Rattle.image.proofs.write.Tie as tie
 
@@ -9,9 +9,6 @@ write-sheets-requires c κs = search needs
 
 write-little-requires : tie.Need-write-little-requires
 write-little-requires c κs = search needs
-
-cast-write-little : tie.Need-cast-write-little
-cast-write-little c = search needs
 
 write-little-requires-2 : tie.Need-write-little-requires-2
 write-little-requires-2 c κs = search needs
@@ -23,4 +20,11 @@ returns : tie.Need-returns
 returns c = search image-written
 
 pub write-spec : {M : Type 1} → statement M
-write-spec = tie.close (tie.spec write-sheets-requires write-little-requires cast-write-little write-little-requires-2 same-length returns)
+write-spec =
+    tie.close
+    (tie.spec
+    write-sheets-requires
+    write-little-requires
+    write-little-requires-2
+    same-length
+    returns)
