@@ -11,7 +11,7 @@ use Rattle.bench.specs.declared.Benched.{Benched}
 abbrev pub widened : BenchV1 → Bench
 widened old = record { n = old .n; tally = old .tally; sheets = old .sheets }
 
--- the tests of a conversion, of the bench that it makes: 1 of its own n, and 8
+-- a conversion's tests, of the bench that it makes: 1 of that bench's n, and 8
 unfoldable pub convertTests : Bench → List Test
 convertTests b = sizeTest (b .n) ∷ benchTest (b .n) b ∷ []
 

@@ -35,7 +35,7 @@ sizeBytes n = little 1 n
 unfoldable pub tallyBytes : ℕ → ℕ → List ℕ
 tallyBytes k tally = little k tally
 
--- sheets, an n and a tally of k bytes
+-- sheets, an n and a tally of k bytes, one behind the other
 unfoldable pub layout : ℕ → List Sheet → ℕ → ℕ → List ℕ
 layout k sheets n tally = sheetBytes sheets ++ sizeBytes n ++ tallyBytes k tally
 
@@ -51,10 +51,11 @@ imageV1Of b = layout 4 (b .sheets) (b .n) (b .tally)
 unfoldable pub sheetsIn : List ℕ → List Sheet
 sheetsIn image = map (λ k. record { map = part (k * 64) 64 image }) (upTo 8)
 
--- the n that an image shows, and its tally of k bytes
+-- the n that an image shows
 unfoldable pub sizeIn : List ℕ → ℕ
 sizeIn image = littleIn (part 512 1 image)
 
+-- the tally of k bytes that an image shows
 unfoldable pub tallyIn : ℕ → List ℕ → ℕ
 tallyIn k image = littleIn (part 513 k image)
 
