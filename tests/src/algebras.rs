@@ -341,6 +341,30 @@ pub fn any(limit: usize, cells: usize, rng: &mut Rng) -> Named {
     }
 }
 
+/// One random algebra, sometimes damaged so that one of 1 to 6 applies.
+pub fn sometimes_damaged(limit: usize, cells: usize, rng: &mut Rng) -> Algebra {
+    let mut a = any(limit, cells, rng).algebra;
+    match rng.below(40) {
+        0 => a.n = *rng.pick(&[0, 65, 256, usize::MAX]),
+        1 => a.arities.push(4),
+        2 => a.arities = vec![0; 17],
+        3 => a.cells.push(0),
+        4 => {
+            a.cells.pop();
+        }
+        5 if !a.cells.is_empty() => {
+            let i = rng.below(a.cells.len());
+            a.cells[i] = rng.byte();
+        }
+        6 => {
+            a.n = 64;
+            a.arities = vec![3];
+        }
+        _ => {}
+    }
+    a
+}
+
 /// The full-size algebras of the benchmarks.
 pub fn workloads(rng: &mut Rng) -> Vec<Named> {
     let eight = dihedral(4);

@@ -142,30 +142,6 @@ mod linked {
         }
     }
 
-    /// An algebra, sometimes damaged.
-    fn some_algebra(limit: usize, cells: usize, rng: &mut Rng) -> Algebra {
-        let mut a = algebras::any(limit, cells, rng).algebra;
-        match rng.below(40) {
-            0 => a.n = *rng.pick(&[0, 65, 256, usize::MAX]),
-            1 => a.arities.push(4),
-            2 => a.arities = vec![0; 17],
-            3 => a.cells.push(0),
-            4 => {
-                a.cells.pop();
-            }
-            5 if !a.cells.is_empty() => {
-                let i = rng.below(a.cells.len());
-                a.cells[i] = rng.byte();
-            }
-            6 => {
-                a.n = 64;
-                a.arities = vec![3];
-            }
-            _ => {}
-        }
-        a
-    }
-
     /// Quotient's answer, and whether all else was left alone.
     fn ask_quotient(a: &Algebra, given: &[u8], lent: &[u8], rng: &mut Rng) -> (Answer, bool) {
         let (mut ar, mut ce) = (Guarded::new(&a.arities, rng), Guarded::new(&a.cells, rng));
@@ -182,7 +158,7 @@ mod linked {
         let mut seen = [0u32; 256];
         for round in 0..20_000 {
             let (limit, cells) = if round % 100 == 0 { (64, 6000) } else { (7, 400) };
-            let a = some_algebra(limit, cells, &mut s.rng);
+            let a = algebras::sometimes_damaged(limit, cells, &mut s.rng);
             let mut given = some_map(a.n, &mut s.rng);
             let good = outside_tests::reference::algebra::reason(a.n, &a.arities, &a.cells) == 0;
             if good && map::is_map(a.n, &given) && !s.rng.once_in(4) {
@@ -217,7 +193,7 @@ mod linked {
         let mut seen = [0u32; 3];
         for round in 0..20_000 {
             let (limit, cells) = if round % 100 == 0 { (40, 3000) } else { (6, 300) };
-            let a = some_algebra(limit, cells, &mut s.rng);
+            let a = algebras::sometimes_damaged(limit, cells, &mut s.rng);
             let n = a.n;
             let maps = some_list(&mut reference, &a, &mut s.rng);
             let expected = match reference.certify(n, &a.arities, &a.cells, &maps) {
@@ -359,7 +335,7 @@ mod linked {
                     let arities = algebras::random_arities(n, 200, &mut s.rng);
                     let mut a = algebras::lifted(n, blocks, &arities, &mut s.rng);
                     if s.rng.once_in(15) {
-                        a = some_algebra(limit, 200, &mut s.rng);
+                        a = algebras::sometimes_damaged(limit, 200, &mut s.rng);
                     }
                     let (x, y) = (s.rng.below(n + s.rng.clone().below(2)), s.rng.below(n));
                     what = format!("add {x} {y} to {sheet}, {a:?}, of {now:?}");
