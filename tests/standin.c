@@ -2,7 +2,7 @@
  * that the comparisons can fail.
  *
  * The four services of include/congruence.h go to the optimized baseline; the
- * eleven functions of tests/PROBE.md are written out plainly here. The environment
+ * twelve functions of tests/PROBE.md are written out plainly here. The environment
  * variable STANDIN_FAULT names one fault of the list below; without it there is
  * none. */
 #include <stdlib.h>
@@ -11,7 +11,7 @@
 #include "../benches/baseline.h"
 #include "../include/congruence.h"
 
-enum { SHEETS = 8, STRIDE = 64, IMAGE = 517, NO_PLACE = 65535, NO_IMAGE = 255 };
+enum { SHEETS = 8, STRIDE = 64, NO_PLACE = 65535 };
 
 /* ---- faults ------------------------------------------------------------- */
 
@@ -45,7 +45,38 @@ static const char *const faults[] = {
     "space-scratch",        /* decompose: the lent bytes are written before 9 is said */
     "space-count",          /* decompose: 9 carries the count */
     "space-first",          /* decompose: 9 is tested before 1 to 6 */
-    "meet", "join", "prefer", "place", "quotient", "certify", "start", "tally", "other-sheet", "clear-tally",
+    "meet", "join", "prefer", "place", "quotient", "certify",
+    "start",                /* the tally does not begin at 0 */
+    "other-sheet",          /* add writes another sheet */
+    "clear-tally",          /* clear lowers the tally */
+    "clear-high",           /* clear drops the tally's four high bytes */
+    "bench-length",         /* a longer image is taken */
+    "tally",                /* 13 is never said */
+    "tally-old",            /* 13 at the top of 32 bits */
+    "tally-signed",         /* 13 at the top of 63 bits */
+    "tally-early",          /* 13 where the top would be met */
+    "tally-zero",           /* 13 at the top though nothing is lost */
+    "tally-wraps",          /* 13 only where the sum has wrapped to 0 */
+    "tally-stays",          /* the tally stops at the top, and 0 is said */
+    "tally-four",           /* only four bytes of the tally are written */
+    "convert-high",         /* the two high bytes of the old tally are dropped */
+    "convert-signed",       /* the old tally's highest bit is a sign */
+    "convert-behind",       /* the four high bytes of the tally keep what was lent */
+    "convert-sheet",        /* the last sheet is dropped */
+    "convert-past",         /* bytes past n become 0 */
+    "convert-all-bytes",    /* 8 looks at bytes past n too */
+    "convert-one-sheet",    /* 8 looks at the first sheet only */
+    "convert-seven-sheets", /* 8 does not look at the last sheet */
+    "convert-last",         /* 8 does not look at a map's last byte */
+    "convert-rising",       /* a byte at most its index is enough for a map */
+    "convert-eight-first",  /* 8 is tested before 1 */
+    "convert-untested",     /* n is not tested */
+    "convert-old",          /* refused, the old bench is given */
+    "convert-unwritten",    /* refused, nothing is written */
+    "convert-input",        /* the old image is written */
+    "convert-after",        /* the byte after the new image is written */
+    "convert-length",       /* a longer old image is taken */
+    "convert-new-length",   /* a longer new image is lent and taken */
     "write-length",         /* the length is one too high */
     "write-nine-early",     /* a byte more is wanted than the text has */
     "write-nine-late",      /* a byte less is enough */
@@ -560,6 +591,19 @@ uint32_t probe_certify(size_t n, const uint8_t *arities, size_t arities_len,
 
 /* ---- the bench, as an image ----------------------------------------------- */
 
+/* The sheets, n and the tally; an old bench has four bytes of tally. */
+enum { SIZE_AT = SHEETS * STRIDE, TALLY_AT, OLD_IMAGE = TALLY_AT + 4, IMAGE = TALLY_AT + 8, NO_IMAGE = 255 };
+
+static int is_image(size_t image_len)
+{
+    return image_len == IMAGE || (image_len > IMAGE && fault("bench-length"));
+}
+
+static int is_size(size_t n)
+{
+    return n >= 1 && n <= STRIDE;
+}
+
 static int has_maps(size_t n, const uint8_t *image)
 {
     for (size_t i = 0; i < SHEETS; i++) {
@@ -570,30 +614,70 @@ static int has_maps(size_t n, const uint8_t *image)
     return 1;
 }
 
+static uint64_t number_in(const uint8_t *bytes, size_t count)
+{
+    return count == 0 ? 0 : bytes[0] + (number_in(bytes + 1, count - 1) << 8);
+}
+
+static void put_little(uint8_t *bytes, size_t count, uint64_t number)
+{
+    for (size_t i = 0; i < count; i++) {
+        bytes[i] = (uint8_t)(number >> (8 * i));
+    }
+}
+
 uint32_t probe_bench_start(size_t n, uint8_t *image, size_t image_len)
 {
-    if (image_len != IMAGE) {
+    if (!is_image(image_len)) {
         return NO_IMAGE;
     }
     memset(image, 0, IMAGE);
-    if (n == 0 || n > STRIDE) {
+    if (!is_size(n)) {
         return 1;
     }
-    image[SHEETS * STRIDE] = (uint8_t)n;
+    image[SIZE_AT] = (uint8_t)n;
     for (size_t i = 0; i < SHEETS; i++) {
         for (size_t x = 0; x < n; x++) {
             image[i * STRIDE + x] = (uint8_t)x;
         }
     }
-    image[IMAGE - 1] = fault("start");
+    image[IMAGE - 1] = (uint8_t)fault("start");
     return 0;
+}
+
+/* Whether a tally cannot rise by so much. */
+static int passes_top(uint64_t tally, uint64_t lost)
+{
+    const uint64_t left = UINT64_MAX - tally;
+    uint64_t top = UINT64_MAX;
+    if (fault("tally-old") || fault("tally-signed")) {
+        top = fault("tally-old") ? UINT32_MAX : UINT64_MAX / 2;
+    }
+    if (fault("tally") || fault("tally-stays")) {
+        return 0;
+    }
+    if (fault("tally-wraps")) {
+        return lost > 0 && tally + lost == 0;
+    }
+    if (fault("tally-zero") && left == 0) {
+        return 1;
+    }
+    if (fault("tally-early") && lost > 0 && lost == left) {
+        return 1;
+    }
+    return lost > left || tally + lost > top;
+}
+
+static uint64_t raised(uint64_t tally, uint64_t lost)
+{
+    return fault("tally-stays") && lost > UINT64_MAX - tally ? UINT64_MAX : tally + lost;
 }
 
 uint32_t probe_bench_add(uint8_t *image, size_t image_len, size_t n,
                          const uint8_t *arities, size_t arities_len,
                          const uint8_t *cells, size_t cells_len, size_t sheet, size_t x, size_t y)
 {
-    if (image_len != IMAGE) {
+    if (!is_image(image_len)) {
         return NO_IMAGE;
     }
     const uint32_t reason = algebra_reason(n, arities, arities_len, cells, cells_len);
@@ -603,35 +687,31 @@ uint32_t probe_bench_add(uint8_t *image, size_t image_len, size_t n,
     if (sheet >= SHEETS || x >= n || y >= n) {
         return 7;
     }
-    if (image[SHEETS * STRIDE] != n || !has_maps(n, image)) {
+    if (image[SIZE_AT] != n || !has_maps(n, image)) {
         return 8;
     }
-    uint8_t m[STRIDE], *tally = image + SHEETS * STRIDE + 1;
+    uint8_t m[STRIDE];
     memcpy(m, image + sheet * STRIDE, n);
     join_pair(n, m, (uint8_t)x, (uint8_t)y);
     while (pass(n, arities, arities_len, cells, m, 1, 3)) {
     }
-    uint64_t sum = blocks(n, image + sheet * STRIDE) - blocks(n, m);
-    for (unsigned i = 0; i < 4; i++) {
-        sum += (uint64_t)tally[i] << (8 * i);
-    }
-    if (sum > UINT32_MAX && !fault("tally")) {
+    const uint64_t tally = number_in(image + TALLY_AT, 8);
+    const uint64_t lost = blocks(n, image + sheet * STRIDE) - blocks(n, m);
+    if (passes_top(tally, lost)) {
         return 13;
     }
-    for (unsigned i = 0; i < 4; i++) {
-        tally[i] = (uint8_t)(sum >> (8 * i));
-    }
+    put_little(image + TALLY_AT, fault("tally-four") ? 4 : 8, raised(tally, lost));
     memcpy(image + (fault("other-sheet") ? sheet ^ 1 : sheet) * STRIDE, m, n);
     return 0;
 }
 
 uint32_t probe_bench_clear(uint8_t *image, size_t image_len, size_t sheet)
 {
-    if (image_len != IMAGE) {
+    if (!is_image(image_len)) {
         return NO_IMAGE;
     }
-    const size_t n = image[SHEETS * STRIDE];
-    if (n == 0 || n > STRIDE) {
+    const size_t n = image[SIZE_AT];
+    if (!is_size(n)) {
         return 1;
     }
     if (sheet >= SHEETS) {
@@ -644,9 +724,95 @@ uint32_t probe_bench_clear(uint8_t *image, size_t image_len, size_t sheet)
         image[sheet * STRIDE + x] = (uint8_t)x;
     }
     if (fault("clear-tally")) {
-        image[SHEETS * STRIDE + 1] = 0;
+        image[TALLY_AT] = 0;
+    }
+    if (fault("clear-high")) {
+        memset(image + TALLY_AT + 4, 0, 4);
     }
     return 0;
+}
+
+/* ---- an old bench's conversion ---------------------------------------------- */
+
+/* Whether 8 passes the sheet. */
+static int sheet_passes(size_t n, const uint8_t *sheet)
+{
+    if (fault("convert-rising")) {
+        size_t x = 0;
+        while (x < n && sheet[x] <= x) {
+            x++;
+        }
+        return x == n;
+    }
+    return is_map(n, sheet, n);
+}
+
+static int sheets_pass(size_t n, const uint8_t *old)
+{
+    size_t looked_at = fault("convert-all-bytes") || n > STRIDE ? STRIDE : n, count = SHEETS;
+    if (fault("convert-last")) {
+        looked_at--;
+    }
+    if (fault("convert-one-sheet") || fault("convert-seven-sheets")) {
+        count = fault("convert-one-sheet") ? 1 : SHEETS - 1;
+    }
+    for (size_t i = 0; i < count; i++) {
+        if (!sheet_passes(looked_at, old + i * STRIDE)) {
+            return 0;
+        }
+    }
+    return 1;
+}
+
+static uint32_t old_reason(const uint8_t *old)
+{
+    const size_t n = old[SIZE_AT];
+    const int sized = is_size(n) || fault("convert-untested");
+    if (!sized && !fault("convert-eight-first")) {
+        return 1;
+    }
+    if (!sheets_pass(n, old)) {
+        return 8;
+    }
+    return sized ? 0 : 1;
+}
+
+/* Into an image of zeros. */
+static void carry_over(const uint8_t *old, uint8_t *image)
+{
+    uint64_t tally = number_in(old + TALLY_AT, fault("convert-high") ? 2 : 4);
+    if (tally > UINT32_MAX / 2 && fault("convert-signed")) {
+        tally += UINT64_MAX - UINT32_MAX;
+    }
+    memcpy(image, old, fault("convert-sheet") ? SIZE_AT - STRIDE : SIZE_AT);
+    image[SIZE_AT] = old[SIZE_AT];
+    for (size_t i = 0; i < SHEETS && fault("convert-past"); i++) {
+        memset(image + i * STRIDE + old[SIZE_AT], 0, (size_t)(STRIDE - old[SIZE_AT]));
+    }
+    put_little(image + TALLY_AT, fault("convert-behind") ? 4 : 8, tally);
+}
+
+uint32_t probe_bench_convert(const uint8_t *old, size_t old_len, uint8_t *image, size_t image_len)
+{
+    const int is_old = old_len == OLD_IMAGE || (old_len > OLD_IMAGE && fault("convert-length"));
+    const int is_new = image_len == IMAGE || (image_len > IMAGE && fault("convert-new-length"));
+    if (!is_old || !is_new) {
+        return NO_IMAGE;
+    }
+    const uint32_t reason = old_reason(old);
+    if (reason == 0 || !fault("convert-unwritten")) {
+        memset(image, 0, fault("convert-behind") ? OLD_IMAGE : IMAGE);
+    }
+    if (reason == 0 || fault("convert-old")) {
+        carry_over(old, image);
+    }
+    if (fault("convert-input")) {
+        ((uint8_t *)old)[TALLY_AT] ^= 1;
+    }
+    if (fault("convert-after")) {
+        image[IMAGE]++;
+    }
+    return reason;
 }
 
 /* ---- texts of algebras ------------------------------------------------------ */

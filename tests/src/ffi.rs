@@ -270,5 +270,6 @@ pub mod probe {
             y: usize,
         ) -> u32;
         pub fn probe_bench_clear(image: *mut u8, image_len: usize, sheet: usize) -> u32;
+        pub fn probe_bench_convert(old: *const u8, old_len: usize, image: *mut u8, image_len: usize) -> u32;
     }
 }

@@ -7,6 +7,8 @@
 //! --stop the first suite that fails is the last one.
 
 mod algebra_texts;
+#[cfg(have_probe)]
+mod bench;
 mod compare;
 mod desk;
 mod ffi;

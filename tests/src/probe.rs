@@ -13,7 +13,6 @@ mod linked {
     use outside_tests::algebras;
     use outside_tests::random::Rng;
     use outside_tests::reference::algebra::Algebra;
-    use outside_tests::reference::bench::{self, Bench};
     use outside_tests::reference::brute;
     use outside_tests::reference::map;
     use outside_tests::reference::plain::Plain;
@@ -21,6 +20,7 @@ mod linked {
     use outside_tests::reference::Engine;
     use outside_tests::report::{Run, Suite};
 
+    use crate::bench;
     use crate::compare::{ask_decompose, count_of, Guarded};
     use crate::ffi::{probe, worksheet, Library};
 
@@ -275,153 +275,7 @@ mod linked {
         bytes
     }
 
-    const IMAGE: usize = 517;
-
-    fn image(bench: &Bench) -> Vec<u8> {
-        let mut bytes = bench.sheets.concat();
-        bytes.push(bench.n as u8);
-        bytes.extend(bench.tally.to_le_bytes());
-        bytes
-    }
-
-    /// Compares a bench call's number and its image.
-    fn compare_bench(s: &mut Suite, what: &str, found: (u32, Guarded), expected: (u32, Bench)) {
-        let (number, guarded) = found;
-        let wanted = image(&expected.1);
-        let good = number == expected.0 && guarded.content() == wanted && guarded.is_intact_around();
-        s.check(good, || {
-            format!(
-                "  {what}\n  found    {number} {:?}\n  expected {} {wanted:?}",
-                guarded.content(),
-                expected.0
-            )
-        });
-    }
-
-    fn starts(s: &mut Suite) {
-        for n in (0..=300).chain([1 << 16, 1 << 32, usize::MAX]) {
-            let bytes = s.rng.bytes(IMAGE);
-            let mut out = Guarded::new(&bytes, &mut s.rng);
-            let number = unsafe { probe::probe_bench_start(n, out.pointer(), IMAGE) };
-            compare_bench(s, &format!("start {n}"), (number, out), bench::start(n));
-        }
-    }
-
-    /// Sequences of calls, each over the bench that the one before gave.
-    fn sequences(s: &mut Suite) {
-        let mut reference = Reference::<Plain>::default();
-        let mut seen = [0u32; 256];
-        for round in 0..4000 {
-            let limit = if round % 30 == 0 { 64 } else { 6 };
-            let n = s.rng.within(1, limit);
-            let (_, mut now) = bench::start(n);
-            if s.rng.once_in(3) {
-                now.tally = u32::MAX - s.rng.below(2 * n + 2) as u32;
-            }
-            if s.rng.once_in(8) {
-                spoil(&mut now, &mut s.rng);
-            }
-            for _ in 0..12 {
-                let sheet = if s.rng.once_in(20) { s.rng.next() as usize } else { s.rng.below(9) };
-                let before = image(&now);
-                let mut out = Guarded::new(&before, &mut s.rng);
-                let (what, number, expected);
-                if s.rng.once_in(5) {
-                    what = format!("clear {sheet} of {now:?}");
-                    number = unsafe { probe::probe_bench_clear(out.pointer(), IMAGE, sheet) };
-                    expected = bench::clear(&now, sheet);
-                } else {
-                    let blocks = s.rng.within(1, n);
-                    let arities = algebras::random_arities(n, 200, &mut s.rng);
-                    let mut a = algebras::lifted(n, blocks, &arities, &mut s.rng);
-                    if s.rng.once_in(15) {
-                        a = algebras::sometimes_damaged(limit, 200, &mut s.rng);
-                    }
-                    let (x, y) = (s.rng.below(n + s.rng.clone().below(2)), s.rng.below(n));
-                    what = format!("add {x} {y} to {sheet}, {a:?}, of {now:?}");
-                    let (mut ar, mut ce) =
-                        (Guarded::new(&a.arities, &mut s.rng), Guarded::new(&a.cells, &mut s.rng));
-                    let (al, cl) = (ar.len(), ce.len());
-                    number = unsafe {
-                        probe::probe_bench_add(
-                            out.pointer(),
-                            IMAGE,
-                            a.n,
-                            ar.pointer(),
-                            al,
-                            ce.pointer(),
-                            cl,
-                            sheet,
-                            x,
-                            y,
-                        )
-                    };
-                    s.check(ar.is_intact() && ce.is_intact(), || format!("  {what}: tables changed"));
-                    expected = bench::add(&mut reference, &now, a.n, &a.arities, &a.cells, sheet, x, y);
-                }
-                seen[expected.0 as usize] += 1;
-                now = expected.1.clone();
-                compare_bench(s, &what, (number, out), expected);
-            }
-            if s.is_over() {
-                break;
-            }
-        }
-        for number in [0, 1, 2, 3, 4, 5, 6, 7, 8, 13] {
-            s.check(seen[number] > 0, || format!("  no case with reason {number}"));
-        }
-    }
-
-    /// A bench that no call gave: wild sheets, sizes or spare bytes.
-    fn spoil(bench: &mut Bench, rng: &mut Rng) {
-        match rng.below(5) {
-            0 => bench.n = rng.below(256),
-            1 => bench.sheets[rng.below(8)][rng.clone().below(64)] = rng.byte(),
-            2 => bench.n = 0,
-            3 => {
-                // Bytes past n are never read and stay.
-                for sheet in &mut bench.sheets {
-                    for b in &mut sheet[bench.n..] {
-                        *b = rng.byte();
-                    }
-                }
-            }
-            _ => {
-                let sheet = rng.below(8);
-                let most = rng.within(1, bench.n);
-                let m = rng.map(bench.n, most);
-                bench.sheets[sheet][..bench.n].copy_from_slice(&m);
-            }
-        }
-    }
-
     fn documents(s: &mut Suite) {
-        let (_, mut full) = bench::start(2);
-        full.tally = u32::MAX;
-        for (tally, x, number) in [(u32::MAX, 0, 13), (u32::MAX, 1, 0), (u32::MAX - 1, 0, 0)] {
-            full.tally = tally;
-            let mut out = Guarded::new(&image(&full), &mut s.rng);
-            let found = unsafe {
-                probe::probe_bench_add(
-                    out.pointer(),
-                    IMAGE,
-                    2,
-                    std::ptr::null(),
-                    0,
-                    std::ptr::null(),
-                    0,
-                    5,
-                    x,
-                    1,
-                )
-            };
-            let mut after = full.clone();
-            if number == 0 && x == 0 {
-                after.tally = u32::MAX;
-                after.sheets[5][1] = 0;
-            }
-            compare_bench(s, "tally at its top", (found, out), (number, after));
-        }
         let (u, given) = ([1u8, 0, 3, 2], [0u8, 1, 0, 3]);
         for (length, number) in [(14, 12), (3, 12), (2, 9), (0, 9)] {
             let mut out = vec![7u8; 14];
@@ -517,8 +371,7 @@ mod linked {
         run.suite("probe: pair places", places);
         run.suite("probe: quotient", quotients);
         run.suite("probe: certify", certificates);
-        run.suite("probe: bench start", starts);
-        run.suite("probe: bench add and clear", sequences);
+        bench::suites(run);
         if let Some(library) = worksheet() {
             run.suite("probe: demand 3 through the product's own calls", |s| demand_three(s, library));
         }

@@ -1,10 +1,10 @@
-//! The reference against document 01's own examples and texts, and its plain
+//! The reference against the documents' own examples and texts, and its plain
 //! half against the definitions searched by brute force.
 
 use outside_tests::algebras;
 use outside_tests::random::Rng;
 use outside_tests::reference::algebra::Algebra;
-use outside_tests::reference::bench;
+use outside_tests::reference::bench::{self, Bench, BenchV1};
 use outside_tests::reference::brute::{self, Brute};
 use outside_tests::reference::desk::transcript;
 use outside_tests::reference::map;
@@ -75,16 +75,7 @@ fn examples<E: Engine>(s: &mut Suite) {
     show(s, "meet: 1 before 8", r.meet(0, &[1], &[], &lent), 1, &[]);
     show(s, "meet: 8", r.meet(2, &[0, 1], &[1, 1], &lent), 8, &[]);
     // The bench.
-    let top = 4_294_967_295;
-    let (_, mut full) = bench::start(2);
-    full.tally = top;
-    s.same("refusal 13", bench::add(r, &full, 2, &[], &[], 3, 0, 1), (13, full.clone()));
-    s.same("nothing lost at the top", bench::add(r, &full, 2, &[], &[], 3, 1, 1), (0, full.clone()));
-    full.tally = top - 1;
-    let (number, after) = bench::add(r, &full, 2, &[], &[], 3, 0, 1);
-    s.same("one below the top", (number, after.tally, after.sheets[3][1]), (0, top, 0));
-    s.same("clear keeps the tally", bench::clear(&after, 3).1.tally, top);
-    let zeros = bench::Bench::zeros();
+    let zeros = Bench::zeros();
     s.same("refused start", bench::start(65), (1, zeros.clone()));
     s.same("zeros in Add", bench::add(r, &zeros, 2, &[], &[], 0, 0, 1).0, 8);
     s.same("zeros in Clear", bench::clear(&zeros, 0).0, 1);
@@ -122,6 +113,60 @@ fn factor_space<E: Engine>(s: &mut Suite) {
     }
     let damaged = r.decompose(4, &[1], &[1, 0, 3, 4], &[]);
     s.same("6 before 9", damaged, Answer { number: 6, lent: vec![] });
+}
+
+/// Document 02's third request, for one engine: where the tally ends now, and
+/// that nothing ends where it used to.
+fn longer_tally<E: Engine>(s: &mut Suite) {
+    let r = &mut Reference::<E>::default();
+    let mut raised = |tally: u64, n: usize, cells: &[u8], x: usize, y: usize| {
+        let arities: &[u8] = if cells.is_empty() { &[] } else { &[1] };
+        let bench = Bench { tally, ..bench::start(n).1 };
+        let (number, after) = bench::add(r, &bench, n, arities, cells, 3, x, y);
+        (number, after.tally, after == bench)
+    };
+    let top = 18_446_744_073_709_551_615;
+    s.same("at the top", raised(top, 2, &[], 0, 1), (13, top, true));
+    s.same("nothing lost at the top", raised(top, 2, &[], 1, 1), (0, top, true));
+    s.same("one below the top", raised(top - 1, 2, &[], 0, 1), (0, top, false));
+    s.same("nothing lost below the top", raised(top - 1, 2, &[], 1, 1), (0, top - 1, true));
+    let turning: &[u8] = &[1, 2, 0];
+    s.same("two lost, one left", raised(top - 1, 3, turning, 0, 1), (13, top - 1, true));
+    s.same("two lost, two left", raised(top - 2, 3, turning, 0, 1), (0, top, false));
+    s.same("two lost, three left", raised(top - 3, 3, turning, 0, 1), (0, top - 1, false));
+    s.same("at the old top", raised(4_294_967_295, 2, &[], 0, 1), (0, 4_294_967_296, false));
+    s.same("across the old top", raised(4_294_967_294, 3, turning, 0, 1), (0, 4_294_967_296, false));
+    s.same("far from both", raised(7, 3, turning, 0, 1), (0, 9, false));
+    let joined = bench::add(r, &Bench { tally: top - 1, ..bench::start(2).1 }, 2, &[], &[], 3, 0, 1).1;
+    s.same("the sheet at the top", joined.sheets[3][..2].to_vec(), vec![0, 0]);
+    s.same("clear keeps the tally", bench::clear(&joined, 3).1.tally, top);
+}
+
+/// What an old bench becomes: 4,294,967,295 is a number like others, U's factors
+/// are on two sheets, and a byte past n is no fault.
+fn conversions(s: &mut Suite) {
+    let mut old = BenchV1 { n: 4, sheets: bench::start(4).1.sheets, tally: 4_294_967_295 };
+    old.sheets[0][..5].copy_from_slice(&[0, 1, 0, 1, 200]);
+    old.sheets[7][..4].copy_from_slice(&[0, 0, 2, 2]);
+    let whole = Bench { n: 4, sheets: old.sheets, tally: 4_294_967_295 };
+    s.same("accepted", bench::convert_v1(&old), (0, whole.clone()));
+    let r = &mut Reference::<Plain>::default();
+    let (number, after) = bench::add(r, &whole, 4, &[1], &[1, 0, 3, 2], 0, 0, 1);
+    s.same("an Add after it", (number, after.tally, after.sheets[0][4]), (0, 4_294_967_296, 200));
+    let refused = |what: &str, s: &mut Suite, number: u32, change: &dyn Fn(&mut BenchV1)| {
+        let mut changed = old.clone();
+        change(&mut changed);
+        s.same(what, bench::convert_v1(&changed), (number, Bench::zeros()));
+    };
+    refused("no elements", s, 1, &|b| b.n = 0);
+    refused("65 elements", s, 1, &|b| b.n = 65);
+    refused("255 elements and no map", s, 1, &|b| (b.n, b.sheets[0][0]) = (255, 9));
+    refused("0 2 2 3 on the first sheet", s, 8, &|b| b.sheets[0][1] = 2);
+    refused("0 0 1 2 on the last sheet", s, 8, &|b| b.sheets[7][..4].copy_from_slice(&[0, 0, 1, 2]));
+    refused("a fifth element with byte 200", s, 8, &|b| b.n = 5);
+    refused("an old bench of zeros", s, 1, &|b| {
+        *b = BenchV1 { n: 0, sheets: Bench::zeros().sheets, tally: 0 };
+    });
 }
 
 /// Whether both engines agree on everything about one algebra.
@@ -196,6 +241,9 @@ pub fn suites(run: &mut Run) {
     run.suite("reference: document 01's examples, plain", examples::<Plain>);
     run.suite("reference: document 02's space for factors, by brute force", factor_space::<Brute>);
     run.suite("reference: document 02's space for factors, plain", factor_space::<Plain>);
+    run.suite("reference: document 02's longer tally, by brute force", longer_tally::<Brute>);
+    run.suite("reference: document 02's longer tally, plain", longer_tally::<Plain>);
+    run.suite("reference: document 02's conversion of a bench", conversions);
     run.suite("reference: brute force and plain agree, n to 5", |s| many(s, 5, 300, 6000));
     run.suite("reference: brute force and plain agree, n to 6", |s| many(s, 6, 250, 1000));
     run.suite("reference: pair places", |s| {
