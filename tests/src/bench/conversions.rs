@@ -213,30 +213,37 @@ fn tallies(s: &mut Suite) {
     }
 }
 
-/// Bytes that may or may not be maps: every byte of a good bench's sheets
-/// changed in turn, and images of any bytes.
-fn any_bytes(s: &mut Suite) {
+/// Every byte of a good bench's sheets in turn, changed to what is near an edge.
+fn every_byte(s: &mut Suite) {
     let mut comparison = Comparison::new(s);
-    for n in [5, 64] {
+    for n in [1, 5, 64] {
         let good = some_old_bench(n, comparison.rng());
         for (sheet, place) in (0..8).flat_map(|sheet| (0..64).map(move |place| (sheet, place))) {
-            let near = [0, 1, place.max(1) - 1, place, place + 1, n - 1, n, 63, 64, 255];
-            for byte in near {
+            for byte in [0, 1, place.max(1) - 1, place, place + 1, n - 1, n, 63, 64, 255] {
                 let mut old = good.clone();
                 old.sheets[sheet][place] = byte as u8;
                 comparison.convert(&old);
             }
         }
     }
+    comparison.must_have_seen(&[0, 8]);
+}
+
+/// A good bench with some bytes changed, and images of nothing but any bytes.
+fn any_bytes(s: &mut Suite) {
+    let mut comparison = Comparison::new(s);
     for round in 0..20_000 {
-        // Few values make maps, and faults far inside, more frequent.
-        let values = [2, 3, 8, 64, 256][round % 5];
         let n = if round % 7 == 0 { comparison.rng().below(256) } else { comparison.rng().within(1, 8) };
-        let mut old = some_old_bench(n.clamp(1, 64), comparison.rng());
-        old.n = n;
+        let within = n.clamp(1, 64);
+        let mut old = BenchV1 { n, ..some_old_bench(within, comparison.rng()) };
+        // Few values make maps, and faults far inside, more frequent.
+        let values = *comparison.rng().pick(&[2, 3, 8, 64, 256]);
         for _ in 0..comparison.rng().below(12) {
-            let (sheet, place) = (comparison.rng().below(8), comparison.rng().below(n.clamp(1, 64)));
+            let (sheet, place) = (comparison.rng().below(8), comparison.rng().below(within));
             old.sheets[sheet][place] = comparison.rng().below(values) as u8;
+        }
+        if round % 4 == 0 {
+            scribble(0, &mut old.sheets, comparison.rng());
         }
         let (_, bench) = comparison.convert(&old);
         let sheet = comparison.rng().below(8);
@@ -255,5 +262,6 @@ pub fn suites(run: &mut Run) {
     run.suite("probe: bench conversion, faulty sheets", faulty_sheets);
     run.suite("probe: bench conversion, bytes past n", past_n);
     run.suite("probe: bench conversion, tallies", tallies);
+    run.suite("probe: bench conversion, every byte", every_byte);
     run.suite("probe: bench conversion, any bytes", any_bytes);
 }
