@@ -7,10 +7,8 @@ use native.Mathlib.Omega.{arith}
 use lib.Dec.{T}
 use Rattle.equivalence.specs.Outcome.{Injective}
 use Rattle.equivalence.specs.Ranks.{rank, rises, ReasonRight}
-use Rattle.equivalence.specs.Refusal.{Test, numberOf, lowest, sizeTest, elementsTest, answered}
+use Rattle.equivalence.specs.Refusal.{Test, numberOf, sizeTest, elementsTest}
 use Rattle.equivalence.proofs.Ranks.{answered-reason}
-use Rattle.equivalence.specs.declared.Check.{Check}
-use Rattle.equivalence.specs.declared.Check.the-variants.{Passed, Failed}
 use Rattle.equivalence.specs.declared.Refusal.{Refusal}
 use Rattle.algebra.specs.Accepted.{algebraTests}
 use Rattle.algebra.specs.Algebra.{Algebra}
