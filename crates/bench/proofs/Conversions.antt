@@ -33,11 +33,12 @@ bench-same : (n : ℕ) (b c : Bench) → b .n ≡ c .n → b .sheets ≡ c .shee
 unfolding benchTest
 bench-same n b c e f = rw (e, f) refl
 
+-- a test before others that find the same
 lowest-behind : (t : Test) (ts us : List Test) → lowest ts ≡ lowest us → lowest (t ∷ ts) ≡ lowest (t ∷ us)
 unfolding lowest
 lowest-behind t ts us e = ap (λ (c : Check). pick (t .applies) (Failed (t .reason)) c) e
 
--- they are Clear's but for 7, which no sheet draws
+-- the tests are Clear's but for 7, which no sheet below 8 draws
 pub convert-clear : (b c : Bench) → b .n ≡ c .n → b .sheets ≡ c .sheets → (k : ℕ) → k < 8 → lowest (convertTests b) ≡ lowest (clearTests c k)
 unfolding convertTests clearTests
 convert-clear b c e f k h =

@@ -1,5 +1,6 @@
 // Start, Add, Clear and the conversion of old benches on cases that a reader can check by hand: each line is a call, its answer, and the first four bytes
-// of the sheet that it names (of sheet 5, where it names none) and the tally after it. The algebra has the elements 0 to 3 and one unary operation with cells 1 0 3 2, but where a line says otherwise.
+// of the sheet that it names (for Start sheet 0, for a conversion sheet 5) and the tally after it. The algebra has the elements 0 to 3 and one unary
+// operation with cells 1 0 3 2, but where a line says otherwise.
 use bench::Answer;
 use bench::Bench;
 use bench::BenchV1;
@@ -141,7 +142,7 @@ fn edges() {
 
 // Converts an old bench over n, whose tally is at the top of 32 bits.
 fn convert(n: usize, map: [u8; 64]) -> Bench {
-    io::write_all(1, b"convert an old bench over ");
+    io::write_all(1, b"convert over ");
     io::print_decimal(1, n as u64);
     io::write_all(1, b" ->");
     let made = bench::convert_v1(BenchV1 {
@@ -153,12 +154,12 @@ fn convert(n: usize, map: [u8; 64]) -> Bench {
     made.bench
 }
 
-// Old benches: 0 0 2 3 on sheet 5 is kept, and the tally goes on where 32 bits ended.
+// What an old bench becomes; the tally goes on where 32 bits ended.
 fn conversions() {
-    say(b"sheet 5 is 0 0 2 3, and the tally as it was at its old top:");
+    say(b"old benches, the tally at the top of 32 bits; sheet 5 is 0 0 2 3:");
     let kept = convert(4, bytes(0));
     let more = add(kept, 5, 2, 3);
-    say(b"over another n, and with 0 2 2 3 on sheet 5:");
+    say(b"and declined: over 0 and 65 elements, and with 0 2 2 3 on sheet 5:");
     let none = convert(0, bytes(0));
     let many = convert(65, bytes(0));
     let faulty = convert(4, bytes(2));
