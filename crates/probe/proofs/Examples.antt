@@ -3,7 +3,7 @@ use mathlib.Core.List.{[], _∷_}
 use mathlib.Core.Path.{_≡_, refl}
 use Rattle.bench.specs.Calls.{clearCall}
 use Rattle.equivalence.specs.Order.{rowStart, placeOf}
-use Rattle.probe.specs.Calls.{placeNumber, imageCall, oldImageCall}
+use Rattle.probe.specs.Calls.{placeNumber, ofLength, imageCall, oldImageCall}
 
 pub record ProbeExamples : Type 0 where
   -- an image of another length, and an old one
@@ -13,5 +13,5 @@ pub record ProbeExamples : Type 0 where
   pub place : (placeNumber (placeOf 0 1) ≡ 0) × (placeNumber (placeOf 1 1) ≡ 65535)
 
 pub probe-examples : ProbeExamples
-unfolding rowStart placeOf placeNumber imageCall oldImageCall
+unfolding rowStart placeOf placeNumber ofLength imageCall oldImageCall
 probe-examples = record { other = refl; old = refl; place = (refl, refl) }

@@ -1,4 +1,5 @@
--- The definitions of what the tests call, by their cases: a place's number, the part that Prefer hands back, a call over an image.
+-- The definitions of what the tests call, by their cases: a place's number, the part that Prefer hands back, bytes of a length that is asked for, a call
+-- over an image.
 use Prim.Native.Nat.{ℕ, _<_}
 use mathlib.Core.Bool.{Bool, true, false}
 use mathlib.Core.List.{List}
@@ -23,7 +24,7 @@ use Rattle.equivalence.specs.declared.Place.the-variants.{At}
 use Rattle.equivalence.proofs.Places.{place-index}
 use Rattle.equivalence.proofs.Tests.{eq→eqb, pick, pick-yes, pick-no}
 use Rattle.image.specs.Image.{imageOf, benchIn, benchV1In}
-use Rattle.probe.specs.Calls.{preferred, shown, imageCall, oldImageCall}
+use Rattle.probe.specs.Calls.{preferred, ofLength, benchShown, imageCall, oldImageCall}
 
 -- ---- places
 
@@ -59,25 +60,37 @@ pub call-number : {A : Type 0} (outcome : A → Outcome) (call : A × List ℕ) 
     → number ≡ packed (outcome r) → (number ≡ packed (outcome (call .0))) × (after ≡ call .1)
 call-number {A} outcome call e f = (f ∙ ap (λ (p : A × List ℕ). packed (outcome (p .0))) e, ap (λ (p : A × List ℕ). p .1) e)
 
+-- ---- bytes of a length that a call asks for
+
+module _ {A : Type 0} (k : ℕ) (bytes : List ℕ) (right other : A) where
+  pub right-length : length bytes ≡ k → ofLength k bytes right other ≡ right
+  unfolding ofLength
+  right-length e = pick-yes (eqb (length bytes) k) right other (eq→eqb (length bytes) k e)
+
+  pub other-length : ¬ (length bytes ≡ k) → ofLength k bytes right other ≡ other
+  unfolding ofLength
+  other-length h = pick-no (eqb (length bytes) k) right other (λ t. h (eqb→eq (length bytes) k t))
+
 -- ---- a call over an image
 
-pub shown-by : (r : Benched) (number : ℕ) (after : List ℕ) → after ≡ imageOf (r .bench) → number ≡ packed (answerOutcome (r .answer)) → (number, after) ≡ shown r
-unfolding shown
-shown-by r number after e f = rw (e, f)
+pub bench-shown : (r : Benched) (number : ℕ) (after : List ℕ) → after ≡ imageOf (r .bench) → number ≡ packed (answerOutcome (r .answer))
+    → (number, after) ≡ benchShown r
+unfolding benchShown
+bench-shown r number after e f = rw (e, f)
 
 module _ (call : Bench → Benched) (image : List ℕ) where
   pub image-other : ¬ (length image ≡ 521) → (255, image) ≡ imageCall call image
   unfolding imageCall
-  image-other h = sym (pick-no (eqb (length image) 521) _ (255, image) (λ t. h (eqb→eq (length image) 521 t)))
+  image-other h = sym (other-length 521 image _ _ h)
 
   -- by its steps: the bench read, the call made, what it gave shown
-  pub image-called : length image ≡ 521 → (before : Bench) → before ≡ benchIn image → (r : Benched) → r ≡ call before → (after : ℕ × List ℕ) → after ≡ shown r
-      → after ≡ imageCall call image
+  pub image-called : length image ≡ 521 → (before : Bench) → before ≡ benchIn image → (r : Benched) → r ≡ call before → (after : ℕ × List ℕ)
+      → after ≡ benchShown r → after ≡ imageCall call image
   unfolding imageCall
-  image-called e before f r g after h = rw (h, g, f) (sym (pick-yes (eqb (length image) 521) _ (255, image) (eq→eqb (length image) 521 e)))
+  image-called e before f r g after h = rw (h, g, f) (sym (right-length 521 image _ _ e))
 
 -- a call that looks at no bench
-pub image-given : (given : Benched) (image : List ℕ) → length image ≡ 521 → (r : Benched) → r ≡ given → (after : ℕ × List ℕ) → after ≡ shown r
+pub image-given : (given : Benched) (image : List ℕ) → length image ≡ 521 → (r : Benched) → r ≡ given → (after : ℕ × List ℕ) → after ≡ benchShown r
     → after ≡ imageCall (λ b. given) image
 image-given given image e r f after g = image-called (λ b. given) image e (benchIn image) refl r f after g
 
@@ -85,16 +98,16 @@ image-given given image e r f after g = image-called (λ b. given) image e (benc
 module _ (old image : List ℕ) where
   pub old-other : ¬ (length old ≡ 517) → (255, image) ≡ oldImageCall old image
   unfolding oldImageCall
-  old-other h = sym (pick-no (eqb (length old) 517) _ (255, image) (λ t. h (eqb→eq (length old) 517 t)))
+  old-other h = sym (other-length 517 old _ _ h)
 
   module _ (e : length old ≡ 517) where
     old-read : imageCall (λ b. convertV1Call (benchV1In old)) image ≡ oldImageCall old image
     unfolding oldImageCall
-    old-read = sym (pick-yes (eqb (length old) 517) _ (255, image) (eq→eqb (length old) 517 e))
+    old-read = sym (right-length 517 old _ _ e)
 
     pub new-other : ¬ (length image ≡ 521) → (255, image) ≡ oldImageCall old image
     new-other h = image-other _ image h ∙ old-read
 
     pub old-called : length image ≡ 521 → (before : BenchV1) → before ≡ benchV1In old → (r : Benched) → r ≡ convertV1Call before → (after : ℕ × List ℕ)
-        → after ≡ shown r → after ≡ oldImageCall old image
+        → after ≡ benchShown r → after ≡ oldImageCall old image
     old-called f before g r h after i = image-given _ image f r (h ∙ ap convertV1Call g) after i ∙ old-read

@@ -32,22 +32,23 @@ preferred n a b = answered (λ r. []) (preferCheck n a b) (earlierOf n a b a b)
 unfoldable pub preferCopy : ℕ → Map → Map → List ℕ → ℕ × List ℕ
 preferCopy n a b lent = (length (preferred n a b), copied (preferred n a b) lent)
 
+-- what bytes give that have this length, or what others do
+unfoldable pub ofLength : {A : Type 0} → ℕ → List ℕ → A → A → A
+ofLength k bytes right other = elim (eqb (length bytes) k) [ true ↦ right | false ↦ other ]
+
 -- what a call of the bench gave, as the number of its answer and the image of the bench after it
-unfoldable pub shown : Benched → ℕ × List ℕ
-shown r = (packed (answerOutcome (r .answer)), imageOf (r .bench))
+unfoldable pub benchShown : Benched → ℕ × List ℕ
+benchShown r = (packed (answerOutcome (r .answer)), imageOf (r .bench))
 
 -- a call of the bench over an image: its number, and the image after it; an image of another length gives 255 and stays
 unfoldable pub imageCall : (Bench → Benched) → List ℕ → ℕ × List ℕ
-imageCall call image = elim (eqb (length image) 521) [ true ↦ shown (call (benchIn image)) | false ↦ (255, image) ]
+imageCall call image = ofLength 521 image (benchShown (call (benchIn image))) (255, image)
 
 -- a conversion over an old image and a new one: its number, and the new image after it; where either has another length, 255, and the new one stays
 unfoldable pub oldImageCall : List ℕ → List ℕ → ℕ × List ℕ
-oldImageCall old image = elim (eqb (length old) 517) [ true ↦ imageCall (λ b. convertV1Call (benchV1In old)) image | false ↦ (255, image) ]
+oldImageCall old image = ofLength 517 old (imageCall (λ b. convertV1Call (benchV1In old)) image) (255, image)
 
 -- Read, over a head of 18 bytes: the number, the cells and the head after it; a head of another length gives 255, and nothing is written
 unfoldable pub headCall : List ℕ → List ℕ → List ℕ → ℕ × (List ℕ × List ℕ)
 headCall text cells head =
-    elim (eqb (length head) 18) [
-      | true ↦ (readNumber (readCall text cells .0), (readCall text cells .1, headOf (readCall text cells .0)))
-      | false ↦ (255, (cells, head))
-    ]
+    ofLength 18 head (readNumber (readCall text cells .0), (readCall text cells .1, headOf (readCall text cells .0))) (255, (cells, head))

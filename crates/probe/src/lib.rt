@@ -8,7 +8,7 @@ ghost use Rattle.congruence.specs.Calls.{quotientCall, certifyCall};
 ghost use Rattle.equivalence.specs.Outcome.{packed, writtenOutcome};
 ghost use Rattle.congruence.specs.Outcome.{dividedOutcome, certifiedOutcome};
 ghost use Rattle.bench.specs.Calls.{startCall, addCall, clearCall};
-ghost use Rattle.probe.specs.Calls.{placeNumber, preferCopy, shown, imageCall, oldImageCall, headCall};
+ghost use Rattle.probe.specs.Calls.{placeNumber, preferCopy, benchShown, imageCall, oldImageCall, headCall};
 ghost use Rattle.head.specs.Head.{textNumber};
 ghost use Rattle.algebratext.specs.Calls.{writeCall};
 use bench::Benched;
@@ -83,7 +83,7 @@ pub extern "C" fn probe_certify(n: usize, arities: &[u8], cells: &[u8], maps: &[
 // Writes the image of the bench that a call gave, and gives the number of its answer.
 fn show(done: Benched, bytes: &mut [u8]) -> u32
     requires { ⌜ length (now bytes) ≡ 521 ⌝ }
-    ensures { λ r. ⌜ (r, now (bytes .exit)) ≡ shown done ⌝ }
+    ensures { λ r. ⌜ (r, now (bytes .exit)) ≡ benchShown done ⌝ }
 {
     let after = done.bench;
     image::write(after, bytes);

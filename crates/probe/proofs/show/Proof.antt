@@ -1,5 +1,5 @@
 -- `probe::show` meets its contract.
-use Rattle.probe.proofs.Probes.{shown-by}
+use Rattle.probe.proofs.Probes.{bench-shown}
 use borrow.Author.Needs.{needs}
 use Rattle.probe.proofs.show.Statement.{statement}
 use Rattle.probe.proofs.show.Tie as tie
@@ -14,7 +14,7 @@ same-length : tie.Need-same-length
 same-length c = search needs
 
 returns : tie.Need-returns
-returns c = search shown-by
+returns c = search bench-shown
 
 pub show-spec : {M : Type 1} → statement M
 show-spec = tie.close (tie.spec write-requires answer-number-requires same-length returns)
