@@ -32,7 +32,7 @@ preferred n a b = answered (λ r. []) (preferCheck n a b) (earlierOf n a b a b)
 unfoldable pub preferCopy : ℕ → Map → Map → List ℕ → ℕ × List ℕ
 preferCopy n a b lent = (length (preferred n a b), copied (preferred n a b) lent)
 
--- what bytes give that have this length, or what others do
+-- one thing for bytes of this length, another for all others
 unfoldable pub ofLength : {A : Type 0} → ℕ → List ℕ → A → A → A
 ofLength k bytes right other = elim (eqb (length bytes) k) [ true ↦ right | false ↦ other ]
 
