@@ -45,7 +45,14 @@ static const char *const faults[] = {
     "space-scratch",        /* decompose: the lent bytes are written before 9 is said */
     "space-count",          /* decompose: 9 carries the count */
     "space-first",          /* decompose: 9 is tested before 1 to 6 */
-    "meet", "join", "prefer", "place", "quotient", "certify",
+    "meet", "join", "prefer", "quotient", "certify",
+    "place-next",           /* the place of the pair behind it */
+    "place-128",            /* a row's start is x * (128 - x) / 2 */
+    "place-halved",         /* halved before it is multiplied */
+    "place-narrow",         /* multiplied in one byte */
+    "place-same",           /* two equal elements have a place */
+    "place-turned",         /* pairs come in either order */
+    "place-beyond",         /* 64 is an element too */
     "start",                /* the tally does not begin at 0 */
     "other-sheet",          /* add writes another sheet */
     "clear-tally",          /* clear lowers the tally */
@@ -473,16 +480,35 @@ size_t probe_prefer(size_t n, const uint8_t *a, size_t a_len, const uint8_t *b, 
     return n;
 }
 
+/* The pairs in the rows before x, counted row by row but where the fault is one
+ * of a formula. */
+static uint32_t row_start(uint32_t x)
+{
+    uint32_t pairs = 0;
+    if (fault("place-128")) {
+        return x * (128 - x) / 2;
+    }
+    if (fault("place-halved")) {
+        return x / 2 * (127 - x);
+    }
+    if (fault("place-narrow")) {
+        return (uint8_t)(x * (127 - x)) / 2;
+    }
+    for (uint32_t row = 0; row < x; row++) {
+        pairs += 63 - row;
+    }
+    return pairs;
+}
+
 uint32_t probe_place(uint8_t x, uint8_t y)
 {
-    uint32_t place = 0;
-    if (x >= y || y >= STRIDE) {
+    if (x > y && fault("place-turned")) {
+        return probe_place(y, x);
+    }
+    if (x > y || (x == y && !fault("place-same")) || y >= STRIDE + fault("place-beyond")) {
         return NO_PLACE;
     }
-    for (unsigned row = 0; row < x; row++) {
-        place += 63 - row;
-    }
-    return place + y - x - !fault("place");
+    return row_start(x) + y - x - !fault("place-next");
 }
 
 uint32_t probe_quotient(size_t n, const uint8_t *arities, size_t arities_len,

@@ -133,13 +133,22 @@ mod linked {
         }
     }
 
+    /// Any two bytes, against the reference; and the pairs of 64 elements, as they follow each
+    /// other, against a count from 0.
     fn places(s: &mut Suite) {
+        let mut next = 0;
         for x in 0..=255u8 {
             for y in 0..=255u8 {
+                let found = unsafe { probe::probe_place(x, y) };
                 let wanted = map::place(x as usize, y as usize).unwrap_or(65_535);
-                s.same("place", unsafe { probe::probe_place(x, y) }, wanted);
+                s.same(&format!("place of ({x}, {y})"), found, wanted);
+                if x < y && y < 64 {
+                    s.same(&format!("place of ({x}, {y}), by count"), found, next);
+                    next += 1;
+                }
             }
         }
+        s.same("pairs", next, 2016);
     }
 
     /// Quotient's answer, and whether all else was left alone.

@@ -1,38 +1,52 @@
--- The places of pairs: the table of row starts keeps its rule, and a place is the pair's index in the list of pairs.
-use Prim.Native.Nat.{ℕ, zero, suc, _+_, _-_, _≤_, _<_}
-use mathlib.Core.Bool.{Bool, true, _&&_}
-use mathlib.Core.List.{List, [], _∷_}
-use mathlib.Core.Path.{_≡_, sym, ap, _∙_}
+-- The places of pairs: the formula for the pairs in the rows before one, and that a place is the pair's index in the list of pairs.
+use Prim.Native.Nat.{ℕ, zero, suc, _+_, _*_, _-_, _/_, _≤_, _<_}
+use mathlib.Core.Bool.{_&&_}
+use mathlib.Core.List.{List, [], _∷_, _++_, map, append-nil, map-append}
+use mathlib.Core.Path.{_≡_, refl, sym, ap, _∙_}
 use native.Mathlib.Decide.{decLt}
+use native.Mathlib.Nat.{le-of-lt, mul-suc, suc-mul, mul-le-mul, mul-div-cancel}
 use native.Mathlib.Omega.{arith}
-use lib.Dec.{T, eqb, leb, ltb, eqb→eq, leb→le, ltb→lt, lt→ltb}
-use lib.ListN.{length, getD}
-use Rattle.equivalence.specs.Lists.{upTo, every, keep, concat}
-use Rattle.equivalence.specs.Order.{Pair, pairs, rowStart, placeOf}
-use Rattle.equivalence.proofs.Lists.{member-index, of-below}
-use Rattle.equivalence.proofs.Pairs.{member-pairs}
+use lib.Dec.{ltb, ltb→lt, lt→ltb}
+use lib.ListN.{length, getD, length-append, length-map, List·getD-append}
+use lib.Seq.{getD-append-add}
+use mir.Syntax.{w64}
+use mir.Val.{Fits}
+use Rattle.equivalence.specs.Lists.{upTo, keep, concat}
+use Rattle.equivalence.specs.Order.{Pair, pairs, pairsBefore, rowStart, placeOf}
+use Rattle.equivalence.proofs.Lists.{keep-yes, keep-no, keep-append, map-at, rank}
+use Rattle.equivalence.proofs.Stretches.{concat-append}
 use Rattle.equivalence.proofs.Tests.{both, left, right, pick-yes, pick-no}
 use Rattle.equivalence.specs.declared.Place.the-variants.{At, Nowhere}
 
--- the table, as the code has it
-abbrev pub starts : List ℕ
-starts =
-    0 ∷ 63 ∷ 125 ∷ 186 ∷ 246 ∷ 305 ∷ 363 ∷ 420 ∷ 476 ∷ 531 ∷ 585 ∷ 638 ∷ 690 ∷ 741 ∷ 791 ∷ 840 ∷ 888 ∷ 935 ∷ 981 ∷ 1026 ∷ 1070 ∷
-    1113 ∷ 1155 ∷ 1196 ∷ 1236 ∷ 1275 ∷ 1313 ∷ 1350 ∷ 1386 ∷ 1421 ∷ 1455 ∷ 1488 ∷ 1520 ∷ 1551 ∷ 1581 ∷ 1610 ∷ 1638 ∷ 1665 ∷ 1691 ∷
-    1716 ∷ 1740 ∷ 1763 ∷ 1785 ∷ 1806 ∷ 1826 ∷ 1845 ∷ 1863 ∷ 1880 ∷ 1896 ∷ 1911 ∷ 1925 ∷ 1938 ∷ 1950 ∷ 1961 ∷ 1971 ∷ 1980 ∷ 1988 ∷
-    1995 ∷ 2001 ∷ 2006 ∷ 2010 ∷ 2013 ∷ 2015 ∷ 2016 ∷ []
+-- two bytes, multiplied
+pub product-fits : {x y : ℕ} → x < 256 → y < 256 → Fits w64 (x * y)
+product-fits l k = omega (arith, mul-le-mul {n₂ = 256} {m₂ = 256} (le-of-lt l) (le-of-lt k))
 
--- one test, computed over the whole table
-abbrev ruled : ℕ → Bool
-ruled x = eqb (getD starts x 0) (rowStart x)
+-- ---- the pairs in the rows before x
 
-pub starts-rule : (x : ℕ) → x < 64 → getD starts x 0 ≡ rowStart x
-unfolding every upTo rowStart
-starts-rule x l = eqb→eq (getD starts x 0) (rowStart x) (of-below 64 ruled tt x l)
+module _ (n : ℕ) where
+  pub pairsBefore-bound : (x : ℕ) → pairsBefore n x ≤ x * n
+  pairsBefore-bound zero = omega arith
+  pairsBefore-bound (suc x) = omega (arith, pairsBefore-bound x, suc-mul x n)
 
-pub rowStart-below : (x : ℕ) → x < 64 → rowStart x ≤ 2016
-unfolding every upTo rowStart
-rowStart-below x l = leb→le (rowStart x) 2016 (of-below 64 (λ x. leb (rowStart x) 2016) tt x l)
+  -- the sum of n - 1, n - 2, .., n - x, twice
+  twice : (x : ℕ) → x ≤ n → pairsBefore n x * 2 ≡ x * (2 * n - 1 - x)
+  twice zero l = omega arith
+  twice (suc x) l =
+      let k = 2 * n - 1 - suc x in
+      let e : 2 * n - 1 - x ≡ suc k = omega arith in
+      omega (arith, twice x (omega arith) ∙ ap (λ (z : ℕ). x * z) e ∙ mul-suc x k, suc-mul x k)
+
+  pub pairsBefore-formula : (x : ℕ) → x ≤ n → x * (2 * n - 1 - x) / 2 ≡ pairsBefore n x
+  pairsBefore-formula x l = ap (λ (k : ℕ). k / 2) (sym (twice x l)) ∙ mul-div-cancel (pairsBefore n x) (omega arith)
+
+pub rowStart-bound : (x : ℕ) → rowStart x ≤ x * 64
+unfolding rowStart
+rowStart-bound x = pairsBefore-bound 64 x
+
+pub rowStart-formula : (x : ℕ) → x < 64 → x * (127 - x) / 2 ≡ rowStart x
+unfolding rowStart
+rowStart-formula x l = pairsBefore-formula 64 x (omega arith)
 
 -- ---- the answers
 
@@ -54,29 +68,69 @@ placeOf-large x y l = pick-no (ltb x y && ltb y 64) (At (placeIn x y)) Nowhere (
 
 -- ---- the place is the pair's index in the list of pairs
 
--- the pairs stand at their places, counted from i
-abbrev inPlace : ℕ → List Pair → Bool
-inPlace i [] = true
-inPlace i (p ∷ ps) = eqb (placeIn p.0 p.1) i && inPlace (suc i) ps
+larger-count : (x n : ℕ) → length (keep (ltb x) (upTo n)) ≡ n - 1 - x
+unfolding upTo keep
+larger-count x zero = omega arith
+larger-count x (suc n) =
+    rw (keep-append (ltb x) (upTo n) (n ∷ []))
+    (elim (decLt x n) [
+      | yes l ↦ rw (keep-yes (ltb x) n [] (lt→ltb x n l)) (omega (arith, length-append (keep (ltb x) (upTo n)) (n ∷ keep (ltb x) []), larger-count x n))
+      | no g ↦ rw (keep-no (ltb x) n [] (λ t. g (ltb→lt x n t))) (omega (arith, length-append (keep (ltb x) (upTo n)) (keep (ltb x) []), larger-count x n))
+    ])
 
-in-place : (ps : List Pair) (i k : ℕ) → T (inPlace i ps) → k < length ps → placeIn (getD ps k (0, 0) .0) (getD ps k (0, 0) .1) ≡ i + k
-in-place [] i k t l = absurd (omega arith)
-in-place (p ∷ ps) i zero t l = omega (arith, eqb→eq (placeIn p.0 p.1) i (left (eqb (placeIn p.0 p.1) i) (inPlace (suc i) ps) t))
-in-place (p ∷ ps) i (suc k) t l = omega (arith, in-place ps (suc i) k (right (eqb (placeIn p.0 p.1) i) (inPlace (suc i) ps) t) (omega arith))
+module _ (n : ℕ) where
+  -- the pairs of row x
+  abbrev row : ℕ → List Pair
+  row x = map (λ y. (x, y)) (keep (ltb x) (upTo n))
 
-pairs-in-place : T (inPlace 0 (pairs 64))
-unfolding pairs upTo keep concat rowStart
-pairs-in-place = tt
+  -- the pairs of the rows before x
+  abbrev rows : ℕ → List Pair
+  rows x = concat (map row (upTo x))
+
+  row-length : (x : ℕ) → length (row x) ≡ n - 1 - x
+  row-length x = length-map (keep (ltb x) (upTo n)) (λ y. (x, y)) ∙ larger-count x n
+
+  row-at : (x y : ℕ) → x < y → y < n → getD (row x) (y - 1 - x) (0, 0) ≡ (x, y)
+  row-at x y l k =
+      let r = rank (ltb x) n y k (lt→ltb x y l) in
+      rw (← larger-count x y) (map-at (λ y. (x, y)) (keep (ltb x) (upTo n)) (length (keep (ltb x) (upTo y))) 0 (0, 0) (r .0) ∙ ap (λ (z : ℕ). (x, z)) (r .1))
+
+  rows-next : (x : ℕ) → rows (suc x) ≡ rows x ++ row x
+  unfolding upTo concat
+  rows-next x = ap concat (map-append row (upTo x) (x ∷ [])) ∙ concat-append (map row (upTo x)) (row x ∷ []) ∙ ap (λ (l : List Pair). rows x ++ l) (append-nil (row x))
+
+  rows-length : (x : ℕ) → length (rows x) ≡ pairsBefore n x
+  unfolding upTo concat
+  rows-length zero = refl
+  rows-length (suc x) = ap length (rows-next x) ∙ omega (arith, length-append (rows x) (row x), rows-length x, row-length x)
+
+  -- behind the rows before x stands row x, whatever rows follow it
+  rows-at : (m x i : ℕ) → x < m → i < n - 1 - x → (pairsBefore n x + i < length (rows m)) × (getD (rows m) (pairsBefore n x + i) (0, 0) ≡ getD (row x) i (0, 0))
+  rows-at zero x i l k = absurd (omega arith)
+  rows-at (suc m) x i l k =
+      rw (rows-next m)
+      (elim (decLt x m) [
+        | yes h ↦ let r = rows-at m x i h k in
+            (omega (arith, r .0, length-append (rows m) (row m)), List·getD-append (rows m) (row m) (0, 0) (pairsBefore n x + i) (r .0) ∙ r .1)
+        | no h ↦ let e : x ≡ m = omega arith in
+            rw (e, ← rows-length m) (omega (arith, length-append (rows m) (row m), row-length m), getD-append-add (rows m) (row m) i (0, 0))
+      ])
+
+  pub pair-at : (x y : ℕ) → x < y → y < n → (pairsBefore n x + y - x - 1 < length (pairs n)) × (getD (pairs n) (pairsBefore n x + y - x - 1) (0, 0) ≡ (x, y))
+  unfolding pairs
+  pair-at x y l k =
+      let r = rows-at n x (y - 1 - x) (omega arith) (omega arith) in
+      let e : pairsBefore n x + y - x - 1 ≡ pairsBefore n x + (y - 1 - x) = omega arith in
+      rw e (r .0, r .1 ∙ row-at x y l k)
 
 pub place-index : (x y k : ℕ) → placeOf x y ≡ At k → (k < length (pairs 64)) × (getD (pairs 64) k (0, 0) ≡ (x, y))
+unfolding rowStart
 place-index x y k e =
     elim (decLt x y) [
       | yes l ↦ elim (decLt y 64) [
         | yes h ↦
-            let p : placeIn x y ≡ k = same (sym (placeOf-at x y l h) ∙ e) in
-            let i = member-index (pairs 64) (x, y) (0, 0) (member-pairs 64 x y l h) in
-            let q : k ≡ i .0 = sym p ∙ ap (λ (z : Pair). placeIn z.0 z.1) (sym (i .2)) ∙ in-place (pairs 64) 0 (i .0) pairs-in-place (i .1) ∙ omega arith in
-            rw q (i .1, i .2)
+            let p : k ≡ placeIn x y = same (sym e ∙ placeOf-at x y l h) in
+            rw p (pair-at 64 x y l h)
         | no h ↦ absurd (never (sym (placeOf-large x y (omega arith)) ∙ e))
       ]
       | no l ↦ absurd (never (sym (placeOf-unordered x y (omega arith)) ∙ e))

@@ -33,10 +33,14 @@ notLater n a b = notLaterOn (pairs n) a b
 unfoldable pub firstHeld : ℕ → Map → Pair
 firstHeld n m = first (λ p. holds m p.0 p.1) (0, 0) (pairs n)
 
--- the number of pairs in the rows before x when n = 64: row i has 63 - i pairs
+-- the number of pairs of n elements in the rows before x: row i has n - 1 - i pairs
+abbrev pub pairsBefore : ℕ → ℕ → ℕ
+pairsBefore n zero = 0
+pairsBefore n (suc x) = pairsBefore n x + (n - 1 - x)
+
+-- the number of pairs in the rows before x when n = 64
 unfoldable pub rowStart : ℕ → ℕ
-rowStart zero = 0
-rowStart (suc x) = rowStart x + (63 - x)
+rowStart x = pairsBefore 64 x
 
 -- the place of (x, y) among the pairs of 64 elements; none where x < y < 64 fails
 unfoldable pub placeOf : ℕ → ℕ → Place

@@ -7,75 +7,6 @@ ghost use Rattle.equivalence.specs.Order.{firstHeld, notLater, rowStart}
 ghost use Rattle.kernel.specs.InnerSearch.{foremost};
 use crate::Pair;
 use crate::blocks;
-use crate::checks::MAX_SIZE;
-
-// The number of pairs of 64 elements in the rows before row x: row i has 63 - i pairs.
-const ROW_STARTS: [usize; MAX_SIZE] = [
-    0,
-    63,
-    125,
-    186,
-    246,
-    305,
-    363,
-    420,
-    476,
-    531,
-    585,
-    638,
-    690,
-    741,
-    791,
-    840,
-    888,
-    935,
-    981,
-    1026,
-    1070,
-    1113,
-    1155,
-    1196,
-    1236,
-    1275,
-    1313,
-    1350,
-    1386,
-    1421,
-    1455,
-    1488,
-    1520,
-    1551,
-    1581,
-    1610,
-    1638,
-    1665,
-    1691,
-    1716,
-    1740,
-    1763,
-    1785,
-    1806,
-    1826,
-    1845,
-    1863,
-    1880,
-    1896,
-    1911,
-    1925,
-    1938,
-    1950,
-    1961,
-    1971,
-    1980,
-    1988,
-    1995,
-    2001,
-    2006,
-    2010,
-    2013,
-    2015,
-    2016,
-];
 
 // y where it passes and its value is smaller than that of `at`, else `at`; 0 stands for none.
 fn foremost_of(at: usize, value: u8, y: usize, new: u8, passes: bool) -> usize
@@ -137,11 +68,20 @@ pub fn is_not_later(n: usize, a: &[u8], b: &[u8]) -> bool
     a[at] <= b[at]
 }
 
+// The number of pairs of 64 elements in the rows before row x: the sum of 63, 62, .., 64 - x, which are x numbers, the first and the last together
+// 127 - x.
+fn row_start(x: usize) -> usize
+    requires { ⌜ x < 64 ⌝ }
+    ensures { λ r. ⌜ r ≡ rowStart x ⌝ }
+{
+    x * (127 - x) / 2
+}
+
 // The place of the pair (x, y) among the pairs of 64 elements.
 pub fn place(x: usize, y: usize) -> usize
     requires { ⌜ x < y ⌝ }
     requires { ⌜ y < 64 ⌝ }
     ensures { λ r. ⌜ r ≡ rowStart x + y - x - 1 ⌝ }
 {
-    ROW_STARTS[x] + y - x - 1
+    row_start(x) + y - x - 1
 }
