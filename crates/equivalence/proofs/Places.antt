@@ -40,14 +40,6 @@ module _ (n : ℕ) where
   pub pairsBefore-formula : (x : ℕ) → x ≤ n → x * (2 * n - 1 - x) / 2 ≡ pairsBefore n x
   pairsBefore-formula x l = ap (λ (k : ℕ). k / 2) (sym (twice x l)) ∙ mul-div-cancel (pairsBefore n x) (omega arith)
 
-pub rowStart-bound : (x : ℕ) → rowStart x ≤ x * 64
-unfolding rowStart
-rowStart-bound x = pairsBefore-bound 64 x
-
-pub rowStart-formula : (x : ℕ) → x < 64 → x * (127 - x) / 2 ≡ rowStart x
-unfolding rowStart
-rowStart-formula x l = pairsBefore-formula 64 x (omega arith)
-
 -- ---- the answers
 
 -- the place that the row starts give

@@ -98,10 +98,13 @@ fn places() {
     place(0, 1);
     place(0, 63);
     place(1, 2);
+    place(2, 3);
+    place(3, 4);
     place(62, 63);
     place(1, 1);
     place(2, 1);
     place(0, 64);
+    place(254, 255);
 }
 
 fn main() {

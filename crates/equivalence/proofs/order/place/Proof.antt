@@ -1,7 +1,8 @@
--- `place` is the start of its row and the way from there; a start is small (`rowStart-bound` of Places).
+-- `place` is the start of its row and the way from there; that a start is small is `pairsBefore-bound` of Places.
 use native.Mathlib.Omega.{arith}
 use borrow.Author.Needs.{needs}
-use Rattle.equivalence.proofs.Places.{rowStart-bound}
+use Rattle.equivalence.specs.Order.{rowStart}
+use Rattle.equivalence.proofs.Places.{pairsBefore-bound}
 use Rattle.equivalence.proofs.order.place.Statement.{statement}
 use Rattle.equivalence.proofs.order.place.Tie as tie
 
@@ -9,7 +10,8 @@ row-start-requires : tie.Need-row-start-requires
 row-start-requires c κs = search needs
 
 add-result : tie.Need-add-result
-add-result c = omega (arith, rowStart-bound (c .before .args .x))
+unfolding rowStart
+add-result c = omega (arith, pairsBefore-bound 64 (c .before .args .x))
 
 sub-result : tie.Need-sub-result
 sub-result c = search needs
