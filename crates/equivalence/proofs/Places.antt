@@ -18,7 +18,7 @@ use Rattle.equivalence.proofs.Stretches.{concat-append}
 use Rattle.equivalence.proofs.Tests.{both, left, right, pick-yes, pick-no}
 use Rattle.equivalence.specs.declared.Place.the-variants.{At, Nowhere}
 
--- two bytes, multiplied
+-- two bytes, multiplied; whichever they are, so that a wrong formula for a row's start is refused by what it gives and not here
 pub product-fits : {x y : ℕ} → x < 256 → y < 256 → Fits w64 (x * y)
 product-fits l k = omega (arith, mul-le-mul {n₂ = 256} {m₂ = 256} (le-of-lt l) (le-of-lt k))
 
