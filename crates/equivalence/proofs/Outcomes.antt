@@ -8,7 +8,7 @@ use Rattle.equivalence.specs.Refusal.{numberOf}
 use Rattle.equivalence.proofs.Ranks.{numberOf-injective}
 use Rattle.equivalence.proofs.Tests.{left, right}
 use Rattle.equivalence.specs.declared.Refusal.{Refusal}
-use Rattle.equivalence.specs.declared.Refusal.the-variants.{Size, Operations, Arity, Cells, Length, Cell, Range, NotMap, Space, Equal, NotCongruence, Tally, Text}
+use Rattle.equivalence.specs.declared.Refusal.the-variants.{Size, Operations, Arity, Cells, Length, Cell, Range, NotMap, Space, Equal, NotCongruence, Tally, Text, UnknownName, PointsFull}
 use Rattle.equivalence.specs.declared.Written.the-variants.{Done, Refused as WriteRefused}
 
 -- ---- success, refusal and 11 differ
@@ -28,6 +28,8 @@ number-apart Equal = tt
 number-apart NotCongruence = tt
 number-apart Tally = tt
 number-apart Text = tt
+number-apart UnknownName = tt
+number-apart PointsFull = tt
 
 module _ (r : Refusal) where
   number-some : ¬ (numberOf r ≡ 0)

@@ -14,7 +14,7 @@ use Rattle.equivalence.specs.Refusal.{Test, numberOf, lowest, answered, 
 use Rattle.equivalence.proofs.Refusals.{lowest-none, lowest-here, lowest-next}
 use Rattle.equivalence.proofs.Tests.{T?, left, right}
 use Rattle.equivalence.specs.declared.Refusal.{Refusal}
-use Rattle.equivalence.specs.declared.Refusal.the-variants.{Size, Operations, Arity, Cells, Length, Cell, Range, NotMap, Space, Equal, NotCongruence, Tally, Text}
+use Rattle.equivalence.specs.declared.Refusal.the-variants.{Size, Operations, Arity, Cells, Length, Cell, Range, NotMap, Space, Equal, NotCongruence, Tally, Text, UnknownName, PointsFull}
 use Rattle.equivalence.specs.declared.Check.{Check}
 use Rattle.equivalence.specs.declared.Check.the-variants.{Passed, Failed}
 
@@ -23,7 +23,7 @@ use Rattle.equivalence.specs.declared.Check.the-variants.{Passed, Failed
 -- the reason with a number
 numbered : ℕ → Refusal
 numbered k =
-    first (λ r. eqb (numberOf r) k) Text (Size ∷ Operations ∷ Arity ∷ Cells ∷ Length ∷ Cell ∷ Range ∷ NotMap ∷ Space ∷ Equal ∷ NotCongruence ∷ Tally ∷ [])
+    first (λ r. eqb (numberOf r) k) Text (Size ∷ Operations ∷ Arity ∷ Cells ∷ Length ∷ Cell ∷ Range ∷ NotMap ∷ Space ∷ Equal ∷ NotCongruence ∷ Tally ∷ UnknownName ∷ PointsFull ∷ [])
 
 numbered-number : (r : Refusal) → numbered (numberOf r) ≡ r
 unfolding numbered numberOf first
@@ -40,6 +40,8 @@ numbered-number Equal = refl
 numbered-number NotCongruence = refl
 numbered-number Tally = refl
 numbered-number Text = refl
+numbered-number UnknownName = refl
+numbered-number PointsFull = refl
 
 pub numberOf-injective : Injective numberOf
 numberOf-injective r s e = sym (numbered-number r) ∙ ap numbered e ∙ numbered-number s

@@ -8,11 +8,11 @@ use Rattle.equivalence.specs.Equivalence.{Map, isMap}
 use Rattle.equivalence.specs.Lists.{every}
 use Rattle.equivalence.specs.Lent.{lentAfter}
 use Rattle.equivalence.specs.declared.Refusal.{Refusal}
-use Rattle.equivalence.specs.declared.Refusal.the-variants.{Size, Operations, Arity, Cells, Length, Cell, Range, NotMap, Space, Equal, NotCongruence, Tally, Text}
+use Rattle.equivalence.specs.declared.Refusal.the-variants.{Size, Operations, Arity, Cells, Length, Cell, Range, NotMap, Space, Equal, NotCongruence, Tally, Text, UnknownName, PointsFull}
 use Rattle.equivalence.specs.declared.Check.{Check}
 use Rattle.equivalence.specs.declared.Check.the-variants.{Passed, Failed}
 
--- the number in document 01's table; 11 is `Decomposed`'s case `Irreducible`
+-- the number in the table of reasons; 11 is `Decomposed`'s case `Irreducible`
 unfoldable pub numberOf : Refusal → ℕ
 numberOf Size = 1
 numberOf Operations = 2
@@ -27,6 +27,8 @@ numberOf Equal = 10
 numberOf NotCongruence = 12
 numberOf Tally = 13
 numberOf Text = 14
+numberOf UnknownName = 15
+numberOf PointsFull = 16
 
 -- a reason, and whether it applies
 pub record Test : Type 0 where

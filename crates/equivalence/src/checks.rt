@@ -69,7 +69,7 @@ pub fn maps_space_check(n: usize, a: &[u8], b: &[u8], room: usize) -> Check
     Check::Passed
 }
 
-// The reason's number in document 01's table.
+// The reason's number.
 pub fn number(reason: Refusal) -> u8
     ensures { λ r. ⌜ r ≡ numberOf reason ⌝ }
 {
@@ -87,5 +87,7 @@ pub fn number(reason: Refusal) -> u8
         Refusal::NotCongruence => 12,
         Refusal::Tally => 13,
         Refusal::Text => 14,
+        Refusal::UnknownName => 15,
+        Refusal::PointsFull => 16,
     }
 }

@@ -9,7 +9,7 @@ pub mod lattice;
 pub mod map;
 pub mod order;
 
-// The reasons to decline, in the order of document 01's table. Reason 11 carries two elements: it is a case of `Decomposed`.
+// The reasons to decline, by their numbers. Reason 11 carries two elements: it is a case of `Decomposed`.
 pub enum Refusal {
     Size,
     Operations,
@@ -24,6 +24,8 @@ pub enum Refusal {
     NotCongruence,
     Tally,
     Text,
+    UnknownName,
+    PointsFull,
 }
 
 // What the tests of a call found.

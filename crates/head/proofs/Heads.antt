@@ -9,7 +9,7 @@ use Rattle.equivalence.specs.Refusal.{numberOf}
 use Rattle.equivalence.specs.declared.Check.{Check}
 use Rattle.equivalence.specs.declared.Check.the-variants.{Passed, Failed}
 use Rattle.equivalence.specs.declared.Refusal.{Refusal}
-use Rattle.equivalence.specs.declared.Refusal.the-variants.{Size, Operations, Arity, Cells, Length as CellsLength, Cell, Range, NotMap, Space, Equal, NotCongruence, Tally, Text}
+use Rattle.equivalence.specs.declared.Refusal.the-variants.{Size, Operations, Arity, Cells, Length as CellsLength, Cell, Range, NotMap, Space, Equal, NotCongruence, Tally, Text, UnknownName, PointsFull}
 use Rattle.reader.specs.Laying.{Laid}
 use Rattle.reader.proofs.Laying.{laid-more}
 use Rattle.algebratext.specs.declared.AlgebraRead.{AlgebraRead}
@@ -32,6 +32,8 @@ number-small Equal = omega arith
 number-small NotCongruence = omega arith
 number-small Tally = omega arith
 number-small Text = omega arith
+number-small UnknownName = omega arith
+number-small PointsFull = omega arith
 
 -- a check by its case
 pub check-passed : (c : Check) → c ≡ Passed → 0 ≡ checkNumber c

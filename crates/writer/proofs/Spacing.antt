@@ -12,7 +12,7 @@ use Rattle.equivalence.specs.Lent.{stretch}
 use Rattle.equivalence.specs.Outcome.{refusal}
 use Rattle.equivalence.specs.Refusal.{numberOf}
 use Rattle.equivalence.specs.declared.Refusal.{Refusal}
-use Rattle.equivalence.specs.declared.Refusal.the-variants.{Size, Operations, Arity, Cells, Length, Cell, Range, NotMap, Space, Equal, NotCongruence, Tally, Text}
+use Rattle.equivalence.specs.declared.Refusal.the-variants.{Size, Operations, Arity, Cells, Length, Cell, Range, NotMap, Space, Equal, NotCongruence, Tally, Text, UnknownName, PointsFull}
 use Rattle.reader.specs.Reading.{ascii}
 use Rattle.writer.specs.Numerals.{decimal}
 use Rattle.writer.specs.Lines.{gapBytes, spaced, bracketed, spacedBrackets, line, refusedNumbers, outcomeLine, refusedLine}
@@ -82,6 +82,8 @@ refused-line Equal done = refl
 refused-line NotCongruence done = refl
 refused-line Tally done = refl
 refused-line Text done = refl
+refused-line UnknownName done = refl
+refused-line PointsFull done = refl
 
 -- and is the same whatever success would give
 pub outcome-refused : (r : Refusal) (done : List ℕ) → outcomeLine (refusal r) done ≡ refusedLine r

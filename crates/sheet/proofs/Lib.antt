@@ -1,0 +1,5 @@
+pub mod SheetMaps
+pub mod Names
+pub mod Places
+pub mod Faults
+pub mod Storing
