@@ -3,14 +3,17 @@ use Prim.Native.Nat.{ℕ, _+_}
 use mathlib.Core.Bool.{not, _||_}
 use mathlib.Core.List.{List, [], _∷_, _++_}
 use lib.Dec.{eqb, ltb}
-use Rattle.equivalence.specs.Equivalence.{Map, isMap, identity}
+use Rattle.equivalence.specs.Equivalence.{Map, identity}
 use Rattle.equivalence.specs.Lists.{every}
 use Rattle.equivalence.specs.Refusal.{Test, lowest, sizeTest, answered, elementsTest}
-use Rattle.equivalence.specs.declared.Refusal.the-variants.{Range, NotMap, Tally}
+use Rattle.equivalence.specs.declared.Refusal.the-variants.{Range, NotMap, Tally, UnknownName, PointsFull}
 use Rattle.algebra.specs.Accepted.{algebraTests}
 use Rattle.algebra.specs.Algebra.{Algebra}
 use Rattle.theory.specs.Extremal.{extended}
-use Rattle.bench.specs.State.{mapOn, zeroBench, freshBench, sheetOf, withMap, raisedBy, blocksLost}
+use Rattle.sheet.specs.Points.{isHeld, isFullFor, mapUnder, isFaultless, withPoint, withoutPoint}
+use Rattle.sheet.specs.Sheet.{mapOn}
+use Rattle.sheet.specs.declared.Sheet.{Sheet}
+use Rattle.bench.specs.State.{zeroBench, freshBench, sheetOf, withSheet, withMap, raisedBy, blocksLost}
 use Rattle.bench.specs.declared.Answer.the-variants.{Done, Refused}
 use Rattle.bench.specs.declared.Bench.{Bench}
 use Rattle.bench.specs.declared.Benched.{Benched}
@@ -19,13 +22,21 @@ use Rattle.bench.specs.declared.Benched.{Benched}
 unfoldable pub sheetTest : ℕ → Test
 sheetTest k = record { applies = ltb 7 k; reason = Range }
 
--- 8: a bench of another n, or any of its sheets is no map over n
+-- 8: a bench of another n, or any of its sheets has a fault: no map over n, over eight points, a point's map is none, or two points of one name
 unfoldable pub benchTest : ℕ → Bench → Test
-benchTest n b = record { applies = not (eqb (b .n) n) || not (every (λ s. isMap n (mapOn n s)) (b .sheets)); reason = NotMap }
+benchTest n b = record { applies = not (eqb (b .n) n) || not (every (isFaultless n) (b .sheets)); reason = NotMap }
 
 -- 13: the tally would pass the top of 64 bits
 unfoldable pub tallyTest : ℕ → Test
 tallyTest tally = record { applies = ltb 18446744073709551615 tally; reason = Tally }
+
+-- 15: the sheet holds no point of this name
+unfoldable pub unknownTest : List ℕ → Sheet → Test
+unknownTest name s = record { applies = not (isHeld name s); reason = UnknownName }
+
+-- 16: a new name, and the sheet holds eight points
+unfoldable pub fullTest : List ℕ → Sheet → Test
+fullTest name s = record { applies = isFullFor name s; reason = PointsFull }
 
 -- a call by its tests: done, with the new bench; or refused, with the other
 unfoldable pub benched : List Test → Bench → Bench → Benched
@@ -71,3 +82,23 @@ clearTests b k = sizeTest (b .n) ∷ sheetTest k ∷ benchTest (b .n) b ∷ []
 -- Clear (1, 7, 8): the sheet gets the identity, and the tally stays
 unfoldable pub clearCall : Bench → ℕ → Benched
 clearCall b k = benched (clearTests b k) (withMap b k (identity (b .n))) b
+
+-- Set's tests: those, and 16
+unfoldable pub setTests : Bench → ℕ → List ℕ → List Test
+setTests b k name = clearTests b k ++ (fullTest name (sheetOf b k) ∷ [])
+
+-- Set (1, 7, 8, 16): the sheet's map is stored under the name, and takes the place of an older point of that name
+unfoldable pub setCall : Bench → ℕ → List ℕ → Benched
+setCall b k name = benched (setTests b k name) (withSheet b k (withPoint name (sheetOf b k))) b
+
+-- Return's and Forget's tests: 1, 7 and 8 as Clear's, and 15
+unfoldable pub knownTests : Bench → ℕ → List ℕ → List Test
+knownTests b k name = clearTests b k ++ (unknownTest name (sheetOf b k) ∷ [])
+
+-- Return (1, 7, 8, 15): the sheet gets the map that is stored under the name; the point and the tally stay
+unfoldable pub returnCall : Bench → ℕ → List ℕ → Benched
+returnCall b k name = benched (knownTests b k name) (withMap b k (mapUnder (b .n) name (sheetOf b k))) b
+
+-- Forget (1, 7, 8, 15): the sheet holds the point no more, and its place serves the next new name
+unfoldable pub forgetCall : Bench → ℕ → List ℕ → Benched
+forgetCall b k name = benched (knownTests b k name) (withSheet b k (withoutPoint name (sheetOf b k))) b

@@ -6,8 +6,9 @@ use lib.ListN.{take}
 use Rattle.equivalence.specs.Lent.{written}
 use Rattle.algebra.specs.Algebra.{Algebra}
 use Rattle.theory.specs.Extremal.{extended}
-use Rattle.bench.specs.State.{mapOn, sheetWith, blocksLost}
-use Rattle.bench.specs.declared.Sheet.{Sheet}
+use Rattle.sheet.specs.Sheet.{mapOn, sheetWith}
+use Rattle.sheet.specs.declared.Sheet.{Sheet}
+use Rattle.bench.specs.State.{blocksLost}
 
 -- the first bytes of `old`, a map, became the least congruence that holds it and the pair, at the cost of `lost` blocks
 pub record MapGrown (a : Algebra) (x y : ℕ) (old new : List ℕ) (lost : ℕ) : Type 0 where

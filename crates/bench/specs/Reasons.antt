@@ -2,15 +2,21 @@
 use Prim.Native.Nat.{ℕ}
 use Rattle.equivalence.specs.Ranks.{ReasonRight}
 use Rattle.algebra.specs.Algebra.{Algebra}
-use Rattle.bench.specs.Calls.{startTests, startCall, addTests, addCall, clearTests, clearCall}
-use Rattle.bench.specs.Conversion.{widened, convertTests, convertV1Call}
+use mathlib.Core.List.{List}
+use Rattle.bench.specs.Calls.{startTests, startCall, addTests, addCall, clearTests, clearCall, setTests, setCall, knownTests, returnCall, forgetCall}
+use Rattle.bench.specs.Conversion.{convertTests, convertV1Call, convertV2Call}
 use Rattle.bench.specs.declared.Answer.the-variants.{Refused}
 use Rattle.bench.specs.declared.Bench.{Bench}
 use Rattle.bench.specs.declared.conversion.BenchV1.{BenchV1}
+use Rattle.bench.specs.declared.conversion.BenchV2.{BenchV2}
 
 -- every call, whatever it is handed
 pub record BenchReasons : Type 0 where
   pub start : (n : ℕ) → ReasonRight Refused (startCall n .answer) (startTests n)
   pub add : (b : Bench) (a : Algebra) (k x y : ℕ) → ReasonRight Refused (addCall b a k x y .answer) (addTests b a k x y)
   pub clear : (b : Bench) (k : ℕ) → ReasonRight Refused (clearCall b k .answer) (clearTests b k)
-  pub convert : (old : BenchV1) → ReasonRight Refused (convertV1Call old .answer) (convertTests (widened old))
+  pub setPoint : (b : Bench) (k : ℕ) (name : List ℕ) → ReasonRight Refused (setCall b k name .answer) (setTests b k name)
+  pub returnTo : (b : Bench) (k : ℕ) (name : List ℕ) → ReasonRight Refused (returnCall b k name .answer) (knownTests b k name)
+  pub forget : (b : Bench) (k : ℕ) (name : List ℕ) → ReasonRight Refused (forgetCall b k name .answer) (knownTests b k name)
+  pub first : (old : BenchV1) → ReasonRight Refused (convertV1Call old .answer) (convertTests (old .n) (old .sheets))
+  pub second : (old : BenchV2) → ReasonRight Refused (convertV2Call old .answer) (convertTests (old .n) (old .sheets))

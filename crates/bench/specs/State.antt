@@ -1,23 +1,10 @@
--- The bench: eight sheets, each with a map, over one n, and one tally.
+-- The bench: eight sheets over one n, and one tally.
 use Prim.Native.Nat.{ℕ, _+_, _-_}
-use mathlib.Core.List.{[]}
-use lib.ListN.{take, getD, set, replicate}
+use lib.ListN.{getD, set, replicate}
 use Rattle.equivalence.specs.Equivalence.{Map, identity, blocks}
-use Rattle.equivalence.specs.Lent.{written}
+use Rattle.sheet.specs.Sheet.{zeroSheet, sheetWith, noSheet}
+use Rattle.sheet.specs.declared.Sheet.{Sheet}
 use Rattle.bench.specs.declared.Bench.{Bench}
-use Rattle.bench.specs.declared.Sheet.{Sheet}
-
--- the map on a sheet over n: its first n bytes
-unfoldable pub mapOn : ℕ → Sheet → Map
-mapOn n s = take n (s .map)
-
--- a sheet of zeros
-unfoldable pub zeroSheet : Sheet
-zeroSheet = record { map = replicate 64 0 }
-
--- a sheet with another map; the bytes past it stay
-unfoldable pub sheetWith : Map → Sheet → Sheet
-sheetWith m s = record { map = written m (s .map) }
 
 -- a bench over n with eight equal sheets and tally 0
 unfoldable pub eightOf : ℕ → Sheet → Bench
@@ -27,13 +14,9 @@ eightOf n s = record { n = n; tally = 0; sheets = replicate 8 s }
 unfoldable pub zeroBench : Bench
 zeroBench = eightOf 0 zeroSheet
 
--- the bench over n with the identity on every sheet and tally 0
+-- the bench over n with the identity on every sheet, no points and tally 0
 unfoldable pub freshBench : ℕ → Bench
 freshBench n = eightOf n (sheetWith (identity n) zeroSheet)
-
--- no sheet: what stands past the last one
-abbrev pub noSheet : Sheet
-noSheet = record { map = [] }
 
 -- sheet number k
 unfoldable pub sheetOf : Bench → ℕ → Sheet

@@ -5,12 +5,13 @@ ghost use Prim.Native.Nat.{_≤_};
 ghost use Rattle.equivalence.specs.Refusal.{lowest};
 ghost use Rattle.algebra.specs.Algebra.{algebraIn};
 ghost use Rattle.bench.specs.Calls.{startTests, benchTest, clearTests, placeTests, handedTests};
-ghost use Rattle.bench.specs.Conversion.{convertTests};
+ghost use Rattle.bench.specs.Calls.{setTests, knownTests};
 use super::Bench;
 use super::SHEETS;
 use super::sheets;
 use equivalence::Check;
 use equivalence::Refusal;
+use sheet::NAME_BYTES;
 
 // Start's: 1.
 pub fn start_check(n: usize) -> Check
@@ -31,7 +32,7 @@ fn bench_check(bench: Bench, n: usize) -> Check
         return Check::Failed(Refusal::NotMap);
     }
     let on_bench = bench.sheets;
-    if !sheets::all_have_maps(n, on_bench) {
+    if !sheets::all_faultless(n, on_bench) {
         return Check::Failed(Refusal::NotMap);
     }
     Check::Passed
@@ -51,15 +52,36 @@ pub fn clear_check(bench: Bench, sheet: usize) -> Check
     bench_check(bench, n)
 }
 
-// A conversion's, of the bench that it makes: 1 and 8.
-pub fn convert_check(bench: Bench) -> Check
-    ensures { λ r. ⌜ r ≡ lowest (convertTests bench) ⌝ }
+// Set's: 1, 7, 8 and 16.
+pub fn set_check(bench: Bench, k: usize, name: [u8; NAME_BYTES]) -> Check
+    ensures { λ r. ⌜ r ≡ lowest (setTests bench k name) ⌝ }
 {
-    let n = bench.n;
-    if !equivalence::checks::is_size(n) {
-        return Check::Failed(Refusal::Size);
+    let check = clear_check(bench, k);
+    if let Check::Failed(reason) = check {
+        return Check::Failed(reason);
     }
-    bench_check(bench, n)
+    let on_bench = bench.sheets;
+    let sheet = sheets::nth(on_bench, k);
+    if sheet::points::is_full_for(sheet, name) {
+        return Check::Failed(Refusal::PointsFull);
+    }
+    Check::Passed
+}
+
+// Return's and Forget's: 1, 7, 8 and 15.
+pub fn known_check(bench: Bench, k: usize, name: [u8; NAME_BYTES]) -> Check
+    ensures { λ r. ⌜ r ≡ lowest (knownTests bench k name) ⌝ }
+{
+    let check = clear_check(bench, k);
+    if let Check::Failed(reason) = check {
+        return Check::Failed(reason);
+    }
+    let on_bench = bench.sheets;
+    let sheet = sheets::nth(on_bench, k);
+    if !sheet::points::is_held(sheet, name) {
+        return Check::Failed(Refusal::UnknownName);
+    }
+    Check::Passed
 }
 
 // Add's 7 and 8, for an n that 1 does not decline.

@@ -1,4 +1,4 @@
-// The bench: eight sheets for class work, each with a map, over one n, and one tally of the blocks that the sheets lost.
+// The bench: eight sheets for class work, each with a map and points to go back to, over one n, and one tally of the blocks that the sheets lost.
 // A bench is a value: it goes into a call and comes back beside the answer. Any bench is legal, also one that no call here gave.
 ghost use mathlib.Core.Path.{_≡_};
 ghost use mathlib.Core.List.{[], _∷_};
@@ -8,29 +8,28 @@ ghost use Rattle.equivalence.specs.declared.Check.the-variants.{Passed};
 ghost use Rattle.algebra.specs.Algebra.{algebraIn};
 ghost use Rattle.bench.specs.State.{withSheet, raisedBy};
 ghost use Rattle.bench.specs.Calls.{tallyTest, benched, startCall, handedTests, addCall, clearCall};
+ghost use Rattle.bench.specs.Calls.{setCall, returnCall, forgetCall};
 use equivalence::Check;
 use equivalence::Refusal;
+use sheet::NAME_BYTES;
+use sheet::Sheet;
 
 pub mod checks;
 pub mod conversion;
 pub mod sheets;
 
 pub use conversion::BenchV1;
+pub use conversion::BenchV2;
+pub use conversion::BenchedV2;
+pub use conversion::SheetV1;
 pub use conversion::convert_v1;
+pub use conversion::convert_v2;
 
 // How many sheets a bench has.
 pub const SHEETS: usize = 8;
 
-// How many bytes a sheet keeps for its map.
-pub const SHEET_BYTES: usize = 64;
-
 // The top of the tally.
 const MAX_TALLY: u64 = 18446744073709551615;
-
-// A map in its first n bytes. Bytes past n are never read, and no call changes them.
-pub struct Sheet {
-    pub map: [u8; SHEET_BYTES],
-}
 
 pub struct Bench {
     pub n: usize,
@@ -49,7 +48,7 @@ pub struct Benched {
     pub bench: Bench,
 }
 
-// A bench over n: every sheet has the identity, and the tally is 0. Refused, a bench of zeros.
+// A bench over n: every sheet has the identity and no points, and the tally is 0. Refused, a bench of zeros.
 pub fn start(n: usize) -> Benched
     ensures { λ r. ⌜ r ≡ startCall n ⌝ }
 {
@@ -142,6 +141,57 @@ pub fn clear(bench: Bench, sheet: usize) -> Benched
         Check::Passed => Benched {
             answer: Answer::Done,
             bench: sheets::cleared(bench, sheet),
+        },
+    }
+}
+
+// The sheet's map is stored under the name; an older point of that name is replaced.
+pub fn set_point(bench: Bench, sheet: usize, name: [u8; NAME_BYTES]) -> Benched
+    ensures { λ r. ⌜ r ≡ setCall bench sheet name ⌝ }
+{
+    let check = checks::set_check(bench, sheet, name);
+    match check {
+        Check::Failed(reason) => Benched {
+            answer: Answer::Refused(reason),
+            bench,
+        },
+        Check::Passed => Benched {
+            answer: Answer::Done,
+            bench: sheets::with_point(bench, sheet, name),
+        },
+    }
+}
+
+// The sheet gets the map that is stored under the name; the point and the tally stay.
+pub fn return_to(bench: Bench, sheet: usize, name: [u8; NAME_BYTES]) -> Benched
+    ensures { λ r. ⌜ r ≡ returnCall bench sheet name ⌝ }
+{
+    let check = checks::known_check(bench, sheet, name);
+    match check {
+        Check::Failed(reason) => Benched {
+            answer: Answer::Refused(reason),
+            bench,
+        },
+        Check::Passed => Benched {
+            answer: Answer::Done,
+            bench: sheets::returned(bench, sheet, name),
+        },
+    }
+}
+
+// The sheet holds the point of the name no more; its place serves the next new name.
+pub fn forget(bench: Bench, sheet: usize, name: [u8; NAME_BYTES]) -> Benched
+    ensures { λ r. ⌜ r ≡ forgetCall bench sheet name ⌝ }
+{
+    let check = checks::known_check(bench, sheet, name);
+    match check {
+        Check::Failed(reason) => Benched {
+            answer: Answer::Refused(reason),
+            bench,
+        },
+        Check::Passed => Benched {
+            answer: Answer::Done,
+            bench: sheets::without_point(bench, sheet, name),
         },
     }
 }

@@ -5,42 +5,17 @@ ghost use lib.ListN.{length, getD, take};
 ghost use Rattle.equivalence.specs.Lists.{every};
 ghost use lib.Dec.{T};
 ghost use Rattle.equivalence.specs.Equivalence.{isMap, identity};
-ghost use Rattle.equivalence.specs.Lent.{written};
 ghost use Rattle.algebra.specs.Algebra.{algebraIn};
 ghost use Rattle.algebra.specs.Accepted.{Accepted};
-ghost use Rattle.bench.specs.State.{mapOn, zeroSheet, sheetWith, eightOf, zeroBench, freshBench, noSheet, withSheet, withMap};
+ghost use Rattle.sheet.specs.Sheet.{mapOn, noSheet};
+ghost use Rattle.sheet.specs.Points.{isHeld, placeNamed, mapUnder, isFaultless, withPoint, withoutPoint};
+ghost use Rattle.bench.specs.State.{eightOf, zeroBench, freshBench, sheetOf, withSheet, withMap};
 ghost use Rattle.bench.specs.InnerGrowth.{MapGrown, SheetGrown};
 use super::Bench;
-use super::SHEET_BYTES;
 use super::SHEETS;
-use super::Sheet;
-
-fn zero_sheet() -> Sheet
-    ensures { λ r. ⌜ r ≡ zeroSheet ⌝ }
-{
-    Sheet {
-        map: [0u8; SHEET_BYTES],
-    }
-}
-
-fn write_identity(n: usize, map: &mut [u8; SHEET_BYTES])
-    requires { ⌜ n ≤ 64 ⌝ }
-    ensures { λ _. ⌜ now (map .exit) ≡ written (identity n) (now (map .entry)) ⌝ }
-{
-    equivalence::blocks::identity(n, map);
-}
-
-// The sheet with the identity over n.
-fn identity_sheet(sheet: Sheet, n: usize) -> Sheet
-    requires { ⌜ n ≤ 64 ⌝ }
-    ensures { λ r. ⌜ r ≡ sheetWith (identity n) sheet ⌝ }
-{
-    let mut map = sheet.map;
-    write_identity(n, &mut map);
-    let mut next = sheet;
-    next.map = map;
-    next
-}
+use sheet::MAP_BYTES;
+use sheet::NAME_BYTES;
+use sheet::Sheet;
 
 // A bench over n with eight equal sheets and tally 0.
 fn eight_of(n: usize, sheet: Sheet) -> Bench
@@ -57,17 +32,17 @@ fn eight_of(n: usize, sheet: Sheet) -> Bench
 pub fn zeros() -> Bench
     ensures { λ r. ⌜ r ≡ zeroBench ⌝ }
 {
-    eight_of(0, zero_sheet())
+    eight_of(0, sheet::zeros())
 }
 
-// A bench over n with the identity on every sheet and tally 0.
+// A bench over n with the identity on every sheet, no points and tally 0.
 pub fn fresh(n: usize) -> Bench
     requires { ⌜ n ≤ 64 ⌝ }
     ensures { λ r. ⌜ r ≡ freshBench n ⌝ }
 {
-    let zero = zero_sheet();
-    let sheet = identity_sheet(zero, n);
-    eight_of(n, sheet)
+    let zero = sheet::zeros();
+    let identity = sheet::with_identity(zero, n);
+    eight_of(n, identity)
 }
 
 // The bench with another sheet.
@@ -88,7 +63,7 @@ pub fn cleared(bench: Bench, k: usize) -> Bench
 {
     let on_bench = bench.sheets;
     let old = nth(on_bench, k);
-    let new = identity_sheet(old, bench.n);
+    let new = sheet::with_identity(old, bench.n);
     with_sheet(bench, k, new)
 }
 
@@ -100,25 +75,55 @@ pub fn nth(sheets: [Sheet; SHEETS], k: usize) -> Sheet
     sheets[k]
 }
 
-// Whether the first n bytes are a map over n.
-fn has_map(n: usize, map: &[u8; SHEET_BYTES]) -> bool
-    requires { ⌜ n ≤ 64 ⌝ }
-    ensures { λ r. ⌜ r ≡ isMap n (take n (now (map .entry))) ⌝ }
+// The bench with the map of one sheet stored under a name.
+pub fn with_point(bench: Bench, k: usize, name: [u8; NAME_BYTES]) -> Bench
+    requires { ⌜ k < 8 ⌝ }
+    requires { ⌜ sheetOf bench k .count ≤ 8 ⌝ }
+    requires { ⌜ placeNamed name (sheetOf bench k) < 8 ⌝ }
+    ensures { λ r. ⌜ r ≡ withSheet bench k (withPoint name (sheetOf bench k)) ⌝ }
 {
-    let bytes = &map[..];
-    equivalence::map::is_map(n, &bytes[0..n])
+    let on_bench = bench.sheets;
+    let old = nth(on_bench, k);
+    let new = sheet::points::with_point(old, name);
+    with_sheet(bench, k, new)
 }
 
-// Whether all eight sheets have maps over n.
-pub fn all_have_maps(n: usize, sheets: [Sheet; SHEETS]) -> bool
+// The bench with the map that one sheet has stored under a name on that sheet.
+pub fn returned(bench: Bench, k: usize, name: [u8; NAME_BYTES]) -> Bench
+    requires { ⌜ bench .n ≤ 64 ⌝ }
+    requires { ⌜ k < 8 ⌝ }
+    requires { ⌜ sheetOf bench k .count ≤ 8 ⌝ }
+    requires { ⌜ T (isHeld name (sheetOf bench k)) ⌝ }
+    ensures { λ r. ⌜ r ≡ withMap bench k (mapUnder (bench .n) name (sheetOf bench k)) ⌝ }
+{
+    let on_bench = bench.sheets;
+    let old = nth(on_bench, k);
+    let new = sheet::points::returned(old, bench.n, name);
+    with_sheet(bench, k, new)
+}
+
+// The bench without the point of a name on one sheet.
+pub fn without_point(bench: Bench, k: usize, name: [u8; NAME_BYTES]) -> Bench
+    requires { ⌜ k < 8 ⌝ }
+    requires { ⌜ sheetOf bench k .count ≤ 8 ⌝ }
+    requires { ⌜ T (isHeld name (sheetOf bench k)) ⌝ }
+    ensures { λ r. ⌜ r ≡ withSheet bench k (withoutPoint name (sheetOf bench k)) ⌝ }
+{
+    let on_bench = bench.sheets;
+    let old = nth(on_bench, k);
+    let new = sheet::points::without_point(old, name);
+    with_sheet(bench, k, new)
+}
+
+// Whether all eight sheets are without fault over n.
+pub fn all_faultless(n: usize, sheets: [Sheet; SHEETS]) -> bool
     requires { ⌜ n ≤ 64 ⌝ }
-    ensures { λ r. ⌜ r ≡ every (λ s. isMap n (mapOn n s)) sheets ⌝ }
+    ensures { λ r. ⌜ r ≡ every (isFaultless n) sheets ⌝ }
 {
     let mut k: usize = 0;
     while k < SHEETS {
         let sheet = sheets[k];
-        let map = sheet.map;
-        if !has_map(n, &map) {
+        if !sheet::is_faultless(n, sheet) {
             return false;
         }
         k += 1;
@@ -139,7 +144,7 @@ fn extend_map(
     cells: &[u8],
     x: usize,
     y: usize,
-    map: &mut [u8; SHEET_BYTES],
+    map: &mut [u8; MAP_BYTES],
 ) -> usize
     requires { ⌜ Accepted (algebraIn n arities cells) ⌝ }
     requires { ⌜ T (isMap n (take n (now map))) ⌝ }

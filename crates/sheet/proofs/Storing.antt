@@ -6,11 +6,11 @@ use mathlib.Core.Logic.{_≢_, inl, inr}
 use mathlib.Core.Path.{_≡_, refl, sym, ap, subst, _∙_}
 use native.Mathlib.Decide.{decLt, ℕ-discrete}
 use native.Mathlib.Omega.{arith}
-use lib.Dec.{T, T-not}
+use lib.Dec.{T, T-not, not-T}
 use lib.ListN.{length, take, set}
 use lib.Seq.{getD-set-same, getD-set-other}
 use Rattle.equivalence.specs.Equivalence.{Map}
-use Rattle.equivalence.proofs.Tests.{T?, both, left, right, or-left, or-right, or-cases, pick-yes, pick-no}
+use Rattle.equivalence.proofs.Tests.{T?, both, left, right, or-left, or-right, or-cases, pick, pick-yes, pick-no}
 use Rattle.sheet.specs.Points.{sameName, pointIn, firstNamed, isNamedBelow, isHeld, placeNamed, mapUnder, withPoint, withoutPoint}
 use Rattle.sheet.specs.Sheet.{mapOn, noPoint}
 use Rattle.sheet.proofs.Faults.{Apart}
@@ -75,6 +75,13 @@ module _ (places : List Point) (i : ℕ) (p : Point) where
 abbrev name-of : Point → List ℕ
 name-of p = p .name
 
+-- tests that pass together are equal
+same-test : (a b : Bool) → (T a → T b) → (T b → T a) → a ≡ b
+same-test true true f g = refl
+same-test true false f g = absurd (f tt)
+same-test false true f g = absurd (g tt)
+same-test false false f g = refl
+
 -- ---- Set
 
 module _ (name : List ℕ) (s : Sheet) (eight : length (s .points) ≡ 8) (room : placeNamed name s < 8) where
@@ -110,11 +117,11 @@ module _ (name : List ℕ) (s : Sheet) (eight : length (s .points) ≡ 8) (room 
   set-elsewhere j h = put-elsewhere (s .points) place stored j h
 
   -- the name is held
-  pub set-known : T (isHeld name (withPoint name s))
+  set-known : T (isHeld name (withPoint name s))
   set-known = held-of name (withPoint name s) place (set-held .0) (ap name-of (set-here place refl))
 
   -- and the names that were
-  pub set-keeps : (other : List ℕ) → T (isHeld other s) → T (isHeld other (withPoint name s))
+  set-keeps : (other : List ℕ) → T (isHeld other s) → T (isHeld other (withPoint name s))
   set-keeps other t =
       let h = of-held other s t in
       let c = set-held in
@@ -132,15 +139,23 @@ module _ (name : List ℕ) (s : Sheet) (eight : length (s .points) ≡ 8) (room 
           ]
 
   -- no others
-  pub set-only : (other : List ℕ) → T (isHeld other (withPoint name s)) → other ≢ name → T (isHeld other s)
+  set-only : (other : List ℕ) → T (isHeld other (withPoint name s)) → other ≢ name → T (isHeld other s)
   set-only other t d =
       let h = of-held other (withPoint name s) t in
       let e : h .0 ≢ place = λ e. d (sym (h .2) ∙ ap name-of (set-here (h .0) e)) in
       held-of other s (h .0) (set-count (h .0) (h .1) e) (sym (ap name-of (set-elsewhere (h .0) e)) ∙ h .2)
 
+  pub set-names : (other : List ℕ) → isHeld other (withPoint name s) ≡ (sameName other name || isHeld other s)
+  set-names other =
+      same-test _ _ (λ t. elim (T? (sameName other name)) [ yes e ↦ or-left (sameName other name) (isHeld other s) e | no e ↦ or-right (sameName other name) (isHeld other s) (set-only other t (λ f. e (sameName-of _ _ f))) ])
+      (λ t. elim (or-cases (sameName other name) (isHeld other s) t) [
+        | inl e ↦ subst (λ (q : List ℕ). T (isHeld q (withPoint name s))) (sym (of-sameName _ _ e)) set-known
+        | inr h ↦ set-keeps other h
+      ])
+
   module _ (n : ℕ) (apart : Apart s) where
     -- under the name is the sheet's map
-    pub set-map : mapUnder n name (withPoint name s) ≡ mapOn n s
+    set-map : mapUnder n name (withPoint name s) ≡ mapOn n s
     unfolding mapUnder mapOn
     set-map =
         let t = held-place name (withPoint name s) set-known in
@@ -151,11 +166,18 @@ module _ (name : List ℕ) (s : Sheet) (eight : length (s .points) ≡ 8) (room 
         ]
 
     -- under the others what was there
-    pub set-others : (other : List ℕ) → T (isHeld other (withPoint name s)) → other ≢ name → mapUnder n other (withPoint name s) ≡ mapUnder n other s
+    set-others : (other : List ℕ) → T (isHeld other (withPoint name s)) → other ≢ name → mapUnder n other (withPoint name s) ≡ mapUnder n other s
     set-others other t d =
         let h = held-place other (withPoint name s) t in
         let e : placeNamed other (withPoint name s) ≢ place = λ e. d (sym (h .1) ∙ ap name-of (set-here _ e)) in
         same-map n other s (withPoint name s) apart t _ (set-count _ (h .0) e) (set-elsewhere _ e)
+
+    pub set-stored : (other : List ℕ) → T (isHeld other (withPoint name s)) → mapUnder n other (withPoint name s) ≡ pick (sameName other name) (mapOn n s) (mapUnder n other s)
+    set-stored other t =
+        elim (T? (sameName other name)) [
+          | yes e ↦ ap (λ (q : List ℕ). mapUnder n q (withPoint name s)) (of-sameName _ _ e) ∙ set-map ∙ sym (pick-yes (sameName other name) _ _ e)
+          | no e ↦ set-others other t (λ f. e (sameName-of _ _ f)) ∙ sym (pick-no (sameName other name) _ _ e)
+        ]
 
 -- ---- Forget
 
@@ -192,21 +214,21 @@ module _ (name : List ℕ) (s : Sheet) (eight : length (s .points) ≡ 8) (few :
       ]
 
   -- the name is held no more
-  pub forget-gone : ¬ T (isHeld name (withoutPoint name s))
+  forget-gone : ¬ T (isHeld name (withoutPoint name s))
   forget-gone t =
       let h = of-held name (withoutPoint name s) t in
       let w = was (h .0) (h .1) in
       w .2 (sym (place-is name s apart (w .0) (w .1) (sym (ap name-of (w .3)) ∙ h .2)))
 
   -- no new ones
-  pub forget-only : (other : List ℕ) → T (isHeld other (withoutPoint name s)) → T (isHeld other s)
+  forget-only : (other : List ℕ) → T (isHeld other (withoutPoint name s)) → T (isHeld other s)
   forget-only other t =
       let h = of-held other (withoutPoint name s) t in
       let w = was (h .0) (h .1) in
       held-of other s (w .0) (w .1) (sym (ap name-of (w .3)) ∙ h .2)
 
   -- the others stay
-  pub forget-keeps : (other : List ℕ) → T (isHeld other s) → other ≢ name → T (isHeld other (withoutPoint name s))
+  forget-keeps : (other : List ℕ) → T (isHeld other s) → other ≢ name → T (isHeld other (withoutPoint name s))
   forget-keeps other t d =
       let h = of-held other s t in
       let c = forget-count in
@@ -217,8 +239,13 @@ module _ (name : List ℕ) (s : Sheet) (eight : length (s .points) ≡ 8) (few :
         | no l ↦ held-of other (withoutPoint name s) (h .0) (omega (arith, h .1)) (ap name-of (forget-elsewhere (h .0) e) ∙ h .2)
       ]
 
+  pub forget-names : (other : List ℕ) → isHeld other (withoutPoint name s) ≡ (not (sameName other name) && isHeld other s)
+  forget-names other =
+      same-test _ _ (λ t. both (not (sameName other name)) (isHeld other s) (not-T (sameName other name) (λ e. forget-gone (subst (λ (q : List ℕ). T (isHeld q (withoutPoint name s))) (of-sameName _ _ e) t))) (forget-only other t))
+      (λ t. forget-keeps other (right (not (sameName other name)) (isHeld other s) t) (λ e. T-not (sameName other name) (left (not (sameName other name)) (isHeld other s) t) (sameName-of _ _ e)))
+
   -- with what is under them
-  pub forget-others : (n : ℕ) (other : List ℕ) → T (isHeld other (withoutPoint name s)) → mapUnder n other (withoutPoint name s) ≡ mapUnder n other s
-  forget-others n other t =
+  pub forget-stored : (n : ℕ) (other : List ℕ) → T (isHeld other (withoutPoint name s)) → mapUnder n other (withoutPoint name s) ≡ mapUnder n other s
+  forget-stored n other t =
       let w = was _ (held-place other (withoutPoint name s) t .0) in
       same-map n other s (withoutPoint name s) apart t (w .0) (w .1) (w .3)

@@ -37,6 +37,10 @@ firstNamed name places k = first (isNamed name places) k (upTo k)
 unfoldable pub isHeld : List ℕ → Sheet → Bool
 isHeld name s = isNamedBelow name (s .points) (s .count)
 
+-- the name is new, and the sheet holds eight points
+unfoldable pub isFullFor : List ℕ → Sheet → Bool
+isFullFor name s = not (isHeld name s) && eqb (s .count) 8
+
 -- the place of the point of this name; where none is held, the first that is free
 unfoldable pub placeNamed : List ℕ → Sheet → ℕ
 placeNamed name s = firstNamed name (s .points) (s .count)

@@ -6,7 +6,7 @@ ghost use lib.ListN.{take, length};
 ghost use Rattle.equivalence.specs.Lists.{upTo, every};
 ghost use Rattle.equivalence.specs.Lent.{written};
 ghost use Rattle.sheet.specs.Sheet.{sheetWith};
-ghost use Rattle.sheet.specs.Points.{sameName, firstNamed, isHeld, placeNamed, mapUnder, isPoint, withPoint, withoutPoint};
+ghost use Rattle.sheet.specs.Points.{sameName, firstNamed, isHeld, isFullFor, placeNamed, mapUnder, isPoint, withPoint, withoutPoint};
 use super::MAP_BYTES;
 use super::NAME_BYTES;
 use super::PLACES;
@@ -89,6 +89,17 @@ pub fn is_held(sheet: Sheet, name: [u8; NAME_BYTES]) -> bool
     ensures { λ r. ⌜ r ≡ isHeld name sheet ⌝ }
 {
     place_named(sheet, name) < sheet.count
+}
+
+// Whether the name is new and no place is free.
+pub fn is_full_for(sheet: Sheet, name: [u8; NAME_BYTES]) -> bool
+    requires { ⌜ sheet .count ≤ 8 ⌝ }
+    ensures { λ r. ⌜ r ≡ isFullFor name sheet ⌝ }
+{
+    if is_held(sheet, name) {
+        return false;
+    }
+    sheet.count == PLACES
 }
 
 // How many places are held once this one is, which is held or the first that is free.
