@@ -1,5 +1,5 @@
--- Add and Clear as a whole: a call is accepted, with what its tests leave, or it is refused; an accepted Add gives the least congruence, and
--- the steps by which Add is made give its definition.
+-- Add as a whole: it is accepted, with what its tests leave, or refused; accepted, it gives the least congruence; and the steps by which it is made
+-- give its definition.
 use Prim.Native.Nat.{ℕ, _+_, _<_}
 use mathlib.Core.List.{List, [], _∷_}
 use mathlib.Core.Logic.{_⊎_, inl, inr}
@@ -7,11 +7,11 @@ use mathlib.Core.Path.{_≡_, ap, sym, _∙_}
 use native.Mathlib.Omega.{arith}
 use lib.Dec.{T}
 use lib.ListN.{length, take}
-use Rattle.equivalence.specs.Equivalence.{Map, byte, isMap, identity}
+use Rattle.equivalence.specs.Equivalence.{Map, byte, isMap}
 use Rattle.kernel.specs.InnerKernel.{Canonical}
 use Rattle.equivalence.specs.Refusal.{lowest}
 use Rattle.equivalence.proofs.BlockNumbers.{blocks-le}
-use Rattle.equivalence.proofs.Maps.{identity-map, of-isMap, holds-of, of-holds, inside-of, of-inside}
+use Rattle.equivalence.proofs.Maps.{of-isMap, holds-of, of-holds, inside-of, of-inside}
 use Rattle.equivalence.proofs.Refusals.{passed-append}
 use Rattle.equivalence.specs.declared.Check.the-variants.{Passed}
 use Rattle.equivalence.specs.declared.Refusal.{Refusal}
@@ -22,14 +22,21 @@ use Rattle.algebra.proofs.Congruences.{congruence-is, congruence-of}
 use Rattle.extremal.specs.InnerExtension.{MapExtended}
 use Rattle.extremal.proofs.Bridges.{front-byte}
 use Rattle.theory.proofs.Above.{LeastJoining, extended-law}
-use Rattle.bench.specs.Calls.{tallyTest, benched, handedTests, addTests, clearTests, mapByAdd, lostByAdd, addCall, clearCall}
+use Rattle.sheet.specs.Sheet.{mapOn, sheetWith}
+use Rattle.sheet.specs.declared.Sheet.{Sheet}
+use Rattle.sheet.proofs.SheetMaps.{mapOn-sheetWith}
+use Rattle.bench.specs.Calls.{tallyTest, benched, handedTests, addTests, mapByAdd, lostByAdd, addCall}
 use Rattle.bench.specs.InnerGrowth.{MapGrown, SheetGrown}
 use Rattle.bench.specs.Promises.{LeastExtension}
-use Rattle.bench.specs.State.{mapOn, sheetOf, withSheet, withMap, raisedBy, blocksLost}
-use Rattle.bench.proofs.SheetMaps.{mapOn-sheetWith, withMap-same}
-use Rattle.bench.proofs.Testing.{doneWith, refused, benched-cases, benched-append, Clearable, clear-passed, Addable, add-passed}
+use Rattle.bench.specs.State.{sheetOf, withSheet, withMap, raisedBy, blocksLost}
+use Rattle.bench.proofs.BenchSheets.{withSheet-same}
+use Rattle.bench.proofs.Testing.{doneWith, refused, benched-cases, benched-append, Addable, add-passed}
 use Rattle.bench.specs.declared.Bench.{Bench}
-use Rattle.bench.specs.declared.Sheet.{Sheet}
+
+-- the map of the sheet that got it
+pub withMap-map : (b : Bench) (k : ℕ) (m : Map) → k < length (b .sheets) → length m ≡ b .n → mapOn (b .n) (sheetOf (withMap b k m) k) ≡ m
+unfolding withMap
+withMap-map b k m l e = ap (mapOn (b .n)) (withSheet-same b k (sheetWith m (sheetOf b k)) l) ∙ mapOn-sheetWith (b .n) m (sheetOf b k) e
 
 module _ (b : Bench) (a : Algebra) (k x y : ℕ) where
   -- the bench after an accepted Add
@@ -55,9 +62,7 @@ module _ (b : Bench) (a : Algebra) (k x y : ℕ) where
     -- sheet k of the bench after it
     pub afterAdd-map : length (b .sheets) ≡ 8 → mapOn (b .n) (sheetOf afterAdd k) ≡ mapByAdd b a k x y
     unfolding raisedBy sheetOf
-    afterAdd-map eight =
-        ap (mapOn (b .n)) (withMap-same b k (mapByAdd b a k x y) (omega (arith, eight, p .placed .sheet)))
-        ∙ mapOn-sheetWith (b .n) (mapByAdd b a k x y) (sheetOf b k) (added-length ∙ sym (p .placed .faultless .size))
+    afterAdd-map eight = withMap-map b k (mapByAdd b a k x y) (omega (arith, eight, p .placed .sheet)) (added-length ∙ sym (p .placed .faultless .size))
 
     -- demand 2 for Add
     pub added-least : LeastExtension a (mapOn (a .size) (sheetOf b k)) x y (mapByAdd b a k x y)
@@ -98,17 +103,3 @@ pub grown-call : (b : Bench) (a : Algebra) (k x y : ℕ) → lowest (handedTests
     → benched (tallyTest (b .tally + lost) ∷ []) (raisedBy lost (withSheet b k new)) b ≡ addCall b a k x y
 unfolding addCall lostByAdd withMap mapByAdd
 grown-call b a k x y e old new lost o g = rw (g .sheet, g .blocks, o) (sym (benched-append (handedTests b a k x y) _ _ _ e))
-
--- sheet k of the bench after an accepted Clear
-pub cleared-map : (b : Bench) (k : ℕ) → Clearable b k → length (b .sheets) ≡ 8 → mapOn (b .n) (sheetOf (withMap b k (identity (b .n))) k) ≡ identity (b .n)
-cleared-map b k p eight =
-    ap (mapOn (b .n)) (withMap-same b k (identity (b .n)) (omega (arith, eight, p .sheet)))
-    ∙ mapOn-sheetWith (b .n) (identity (b .n)) (sheetOf b k) (identity-map (b .n) .long)
-
-pub clear-cases : (b : Bench) (k : ℕ) → (Clearable b k × (clearCall b k ≡ doneWith (withMap b k (identity (b .n))))) ⊎ ((r : Refusal) × (clearCall b k ≡ refused r b))
-unfolding clearCall
-clear-cases b k =
-    elim (benched-cases (clearTests b k) (withMap b k (identity (b .n))) b) [
-      | inl p ↦ inl (clear-passed b k (p .0), p .1)
-      | inr p ↦ inr p
-    ]

@@ -1,8 +1,5 @@
-pub mod Edges
-pub mod SheetMaps
+pub mod BenchSheets
+pub mod Copying
 pub mod Testing
 pub mod Conversions
-pub mod Answers
 pub mod Adding
-pub mod Promises
-pub mod Histories

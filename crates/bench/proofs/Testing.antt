@@ -9,20 +9,22 @@ use native.Mathlib.Omega.{arith}
 use lib.Dec.{T, T-not, eqb, ltb, eqb→eq, ltb→lt, lt→ltb}
 use lib.ListN.{length}
 use borrow.Author.Tests.{le-ltb, eq-eqb, ne-eqb, not-true, not-false}
-use Rattle.equivalence.specs.Equivalence.{isMap}
 use Rattle.equivalence.specs.Lists.{every}
 use Rattle.equivalence.specs.Refusal.{Test, lowest, sizeTest, answered, elementsTest}
 use Rattle.equivalence.proofs.Refusals.{lowest-none, lowest-next, lowest-here, of-passed, of-sizeTest, size-refused, size-passed, lowest-append, lowest-failed, passed-append}
-use Rattle.equivalence.proofs.Tests.{T-of, or-left, or-right, or-cases}
+use Rattle.equivalence.proofs.Tests.{T-of, not-T-of, or-left, or-right, or-cases}
 use Rattle.equivalence.specs.declared.Check.the-variants.{Passed, Failed}
 use Rattle.equivalence.specs.declared.Check.{Check}
 use Rattle.equivalence.specs.declared.Refusal.{Refusal}
 use Rattle.equivalence.specs.declared.Refusal.the-variants.{Size, Range, NotMap, Tally}
 use Rattle.algebra.specs.Accepted.{algebraTests, Accepted}
 use Rattle.algebra.specs.Algebra.{Algebra}
-use Rattle.bench.specs.Calls.{sheetTest, benchTest, tallyTest, startTests, placeTests, handedTests, clearTests, benched}
-use Rattle.bench.specs.State.{mapOn, sheetOf}
-use Rattle.bench.proofs.SheetMaps.{of-every-sheet}
+use Rattle.sheet.specs.Points.{isHeld, isFullFor, isFaultless}
+use Rattle.sheet.specs.Sheet.{noSheet}
+use Rattle.sheet.proofs.Faults.{of-faultless, Faultless as SheetFaultless}
+use Rattle.bench.specs.Calls.{sheetTest, benchTest, tallyTest, unknownTest, fullTest, startTests, placeTests, handedTests, clearTests, setTests, knownTests, benched}
+use Rattle.bench.specs.State.{sheetOf}
+use Rattle.bench.proofs.BenchSheets.{of-every-at}
 use Rattle.bench.specs.declared.Answer.the-variants.{Done, Refused}
 use Rattle.bench.specs.declared.Bench.{Bench}
 use Rattle.bench.specs.declared.Benched.{Benched}
@@ -176,7 +178,7 @@ module _ (n : ℕ) (b : Bench) where
   unfolding lowest benchTest
   bench-other h = simp (ne-eqb (b .n) n h)
 
-  module _ (h : b .n ≡ n) {flag : Bool} (s : flag ≡ every (λ s. isMap n (mapOn n s)) (b .sheets)) where
+  module _ (h : b .n ≡ n) {flag : Bool} (s : flag ≡ every (isFaultless n) (b .sheets)) where
     pub bench-faulty : not flag ≡ true → Failed NotMap ≡ lowest (benchTest n b ∷ [])
     unfolding lowest benchTest
     bench-faulty f = simp (eq-eqb (b .n) n h, sym s ∙ not-true flag f)
@@ -185,30 +187,36 @@ module _ (n : ℕ) (b : Bench) where
     unfolding lowest benchTest
     bench-right f = simp (eq-eqb (b .n) n h, sym s ∙ not-false flag f)
 
--- Add's, by what the algebra's found
-module _ (b : Bench) (a : Algebra) (k x y : ℕ) {check : Check} (s : check ≡ lowest (algebraTests a)) where
-  pub handed-failed : {r : Refusal} → check ≡ Failed r → Failed r ≡ lowest (handedTests b a k x y)
-  unfolding handedTests
-  handed-failed e = sym (lowest-failed _ _ _ (sym s ∙ e))
+-- tests behind others, by what those found
+module _ (ts rest : List Test) {check : Check} (s : check ≡ lowest ts) where
+  pub behind-failed : {r : Refusal} → check ≡ Failed r → Failed r ≡ lowest (ts ++ rest)
+  behind-failed e = sym (lowest-failed _ _ _ (sym s ∙ e))
 
-  pub handed-last : check ≡ Passed → {rest : Check} → rest ≡ lowest (placeTests b (a .size) k x y) → rest ≡ lowest (handedTests b a k x y)
-  unfolding handedTests
-  handed-last e f = f ∙ sym (lowest-append _ _ (sym s ∙ e))
+  pub behind-passed : check ≡ Passed → {last : Check} → last ≡ lowest rest → last ≡ lowest (ts ++ rest)
+  behind-passed e f = f ∙ sym (lowest-append _ _ (sym s ∙ e))
+
+-- one test more, by its flag
+module _ (ts : List Test) (t : Test) {check : Check} (s : check ≡ lowest ts) (e : check ≡ Passed) {flag : Bool} (f : flag ≡ t .applies) where
+  pub more-applies : flag ≡ true → Failed (t .reason) ≡ lowest (ts ++ (t ∷ []))
+  more-applies g = behind-passed ts _ s e (sym (lowest-here t [] (T-of (sym f ∙ g))))
+
+  pub more-passes : flag ≡ false → Passed ≡ lowest (ts ++ (t ∷ []))
+  more-passes g = behind-passed ts _ s e (sym (lowest-next t [] (not-T-of (sym f ∙ g)) ∙ lowest-none))
 
 -- ---- what tests that pass leave
 
--- the bench is over n and every sheet has a map
+-- the bench is over n and no sheet has a fault
 pub record Faultless (b : Bench) (n : ℕ) : Type 0 where
   pub size : b .n ≡ n
-  pub map : (k : ℕ) → k < length (b .sheets) → T (isMap n (mapOn n (sheetOf b k)))
+  pub sheets : (k : ℕ) → k < length (b .sheets) → SheetFaultless n (sheetOf b k)
 
 bench-passed : (n : ℕ) (b : Bench) → ¬ T (benchTest n b .applies) → Faultless b n
 unfolding benchTest sheetOf
 bench-passed n b h =
-    let maps : Bool = every (λ s. isMap n (mapOn n s)) (b .sheets) in
+    let right : Bool = every (isFaultless n) (b .sheets) in
     record {
-      size = eqb→eq (b .n) n (no-not (eqb (b .n) n) (no-or-left (not (eqb (b .n) n)) (not maps) h));
-      map = of-every-sheet (λ s. isMap n (mapOn n s)) (b .sheets) (no-not maps (no-or-right (not (eqb (b .n) n)) (not maps) h));
+      size = eqb→eq (b .n) n (no-not (eqb (b .n) n) (no-or-left (not (eqb (b .n) n)) (not right) h));
+      sheets = λ k l. of-faultless n _ (of-every-at (isFaultless n) (b .sheets) noSheet (no-not right (no-or-right (not (eqb (b .n) n)) (not right) h)) k l);
     }
 
 -- what Clear's tests leave
@@ -251,3 +259,15 @@ unfolding handedTests Accepted
 add-passed b a k x y e =
     let p = passed-append (algebraTests a) (placeTests b (a .size) k x y) e in
     record { accepted = p .0; placed = place-passed b (a .size) k x y (p .1) }
+
+-- what Set's tests leave
+pub set-passed : (b : Bench) (k : ℕ) (name : List ℕ) → lowest (setTests b k name) ≡ Passed → Clearable b k × (¬ T (isFullFor name (sheetOf b k)))
+unfolding setTests fullTest
+set-passed b k name e = let p = passed-append (clearTests b k) _ e in (clear-passed b k (p .0), of-passed _ _ (p .1) .0)
+
+-- what Return's and Forget's tests leave
+pub known-passed : (b : Bench) (k : ℕ) (name : List ℕ) → lowest (knownTests b k name) ≡ Passed → Clearable b k × T (isHeld name (sheetOf b k))
+unfolding knownTests unknownTest
+known-passed b k name e =
+    let p = passed-append (clearTests b k) _ e in
+    (clear-passed b k (p .0), no-not (isHeld name (sheetOf b k)) (of-passed _ _ (p .1) .0))

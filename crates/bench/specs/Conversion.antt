@@ -19,6 +19,10 @@ use Rattle.bench.specs.declared.conversion.BenchV2.{BenchV2}
 use Rattle.bench.specs.declared.conversion.BenchedV2.{BenchedV2}
 use Rattle.bench.specs.declared.conversion.SheetV1.{SheetV1}
 
+-- no sheet of the first two kinds: what stands past the last one
+abbrev pub noSheetV1 : SheetV1
+noSheetV1 = record { map = [] }
+
 -- 8, of old sheets: any of them is no map over n
 unfoldable pub mapsTest : ℕ → List SheetV1 → Test
 mapsTest n sheets = record { applies = not (every (λ s. isMap n (take n (s .map))) sheets); reason = NotMap }

@@ -5,11 +5,14 @@ ghost use lib.ListN.{length, getD, take};
 ghost use Rattle.equivalence.specs.Lists.{every};
 ghost use lib.Dec.{T};
 ghost use Rattle.equivalence.specs.Equivalence.{isMap, identity};
+ghost use Rattle.equivalence.specs.Refusal.{lowest};
+ghost use Rattle.equivalence.specs.declared.Check.the-variants.{Passed};
 ghost use Rattle.algebra.specs.Algebra.{algebraIn};
 ghost use Rattle.algebra.specs.Accepted.{Accepted};
 ghost use Rattle.sheet.specs.Sheet.{mapOn, noSheet};
-ghost use Rattle.sheet.specs.Points.{isHeld, placeNamed, mapUnder, isFaultless, withPoint, withoutPoint};
+ghost use Rattle.sheet.specs.Points.{mapUnder, isFaultless, withPoint, withoutPoint};
 ghost use Rattle.bench.specs.State.{eightOf, zeroBench, freshBench, sheetOf, withSheet, withMap};
+ghost use Rattle.bench.specs.Calls.{setTests, knownTests};
 ghost use Rattle.bench.specs.InnerGrowth.{MapGrown, SheetGrown};
 use super::Bench;
 use super::SHEETS;
@@ -77,9 +80,7 @@ pub fn nth(sheets: [Sheet; SHEETS], k: usize) -> Sheet
 
 // The bench with the map of one sheet stored under a name.
 pub fn with_point(bench: Bench, k: usize, name: [u8; NAME_BYTES]) -> Bench
-    requires { ⌜ k < 8 ⌝ }
-    requires { ⌜ sheetOf bench k .count ≤ 8 ⌝ }
-    requires { ⌜ placeNamed name (sheetOf bench k) < 8 ⌝ }
+    requires { ⌜ lowest (setTests bench k name) ≡ Passed ⌝ }
     ensures { λ r. ⌜ r ≡ withSheet bench k (withPoint name (sheetOf bench k)) ⌝ }
 {
     let on_bench = bench.sheets;
@@ -90,10 +91,7 @@ pub fn with_point(bench: Bench, k: usize, name: [u8; NAME_BYTES]) -> Bench
 
 // The bench with the map that one sheet has stored under a name on that sheet.
 pub fn returned(bench: Bench, k: usize, name: [u8; NAME_BYTES]) -> Bench
-    requires { ⌜ bench .n ≤ 64 ⌝ }
-    requires { ⌜ k < 8 ⌝ }
-    requires { ⌜ sheetOf bench k .count ≤ 8 ⌝ }
-    requires { ⌜ T (isHeld name (sheetOf bench k)) ⌝ }
+    requires { ⌜ lowest (knownTests bench k name) ≡ Passed ⌝ }
     ensures { λ r. ⌜ r ≡ withMap bench k (mapUnder (bench .n) name (sheetOf bench k)) ⌝ }
 {
     let on_bench = bench.sheets;
@@ -104,9 +102,7 @@ pub fn returned(bench: Bench, k: usize, name: [u8; NAME_BYTES]) -> Bench
 
 // The bench without the point of a name on one sheet.
 pub fn without_point(bench: Bench, k: usize, name: [u8; NAME_BYTES]) -> Bench
-    requires { ⌜ k < 8 ⌝ }
-    requires { ⌜ sheetOf bench k .count ≤ 8 ⌝ }
-    requires { ⌜ T (isHeld name (sheetOf bench k)) ⌝ }
+    requires { ⌜ lowest (knownTests bench k name) ≡ Passed ⌝ }
     ensures { λ r. ⌜ r ≡ withSheet bench k (withoutPoint name (sheetOf bench k)) ⌝ }
 {
     let on_bench = bench.sheets;

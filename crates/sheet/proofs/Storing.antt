@@ -6,12 +6,12 @@ use mathlib.Core.Logic.{_≢_, inl, inr}
 use mathlib.Core.Path.{_≡_, refl, sym, ap, subst, _∙_}
 use native.Mathlib.Decide.{decLt, ℕ-discrete}
 use native.Mathlib.Omega.{arith}
-use lib.Dec.{T, T-not, not-T}
+use lib.Dec.{T, eqb, T-not, not-T}
 use lib.ListN.{length, take, set}
 use lib.Seq.{getD-set-same, getD-set-other}
 use Rattle.equivalence.specs.Equivalence.{Map}
-use Rattle.equivalence.proofs.Tests.{T?, both, left, right, or-left, or-right, or-cases, pick, pick-yes, pick-no}
-use Rattle.sheet.specs.Points.{sameName, pointIn, firstNamed, isNamedBelow, isHeld, placeNamed, mapUnder, withPoint, withoutPoint}
+use Rattle.equivalence.proofs.Tests.{T?, both, left, right, or-left, or-right, or-cases, eq→eqb, pick, pick-yes, pick-no}
+use Rattle.sheet.specs.Points.{sameName, pointIn, firstNamed, isNamedBelow, isHeld, isFullFor, placeNamed, mapUnder, withPoint, withoutPoint}
 use Rattle.sheet.specs.Sheet.{mapOn, noPoint}
 use Rattle.sheet.proofs.Faults.{Apart}
 use Rattle.sheet.proofs.Names.{of-sameName, sameName-of}
@@ -49,6 +49,18 @@ module _ (name : List ℕ) (s : Sheet) where
         | no t ↦ let c : count ≡ suc (s .count) = new (let l = free-place t in omega arith) in
             rw (c, e, pick-no (isHeld name s) (s .count) (suc (s .count)) t) refl
       ]
+
+-- a name that is held, or for which a place is free, has a place
+pub place-room : (name : List ℕ) (s : Sheet) → s .count ≤ 8 → ¬ T (isFullFor name s) → placeNamed name s < 8
+unfolding isFullFor
+place-room name s few h =
+    elim (T? (isHeld name s)) [
+      | yes t ↦ omega (arith, held-place name s t .0)
+      | no t ↦ elim (ℕ-discrete (s .count) 8) [
+        | yes e ↦ absurd (h (both (not (isHeld name s)) (eqb (s .count) 8) (not-T (isHeld name s) t) (eq→eqb (s .count) 8 e)))
+        | no e ↦ omega (arith, free-place name s t, e)
+      ]
+    ]
 
 -- points that differ in names: a name's place is where it is found
 place-is : (name : List ℕ) (s : Sheet) → Apart s → (i : ℕ) → i < s .count → Named name (s .points) i → placeNamed name s ≡ i

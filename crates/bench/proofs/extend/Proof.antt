@@ -13,7 +13,7 @@ extended-requires : tie.Need-extended-requires
 unfolding sheetOf
 extended-requires c κs =
     let p = add-passed _ _ _ _ _ (c .before .before .before .before .pre) in
-    (p .accepted, (rw (c .nth .ensures .0) (p .placed .faultless .map _ (c .nth .ensures .1)), (p .placed .first, p .placed .second)))
+    (p .accepted, (rw (c .nth .ensures .0) (p .placed .faultless .sheets _ (c .nth .ensures .1) .map), (p .placed .first, p .placed .second)))
 
 raised-requires : tie.Need-raised-requires
 raised-requires c κs = (add-passed _ _ _ _ _ (c .before .before .before .before .before .before .pre) .placed .sheet, c .before .extended .ensures .few)

@@ -7,8 +7,8 @@ use Rattle.bench.proofs.checks.bench_check.Tie as tie
 returns : tie.Need-returns
 returns c = search bench-other
 
-all-have-maps-requires : tie.Need-all-have-maps-requires
-all-have-maps-requires c κs = search needs
+all-faultless-requires : tie.Need-all-faultless-requires
+all-faultless-requires c κs = search needs
 
 returns-2 : tie.Need-returns-2
 returns-2 c = search bench-faulty
@@ -17,4 +17,4 @@ returns-3 : tie.Need-returns-3
 returns-3 c = search bench-right
 
 pub bench-check-spec : {M : Type 1} → statement M
-bench-check-spec = tie.close (tie.spec returns all-have-maps-requires returns-2 returns-3)
+bench-check-spec = tie.close (tie.spec returns all-faultless-requires returns-2 returns-3)

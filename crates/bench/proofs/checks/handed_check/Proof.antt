@@ -3,7 +3,8 @@ use mathlib.Core.Path.{sym, _∙_}
 use borrow.Author.Needs.{needs}
 use Rattle.algebra.specs.Accepted.{Accepted}
 use Rattle.algebra.proofs.Accepted.{accepted-wellFormed}
-use Rattle.bench.proofs.Testing.{handed-failed, handed-last}
+use Rattle.bench.specs.Calls.{handedTests}
+use Rattle.bench.proofs.Testing.{behind-failed, behind-passed}
 use Rattle.bench.proofs.checks.handed_check.Statement.{statement}
 use Rattle.bench.proofs.checks.handed_check.Tie as tie
 
@@ -21,10 +22,12 @@ unfolding Accepted
 place-check-requires c κs = accepted-wellFormed _ (sym (c .before .before .check .ensures) ∙ c .enum-told .given .1) .most
 
 returns : tie.Need-returns
-returns c = search handed-failed
+unfolding handedTests
+returns c = search behind-failed
 
 returns-2 : tie.Need-returns-2
-returns-2 c = search handed-last
+unfolding handedTests
+returns-2 c = search behind-passed
 
 pub handed-check-spec : {M : Type 1} → statement M
 handed-check-spec =

@@ -4,15 +4,15 @@ use Rattle.bench.specs.State.{zeroBench}
 use Rattle.bench.proofs.sheets.zeros.Statement.{statement}
 use Rattle.bench.proofs.sheets.zeros.Tie as tie
 
-zero-sheet-requires : tie.Need-zero-sheet-requires
-zero-sheet-requires c κs = search needs
+zeros-requires : tie.Need-zeros-requires
+zeros-requires c κs = search needs
 
 eight-of-requires : tie.Need-eight-of-requires
 eight-of-requires c κs = search needs
 
 returns : tie.Need-returns
 unfolding zeroBench
-returns c = rw (c .eight-of .ensures, c .before .zero-sheet .ensures)
+returns c = rw (c .eight-of .ensures, c .before .zeros .ensures)
 
 pub zeros-spec : {M : Type 1} → statement M
-zeros-spec = tie.close (tie.spec zero-sheet-requires eight-of-requires returns)
+zeros-spec = tie.close (tie.spec zeros-requires eight-of-requires returns)

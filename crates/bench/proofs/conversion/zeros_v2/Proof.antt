@@ -1,0 +1,12 @@
+-- `bench::conversion::zeros_v2` meets its contract.
+use mathlib.Core.Path.{refl}
+use Rattle.bench.specs.Conversion.{zeroBenchV2}
+use Rattle.bench.proofs.conversion.zeros_v2.Statement.{statement}
+use Rattle.bench.proofs.conversion.zeros_v2.Tie as tie
+
+returns : tie.Need-returns
+unfolding zeroBenchV2
+returns c = refl
+
+pub zeros-v2-spec : {M : Type 1} → statement M
+zeros-v2-spec = tie.close (tie.spec returns)
