@@ -1,25 +1,15 @@
 /* The optimized implementation of the four services (see baseline.h).
  *
  * Maps are byte arrays, sets of elements are 64-bit words. In order: the tests
- * of an algebra, the closure under merges, Generate, the refinement, Contained,
- * Separate, Decompose. */
+ * of an algebra, the closure under merges, Generate, the closure of a map and a
+ * pair, the refinement, Contained, Separate, Decompose. */
 #include "baseline.h"
 
 #include <string.h>
 
-enum { MAX_SIZE = 64, MAX_OPERATIONS = 16, MAX_ARITY = 3, MAX_CELLS = 32768 };
+enum { MAX_SIZE = 64, MAX_ARITY = 3, MAX_CELLS = 32768 };
 
 #define INLINE static inline __attribute__((always_inline))
-
-/* The operations of arity 1 to 3; nullary ones impose nothing. */
-struct algebra {
-    unsigned n;
-    unsigned count;
-    struct {
-        const uint8_t *table;
-        unsigned arity;
-    } operation[MAX_OPERATIONS];
-};
 
 static uint64_t bit(unsigned x)
 {
@@ -45,9 +35,8 @@ static uint8_t greatest(const uint8_t *bytes, size_t count)
     return top;
 }
 
-/* Reasons 1 to 6, or 0 and the algebra. */
-static uint32_t accept(struct algebra *a, size_t n, const uint8_t *arities, size_t arities_len,
-                       const uint8_t *cells, size_t cells_len)
+uint32_t baseline_accept(struct algebra *a, size_t n, const uint8_t *arities, size_t arities_len,
+                         const uint8_t *cells, size_t cells_len)
 {
     if (n == 0 || n > MAX_SIZE) {
         return 1;
@@ -255,7 +244,7 @@ uint32_t baseline_generate(size_t n, const uint8_t *arities, size_t arities_len,
 {
     struct algebra al;
     struct closing c;
-    const uint32_t reason = accept(&al, n, arities, arities_len, cells, cells_len);
+    const uint32_t reason = baseline_accept(&al, n, arities, arities_len, cells, cells_len);
     if (reason) {
         return reason;
     }
@@ -275,6 +264,25 @@ uint32_t baseline_generate(size_t n, const uint8_t *arities, size_t arities_len,
     }
     memcpy(out, c.map, n);
     return 256 * (uint32_t)(n - c.blocks);
+}
+
+unsigned baseline_extend(const struct algebra *al, uint8_t *map, unsigned x, unsigned y)
+{
+    struct closing c;
+    start_identity(&c, al->n);
+    /* What the map holds: each element with the first of its block. */
+    for (unsigned z = 0; z < al->n; z++) {
+        c.map[z] = map[z];
+        c.small[c.tail] = map[z];
+        c.large[c.tail] = (uint8_t)z;
+        c.tail += map[z] != z;
+    }
+    const unsigned before = c.blocks = al->n - c.tail;
+    if (before > 1 && !meet_blocks(&c, NULL, x, y)) {
+        close_all(&c, al);
+    }
+    memcpy(map, c.map, al->n);
+    return before - c.blocks;
 }
 
 /* ---- refinement ------------------------------------------------------- */
@@ -425,7 +433,7 @@ uint32_t baseline_contained(size_t n, const uint8_t *arities, size_t arities_len
 {
     struct algebra al;
     struct refining r;
-    const uint32_t reason = accept(&al, n, arities, arities_len, cells, cells_len);
+    const uint32_t reason = baseline_accept(&al, n, arities, arities_len, cells, cells_len);
     if (reason) {
         return reason;
     }
@@ -565,7 +573,7 @@ uint32_t baseline_separate(size_t n, const uint8_t *arities, size_t arities_len,
 {
     struct algebra al;
     uint8_t map[MAX_SIZE];
-    const uint32_t reason = accept(&al, n, arities, arities_len, cells, cells_len);
+    const uint32_t reason = baseline_accept(&al, n, arities, arities_len, cells, cells_len);
     if (reason) {
         return reason;
     }
@@ -655,7 +663,7 @@ uint32_t baseline_decompose(size_t n, const uint8_t *arities, size_t arities_len
     struct algebra al;
     uint8_t list[MAX_SIZE][MAX_SIZE], kept[MAX_SIZE], joined[MAX_SIZE] = {0};
     unsigned count = 0;
-    const uint32_t reason = accept(&al, n, arities, arities_len, cells, cells_len);
+    const uint32_t reason = baseline_accept(&al, n, arities, arities_len, cells, cells_len);
     if (reason) {
         return reason;
     }

@@ -26,4 +26,26 @@ uint32_t baseline_decompose(size_t n, const uint8_t *arities, size_t arities_len
                             const uint8_t *cells, size_t cells_len,
                             uint8_t *out, size_t out_len);
 
+/* What a bench needs of them (see classwork_baseline.h). */
+
+enum { MAX_OPERATIONS = 16 };
+
+/* The operations of arity 1 to 3; nullary ones impose nothing. */
+struct algebra {
+    unsigned n;
+    unsigned count;
+    struct {
+        const uint8_t *table;
+        unsigned arity;
+    } operation[MAX_OPERATIONS];
+};
+
+/* Reasons 1 to 6, or 0 and the algebra. */
+uint32_t baseline_accept(struct algebra *a, size_t n, const uint8_t *arities, size_t arities_len,
+                         const uint8_t *cells, size_t cells_len);
+
+/* The map becomes the least congruence that holds what it held, and x and y. How
+ * many blocks that cost. */
+unsigned baseline_extend(const struct algebra *al, uint8_t *map, unsigned x, unsigned y);
+
 #endif

@@ -9,19 +9,14 @@
  * libworksheet.a on the same algebra. Every answer is compared with what the
  * library answers. */
 #define _DEFAULT_SOURCE
-#include <fcntl.h>
-#include <spawn.h>
 #include <stdarg.h>
 #include <stdio.h>
 #include <stdlib.h>
 #include <string.h>
-#include <sys/resource.h>
-#include <sys/wait.h>
-#include <time.h>
-#include <unistd.h>
 
 #include "../include/congruence.h"
 #include "median.h"
+#include "process.h"
 
 enum {
     N = 64,
@@ -63,12 +58,6 @@ static unsigned list_count;
 
 /* The size line alone. */
 static const struct text *const idle = &list[0];
-
-static void fail(const char *what, const char *name)
-{
-    fprintf(stderr, "desk_bench: %s: %s\n", name, what);
-    exit(1);
-}
 
 /* ---- texts ------------------------------------------------------------------- */
 
@@ -379,66 +368,19 @@ static void make_texts(void)
 
 /* ---- runs ------------------------------------------------------------------------ */
 
-extern char **environ;
-
 static char answer[MAX_ANSWER];
 
-/* The text in a file without a name, so that the program reads it while this
- * process reads what the program writes. */
-static void save(struct text *t)
+static void save_text(struct text *t)
 {
-    FILE *file = tmpfile();
     if (t->input.len > LONGEST) {
         fail("the text is too long", t->name);
     }
-    if (file == NULL || fwrite(t->input.bytes, 1, t->input.len, file) != t->input.len || fflush(file) != 0) {
-        fail("cannot write a temporary file", t->name);
-    }
-    t->file = fileno(file);
-    fcntl(t->file, F_SETFD, FD_CLOEXEC);
+    t->file = save(t->name, t->input.bytes, t->input.len);
 }
 
-static pid_t start(const char *program, int in, int out)
+static void check(const struct text *t, size_t len)
 {
-    char *const arguments[] = {(char *)program, NULL};
-    posix_spawn_file_actions_t actions;
-    pid_t id;
-    posix_spawn_file_actions_init(&actions);
-    posix_spawn_file_actions_adddup2(&actions, in, 0);
-    posix_spawn_file_actions_adddup2(&actions, out, 1);
-    if (posix_spawn(&id, program, &actions, NULL, arguments, environ) != 0) {
-        fail("cannot be started", program);
-    }
-    posix_spawn_file_actions_destroy(&actions);
-    return id;
-}
-
-static size_t read_answer(int from)
-{
-    size_t len = 0;
-    ssize_t got;
-    while ((got = read(from, answer + len, MAX_ANSWER - len)) > 0) {
-        len += (size_t)got;
-    }
-    return len;
-}
-
-/* Microseconds. */
-static double now(clockid_t clock)
-{
-    struct timespec t;
-    clock_gettime(clock, &t);
-    return (double)t.tv_sec * 1e6 + (double)t.tv_nsec / 1e3;
-}
-
-static double microseconds(struct timeval t)
-{
-    return (double)t.tv_sec * 1e6 + (double)t.tv_usec;
-}
-
-static void check(const struct text *t, size_t len, int status)
-{
-    int right = status == 0 && len == t->requests * t->line.len;
+    int right = len == t->requests * t->line.len;
     for (size_t i = 0; right && i < t->requests; i++) {
         right = memcmp(answer + i * t->line.len, t->line.bytes, t->line.len) == 0;
     }
@@ -447,30 +389,11 @@ static void check(const struct text *t, size_t len, int status)
     }
 }
 
-struct times {
-    double wall, processor;
-};
-
-static struct times run(const char *program, const struct text *t)
+static struct run run(const char *program, const struct text *t)
 {
-    int ends[2], status;
-    struct rusage used;
-    if (lseek(t->file, 0, SEEK_SET) != 0 || pipe(ends) != 0) {
-        fail("no pipe", t->name);
-    }
-    fcntl(ends[0], F_SETFD, FD_CLOEXEC);
-    fcntl(ends[1], F_SETFD, FD_CLOEXEC);
-    const double from = now(CLOCK_MONOTONIC);
-    const pid_t id = start(program, t->file, ends[1]);
-    close(ends[1]);
-    const size_t len = read_answer(ends[0]);
-    close(ends[0]); /* where there was no room for more, this ends the program */
-    if (wait4(id, &status, 0, &used) != id) {
-        fail("cannot be waited for", program);
-    }
-    const double wall = now(CLOCK_MONOTONIC) - from;
-    check(t, len, status);
-    return (struct times){wall, microseconds(used.ru_utime) + microseconds(used.ru_stime)};
+    const struct run r = run_on(program, t->file, answer, MAX_ANSWER);
+    check(t, r.bytes);
+    return r;
 }
 
 /* Whether the text asks for a service that the library for C has. */
@@ -507,7 +430,7 @@ static void run_round(const char *program, unsigned round)
         t->call[round] = is_called(t) ? call_time(t) : 0;
         run(program, t);
         run(program, idle);
-        const struct times all = run(program, t), nothing = run(program, idle);
+        const struct run all = run(program, t), nothing = run(program, idle);
         t->wall[round] = all.wall;
         t->processor[round] = all.processor;
         t->above[round] = all.processor - nothing.processor;
@@ -561,7 +484,7 @@ int main(int argc, char **argv)
     rounds = rounds < 1 ? 1 : rounds > MAX_ROUNDS ? MAX_ROUNDS : rounds;
     make_texts();
     for (unsigned i = 0; i < list_count; i++) {
-        save(&list[i]);
+        save_text(&list[i]);
     }
     for (unsigned round = 0; round < rounds; round++) {
         run_round(argv[1], round);

@@ -7,21 +7,15 @@
  * Most of a short text's time is the start of the process, so that storage which
  * a program touches when it starts shows here and nowhere else. */
 #define _GNU_SOURCE
-#include <fcntl.h>
 #include <math.h>
-#include <spawn.h>
 #include <stdio.h>
 #include <stdlib.h>
 #include <string.h>
-#include <sys/wait.h>
-#include <time.h>
-#include <unistd.h>
 
 #include "median.h"
+#include "process.h"
 
 enum { MAX_TEXT = 65536, MAX_OUT = 1 << 22, MAX_ROUNDS = 2000 };
-
-extern char **environ;
 
 /* ---- texts ----------------------------------------------------------------- */
 
@@ -74,57 +68,7 @@ static void identity(int n)
 
 /* ---- runs ------------------------------------------------------------------ */
 
-struct run {
-    double microseconds;
-    size_t bytes;
-};
-
 static char answers[2][MAX_OUT];
-
-static double now(void)
-{
-    struct timespec t;
-    clock_gettime(CLOCK_MONOTONIC, &t);
-    return (double)t.tv_sec * 1e6 + (double)t.tv_nsec / 1e3;
-}
-
-static struct run once(char *program, int input, char *answer)
-{
-    int ends[2];
-    if (lseek(input, 0, SEEK_SET) != 0 || pipe(ends) != 0) {
-        perror("versions");
-        exit(1);
-    }
-    posix_spawn_file_actions_t actions;
-    posix_spawn_file_actions_init(&actions);
-    posix_spawn_file_actions_adddup2(&actions, input, 0);
-    posix_spawn_file_actions_adddup2(&actions, ends[1], 1);
-    posix_spawn_file_actions_addclose(&actions, ends[0]);
-    posix_spawn_file_actions_addclose(&actions, ends[1]);
-    char *arguments[] = {program, NULL};
-    pid_t child;
-    struct run r = {0, 0};
-    const double start = now();
-    if (posix_spawn(&child, program, &actions, NULL, arguments, environ) != 0) {
-        fprintf(stderr, "versions: %s does not start\n", program);
-        exit(1);
-    }
-    close(ends[1]);
-    ssize_t got;
-    while ((got = read(ends[0], answer + r.bytes, MAX_OUT - r.bytes)) > 0) {
-        r.bytes += (size_t)got;
-    }
-    int status;
-    waitpid(child, &status, 0);
-    r.microseconds = now() - start;
-    close(ends[0]);
-    posix_spawn_file_actions_destroy(&actions);
-    if (!WIFEXITED(status) || WEXITSTATUS(status) != 0) {
-        fprintf(stderr, "versions: %s did not end well\n", program);
-        exit(1);
-    }
-    return r;
-}
 
 static char *programs[2];
 static unsigned rounds;
@@ -135,18 +79,14 @@ static void race(const char *name)
 {
     static double times[2][MAX_ROUNDS];
     struct run r[2];
-    FILE *file = tmpfile();
-    if (file == NULL || fwrite(text, 1, length, file) != length || fflush(file) != 0) {
-        perror("versions");
-        exit(1);
-    }
+    const int file = save(name, text, length);
     for (unsigned i = 0; i < rounds; i++) {
         for (unsigned k = 0; k < 2; k++) {
-            r[k] = once(programs[k], fileno(file), answers[k]);
-            times[k][i] = r[k].microseconds;
+            r[k] = run_on(programs[k], file, answers[k], MAX_OUT);
+            times[k][i] = r[k].wall;
         }
     }
-    fclose(file);
+    close(file);
     if (r[0].bytes != r[1].bytes || memcmp(answers[0], answers[1], r[0].bytes) != 0) {
         printf("DIFFERENT ANSWERS: %s\n", name);
         exit(1);
