@@ -30,7 +30,7 @@ use Rattle.bench.specs.InnerGrowth.{MapGrown, SheetGrown}
 use Rattle.bench.specs.Promises.{LeastExtension}
 use Rattle.bench.specs.State.{sheetOf, withSheet, withMap, raisedBy, blocksLost}
 use Rattle.bench.proofs.BenchSheets.{withSheet-same}
-use Rattle.bench.proofs.Testing.{doneWith, refused, benched-cases, benched-append, Addable, add-passed}
+use Rattle.bench.proofs.Testing.{doneWith, refused, call-cases, benched-append, Addable, add-passed}
 use Rattle.bench.specs.declared.Bench.{Bench}
 
 -- the map of the sheet that got it
@@ -45,11 +45,7 @@ module _ (b : Bench) (a : Algebra) (k x y : ℕ) where
 
   pub add-cases : (Addable b a k x y × (addCall b a k x y ≡ doneWith afterAdd)) ⊎ ((r : Refusal) × (addCall b a k x y ≡ refused r b))
   unfolding addCall
-  add-cases =
-      elim (benched-cases (addTests b a k x y) afterAdd b) [
-        | inl p ↦ inl (add-passed b a k x y (passed-append (handedTests b a k x y) _ (p .0) .0), p .1)
-        | inr p ↦ inr p
-      ]
+  add-cases = call-cases (addTests b a k x y) afterAdd b (λ e. add-passed b a k x y (passed-append (handedTests b a k x y) _ e .0))
 
   module _ (p : Addable b a k x y) where
     above : LeastJoining a (mapOn (a .size) (sheetOf b k)) (x, y) (mapByAdd b a k x y)

@@ -2,7 +2,9 @@
 use Prim.Native.Nat.{ℕ, _<_}
 use mathlib.Core.Bool.{Bool, true, false, not, _&&_}
 use mathlib.Core.List.{List, [], _∷_, map}
+use mathlib.Core.Logic.{_⊎_, inl, inr}
 use mathlib.Core.Path.{_≡_, refl, sym, ap, _∙_}
+use native.Mathlib.Omega.{arith}
 use lib.ListN.{take}
 use borrow.Author.Tests.{eq-eqb, not-true, not-false}
 use Rattle.equivalence.specs.Equivalence.{isMap}
@@ -75,14 +77,47 @@ convert-clear n sheets b e f k h =
 
 -- ---- the first conversion, by what they found
 
-module _ (old : BenchV1) {check : Check} (s : check ≡ lowest (convertTests (old .n) (old .sheets))) where
-  abbrev gave : Check → BenchedV2
-  gave c = answered (λ r. record { answer = Refused r; bench = zeroBenchV2 }) c (record { answer = Done; bench = widened old })
+abbrev gave : BenchV1 → Check → BenchedV2
+gave old c = answered (λ r. record { answer = Refused r; bench = zeroBenchV2 }) c (record { answer = Done; bench = widened old })
 
+module _ (old : BenchV1) {check : Check} (s : check ≡ lowest (convertTests (old .n) (old .sheets))) where
   pub first-no : {r : Refusal} → check ≡ Failed r → (z : BenchV2) → z ≡ zeroBenchV2 → record { answer = Refused r; bench = z } ≡ convertV1Call old
   unfolding convertV1Call answered
-  first-no e z f = rw f (ap gave (sym e ∙ s))
+  first-no e z f = rw f (ap (gave old) (sym e ∙ s))
 
   pub first-yes : check ≡ Passed → (b : BenchV2) → b ≡ widened old → record { answer = Done; bench = b } ≡ convertV1Call old
   unfolding convertV1Call answered
-  first-yes e b f = rw f (ap gave (sym e ∙ s))
+  first-yes e b f = rw f (ap (gave old) (sym e ∙ s))
+
+-- its answer is that of the tests
+pub first-answer : (old : BenchV1) → convertV1Call old .answer ≡ answered Refused (lowest (convertTests (old .n) (old .sheets))) Done
+unfolding convertV1Call answered
+first-answer old = by (lowest (convertTests (old .n) (old .sheets)))
+  where
+    by : (c : Check) → gave old c .answer ≡ answered Refused c Done
+    by Passed = refl
+    by (Failed r) = refl
+
+-- accepted or refused, what it gives
+module _ (old : BenchV1) where
+  first-cases : ((convertV1Call old .answer ≡ Done) × (convertV1Call old .bench ≡ widened old)) ⊎ ((r : Refusal) × (convertV1Call old .answer ≡ Refused r) × (convertV1Call old .bench ≡ zeroBenchV2))
+  unfolding convertV1Call answered
+  first-cases = by (lowest (convertTests (old .n) (old .sheets)))
+    where
+      by : (c : Check) → ((gave old c .answer ≡ Done) × (gave old c .bench ≡ widened old)) ⊎ ((r : Refusal) × (gave old c .answer ≡ Refused r) × (gave old c .bench ≡ zeroBenchV2))
+      by Passed = inl (refl, refl)
+      by (Failed r) = inr (r, refl, refl)
+
+  pub first-done : convertV1Call old .answer ≡ Done → convertV1Call old .bench ≡ widened old
+  first-done e =
+      elim first-cases [
+        | inl p ↦ p .1
+        | inr p ↦ absurd (let z : _≡_ {A = ℕ} 0 1 = cc in omega arith)
+      ]
+
+  pub first-refused : (r : Refusal) → convertV1Call old .answer ≡ Refused r → convertV1Call old .bench ≡ zeroBenchV2
+  first-refused r e =
+      elim first-cases [
+        | inl p ↦ absurd (let z : _≡_ {A = ℕ} 0 1 = cc in omega arith)
+        | inr p ↦ p .2
+      ]

@@ -2,4 +2,8 @@ pub mod BenchSheets
 pub mod Copying
 pub mod Testing
 pub mod Conversions
+pub mod Answers
 pub mod Adding
+pub mod Pointing
+pub mod Promises
+pub mod Histories

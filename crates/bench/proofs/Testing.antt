@@ -53,6 +53,14 @@ module _ (tests : List Test) (new other : Bench) where
       by Passed e = inl (e, benched-passed e)
       by (Failed r) e = inr (r, benched-failed r e)
 
+  -- and what the tests leave
+  pub call-cases : {Left : Type 0} → (lowest tests ≡ Passed → Left) → (Left × (benched tests new other ≡ doneWith new)) ⊎ ((r : Refusal) × (benched tests new other ≡ refused r other))
+  call-cases leaves =
+      elim benched-cases [
+        | inl p ↦ inl (leaves (p .0), p .1)
+        | inr p ↦ inr p
+      ]
+
 -- the answer is that of the tests, whatever the benches
 pub benched-answer : (tests : List Test) (new other : Bench) → benched tests new other .answer ≡ answered Refused (lowest tests) Done
 unfolding benched answered

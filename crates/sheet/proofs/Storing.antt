@@ -7,13 +7,14 @@ use mathlib.Core.Path.{_≡_, refl, sym, ap, subst, _∙_}
 use native.Mathlib.Decide.{decLt, ℕ-discrete}
 use native.Mathlib.Omega.{arith}
 use lib.Dec.{T, eqb, T-not, not-T}
-use lib.ListN.{length, take, set}
+use lib.ListN.{length, take, set, length-set}
 use lib.Seq.{getD-set-same, getD-set-other}
 use Rattle.equivalence.specs.Equivalence.{Map}
+use Rattle.equivalence.proofs.Maps.{of-isMap}
 use Rattle.equivalence.proofs.Tests.{T?, both, left, right, or-left, or-right, or-cases, eq→eqb, pick, pick-yes, pick-no}
 use Rattle.sheet.specs.Points.{sameName, pointIn, firstNamed, isNamedBelow, isHeld, isFullFor, placeNamed, mapUnder, withPoint, withoutPoint}
 use Rattle.sheet.specs.Sheet.{mapOn, noPoint}
-use Rattle.sheet.proofs.Faults.{Apart}
+use Rattle.sheet.proofs.Faults.{Apart, Faultless}
 use Rattle.sheet.proofs.Names.{of-sameName, sameName-of}
 use Rattle.sheet.proofs.Places.{Named, namedBelow-of, of-namedBelow, first-named, first-none-named}
 use Rattle.sheet.specs.declared.Point.{Point}
@@ -62,6 +63,11 @@ place-room name s few h =
       ]
     ]
 
+-- the map under a held name is one over n
+pub under-length : (n : ℕ) (name : List ℕ) (s : Sheet) → Faultless n s → T (isHeld name s) → length (mapUnder n name s) ≡ n
+unfolding mapUnder
+under-length n name s f t = of-isMap n _ (f .stored (placeNamed name s) (held-place name s t .0)) .long
+
 -- points that differ in names: a name's place is where it is found
 place-is : (name : List ℕ) (s : Sheet) → Apart s → (i : ℕ) → i < s .count → Named name (s .points) i → placeNamed name s ≡ i
 place-is name s apart i h e = let p = held-place name s (held-of name s i h e) in apart (placeNamed name s) i (p .0) h (p .1 ∙ sym e)
@@ -95,6 +101,15 @@ same-test false true f g = absurd (g tt)
 same-test false false f g = refl
 
 -- ---- Set
+
+-- the sheet's own map stays, and how many places there are
+pub point-map : (name : List ℕ) (s : Sheet) → withPoint name s .map ≡ s .map
+unfolding withPoint
+point-map name s = refl
+
+pub point-places : (name : List ℕ) (s : Sheet) → length (withPoint name s .points) ≡ length (s .points)
+unfolding withPoint
+point-places name s = length-set (s .points) _ _
 
 module _ (name : List ℕ) (s : Sheet) (eight : length (s .points) ≡ 8) (room : placeNamed name s < 8) where
   abbrev stored : Point
@@ -192,6 +207,14 @@ module _ (name : List ℕ) (s : Sheet) (eight : length (s .points) ≡ 8) (room 
         ]
 
 -- ---- Forget
+
+pub pointless-map : (name : List ℕ) (s : Sheet) → withoutPoint name s .map ≡ s .map
+unfolding withoutPoint
+pointless-map name s = refl
+
+pub pointless-places : (name : List ℕ) (s : Sheet) → length (withoutPoint name s .points) ≡ length (s .points)
+unfolding withoutPoint
+pointless-places name s = length-set (s .points) _ _
 
 module _ (name : List ℕ) (s : Sheet) (eight : length (s .points) ≡ 8) (few : s .count ≤ 8) (apart : Apart s) (known : T (isHeld name s)) where
   abbrev freed : ℕ
