@@ -1,3 +1,4 @@
+pub mod Edges
 pub mod BenchSheets
 pub mod Copying
 pub mod Testing
