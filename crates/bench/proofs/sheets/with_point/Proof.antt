@@ -1,5 +1,5 @@
 -- `bench::sheets::with_point` meets its contract.
-use borrow.Author.Needs.{needs}
+use native.Mathlib.Omega.{arith}
 use Rattle.sheet.proofs.Storing.{place-room}
 use Rattle.bench.specs.State.{sheetOf}
 use Rattle.bench.proofs.Testing.{set-passed}
@@ -17,7 +17,7 @@ with-point-requires c κs =
     rw (c .nth .ensures .0) (s .few, place-room _ _ (s .few) (p .1))
 
 with-sheet-requires : tie.Need-with-sheet-requires
-with-sheet-requires c κs = set-passed _ _ _ (c .before .before .before .pre) .0 .sheet
+with-sheet-requires c κs = omega (arith, set-passed _ _ _ (c .before .before .before .pre) .0 .sheet)
 
 returns : tie.Need-returns
 unfolding sheetOf

@@ -17,7 +17,7 @@ count-with-requires : tie.Need-count-with-requires
 count-with-requires c κs = search needs
 
 returns : tie.Need-returns
-returns c = stored-in _ _ _ (c .before .before .place-named .ensures .0) _ (c .count-with .ensures .0) (c .count-with .ensures .1)
+returns c = search stored-in
 
 pub with-point-spec : {M : Type 1} → statement M
 with-point-spec =
