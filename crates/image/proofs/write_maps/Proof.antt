@@ -1,22 +1,20 @@
--- `image::write_sheets` meets its contract.
-use Prim.Native.Nat.{_-_, _≤_}
-use mathlib.Core.Path.{_≡_, refl}
-use lib.ListN.{length}
-use Rattle.image.specs.InnerSteps.{SheetsLaid}
-use Rattle.image.proofs.Images.{sheets-none, sheets-more}
-use native.Mathlib.Omega.{arith}
+-- `image::write_maps` meets its contract.
+use Rattle.sheet.specs.Sheet.{noSheet}
+use Prim.Native.Nat.{_-_}
+use Rattle.image.proofs.Steps.{Laying, laying-none, laying-more, laying-all}
 use borrow.Author.Needs.{needs}
-use Rattle.image.proofs.write_sheets.Statement.{statement}
-use Rattle.image.proofs.write_sheets.Tie as tie
+use native.Mathlib.Omega.{arith}
+use Rattle.image.proofs.write_maps.Statement.{statement}
+use Rattle.image.proofs.write_maps.Tie as tie
 
 abbrev Inv-loop : tie.InvT-loop
-Inv-loop bytes₀ sheets s₀ bytes s = (s ≤ 8) × (length bytes ≡ length bytes₀) × SheetsLaid s sheets bytes₀ bytes
+Inv-loop bytes₀ sheets s₀ bytes s = Laying (λ t. t .map) sheets 64 0 bytes₀ s bytes
 
 abbrev μ-loop : tie.MeasureT-loop
 μ-loop bytes₀ sheets s₀ bytes s = 8 - s
 
 loop-holds : tie.Need-loop-holds Inv-loop μ-loop
-loop-holds c = (omega arith, refl, sheets-none _ _)
+loop-holds c = laying-none _ _ _ _ _ (search needs)
 
 mul-sheet : tie.Need-mul-sheet Inv-loop μ-loop
 mul-sheet c = search needs
@@ -39,23 +37,17 @@ loop-less c = omega arith
 loop-again : tie.Need-loop-again Inv-loop μ-loop
 loop-again c =
     let k = c .before .before .before .before .before .before .before .before .loop in
-    let l = c .before .before .before .before .before .before .before .before .before .before .args .t1 in
     let h = c .before .before .before .before .before .before .before .loop-test .taken in
-    let eight : length l ≡ 8 = search needs in
-    let w = c .before .before .lay-map .ensures in
-    (omega arith, omega arith, sheets-more _ _ _ _ _ (k .inv .2) (omega (arith, h, eight)) (w .1) (w .0))
+    laying-more (λ t. t .map) _ 64 0 _ _ _ noSheet _ _ (k .inv) h (c .before .before .before .before .before .before .before .before .before .before .pre) (omega arith) (c .before .before .lay-map .ensures)
 
 same-length : tie.Need-same-length Inv-loop μ-loop
 same-length c = search needs
 
 returns : tie.Need-returns Inv-loop μ-loop
-returns c =
-    let k = c .before .loop in
-    let e : k .s ≡ 8 = omega arith in
-    (rw e at (k .inv .2), search needs)
+returns c = laying-all _ _ 64 0 _ _ _ (c .before .loop .inv) (omega arith)
 
-pub write-sheets-spec : {M : Type 1} → statement M
-write-sheets-spec =
+pub write-maps-spec : {M : Type 1} → statement M
+write-maps-spec =
     tie.close
     (tie.spec
     Inv-loop

@@ -1,0 +1,43 @@
+-- `image::read_sheet` meets its contract.
+use Rattle.image.specs.Image.{mapIn, pointsFrom, sheetIn}
+use borrow.Author.Needs.{needs}
+use Rattle.image.proofs.read_sheet.Statement.{statement}
+use Rattle.image.proofs.read_sheet.Tie as tie
+
+mul-read-map : tie.Need-mul-read-map
+mul-read-map c = search needs
+
+read-map-requires : tie.Need-read-map-requires
+read-map-requires c κs = search needs
+
+mul-from : tie.Need-mul-from
+mul-from c = search needs
+
+add-from : tie.Need-add-from
+add-from c = search needs
+
+read-little-requires : tie.Need-read-little-requires
+read-little-requires c κs = search needs
+
+add-read-places : tie.Need-add-read-places
+add-read-places c = search needs
+
+read-places-requires : tie.Need-read-places-requires
+read-places-requires c κs = search needs
+
+returns : tie.Need-returns
+unfolding sheetIn mapIn pointsFrom
+returns c = rw (c .before .before .read-map .ensures, c .before .read-little .ensures .0, c .read-places .ensures)
+
+pub read-sheet-spec : {M : Type 1} → statement M
+read-sheet-spec =
+    tie.close
+    (tie.spec
+    mul-read-map
+    read-map-requires
+    mul-from
+    add-from
+    read-little-requires
+    add-read-places
+    read-places-requires
+    returns)
