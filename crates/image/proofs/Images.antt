@@ -10,7 +10,6 @@ use Rattle.sheet.specs.Sheet.{noSheet, noPoint}
 use Rattle.sheet.specs.declared.Point.{Point}
 use Rattle.sheet.specs.declared.Sheet.{Sheet}
 use Rattle.bench.specs.declared.Bench.{Bench}
-use Rattle.bench.specs.declared.conversion.BenchV1.{BenchV1}
 use Rattle.bench.specs.declared.conversion.BenchV2.{BenchV2}
 use Rattle.bench.specs.declared.conversion.SheetV1.{SheetV1}
 use Rattle.equivalence.specs.Equivalence.{Map}
@@ -250,8 +249,11 @@ module _ (b : Bench) (h : Showable 8 (mapsOf (b .sheets)) (b .n) (b .tally)) (p 
   unfolding benchIn imageOf
   bench-shown =
       let points : List ℕ = concat (map pointsBytes (b .sheets)) in
-      rw (table-is (sheetIn (imageOf b)) (b .sheets) noSheet sheets-eight sheet-shown, front-size 8 (mapsOf (b .sheets)) (b .n) (b .tally) h points,
-        front-tally 8 (mapsOf (b .sheets)) (b .n) (b .tally) h points) refl
+      rw (
+        table-is (sheetIn (imageOf b)) (b .sheets) noSheet sheets-eight sheet-shown,
+        front-size 8 (mapsOf (b .sheets)) (b .n) (b .tally) h points,
+        front-tally 8 (mapsOf (b .sheets)) (b .n) (b .tally) h points,
+      ) refl
 
 pub image-right : ImageRight
 unfolding benchV2In imageV2Of benchV1In imageV1Of

@@ -7,7 +7,7 @@ ghost use Prim.Native.Nat.{_+_, _*_, _≤_, _<_, _^_};
 ghost use lib.ListN.{length};
 ghost use Rattle.equivalence.specs.Lists.{upTo, concat};
 ghost use Rattle.image.specs.Image.{part, little, littleIn, pointBytes, pointsBytes, mapsOf, mapsV1Of};
-ghost use Rattle.image.specs.Image.{imageOf, imageV2Of, placeIn, placesIn, sheetIn, sheetV1In, benchIn, benchV2In, benchV1In};
+ghost use Rattle.image.specs.Image.{imageOf, imageV2Of, mapIn, placeIn, placesIn, sheetIn, sheetV1In, benchIn, benchV2In, benchV1In};
 ghost use Rattle.image.specs.Copies.{copied};
 ghost use Rattle.image.specs.InnerSteps.{Laid};
 use bench::Bench;
@@ -113,6 +113,15 @@ fn read_map(bytes: &[u8], from: usize) -> [u8; MAP_BYTES]
     map
 }
 
+// The map of sheet s.
+fn read_map_of(bytes: &[u8], s: usize) -> [u8; MAP_BYTES]
+    requires { ⌜ 512 ≤ length (now bytes) ⌝ }
+    requires { ⌜ s < 8 ⌝ }
+    ensures { λ r. ⌜ r ≡ mapIn (now (bytes .entry)) s ⌝ }
+{
+    read_map(bytes, s * MAP_BYTES)
+}
+
 // The point from `from` on.
 fn read_point(bytes: &[u8], from: usize) -> Point
     requires { ⌜ from + 72 ≤ length (now bytes) ⌝ }
@@ -146,7 +155,7 @@ fn read_sheet(bytes: &[u8], s: usize) -> Sheet
     requires { ⌜ s < 8 ⌝ }
     ensures { λ r. ⌜ r ≡ sheetIn (now (bytes .entry)) s ⌝ }
 {
-    let map = read_map(bytes, s * MAP_BYTES);
+    let map = read_map_of(bytes, s);
     let from = POINTS_AT + s * POINTS_BYTES;
     let count = read_little(bytes, from, 1) as usize;
     let points = read_places(bytes, from + 1);
@@ -177,7 +186,7 @@ fn read_sheets_v1(bytes: &[u8]) -> [SheetV1; SHEETS]
     }; SHEETS];
     let mut s = 0;
     while s < SHEETS {
-        let map = read_map(bytes, s * MAP_BYTES);
+        let map = read_map_of(bytes, s);
         sheets[s] = SheetV1 { map };
         s += 1;
     }
@@ -247,6 +256,15 @@ fn lay_map(map: &[u8; MAP_BYTES], bytes: &mut [u8], to: usize)
     copy_part(map, &mut bytes[to..]);
 }
 
+// Writes the map of sheet s.
+fn lay_map_of(map: &[u8; MAP_BYTES], bytes: &mut [u8], s: usize)
+    requires { ⌜ 512 ≤ length (now bytes) ⌝ }
+    requires { ⌜ s < 8 ⌝ }
+    ensures { λ _. ⌜ Laid 64 (now (map .entry)) (s * 64) (now (bytes .entry)) (now (bytes .exit)) ⌝ }
+{
+    lay_map(map, bytes, s * MAP_BYTES);
+}
+
 // Writes a point from `to` on.
 fn lay_point(point: Point, bytes: &mut [u8], to: usize)
     requires { ⌜ to + 72 ≤ length (now bytes) ⌝ }
@@ -303,7 +321,7 @@ fn write_maps(sheets: [Sheet; SHEETS], bytes: &mut [u8])
     while s < SHEETS {
         let sheet = sheets[s];
         let map = sheet.map;
-        lay_map(&map, bytes, s * MAP_BYTES);
+        lay_map_of(&map, bytes, s);
         s += 1;
     }
 }
@@ -317,7 +335,7 @@ fn write_maps_v1(sheets: [SheetV1; SHEETS], bytes: &mut [u8])
     while s < SHEETS {
         let sheet = sheets[s];
         let map = sheet.map;
-        lay_map(&map, bytes, s * MAP_BYTES);
+        lay_map_of(&map, bytes, s);
         s += 1;
     }
 }

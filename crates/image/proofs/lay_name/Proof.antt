@@ -1,8 +1,8 @@
 -- `image::lay_name` meets its contract.
 use mathlib.Core.Path.{_≡_}
 use lib.ListN.{length}
-use Rattle.image.proofs.Copies.{copied-from}
 use borrow.Author.Needs.{needs}
+use Rattle.image.proofs.Copies.{copied-from}
 use Rattle.image.proofs.lay_name.Statement.{statement}
 use Rattle.image.proofs.lay_name.Tie as tie
 

@@ -1,9 +1,9 @@
 -- `image::lay_places` meets its contract.
 use Prim.Native.Nat.{_-_}
+use native.Mathlib.Omega.{arith}
+use borrow.Author.Needs.{needs}
 use Rattle.image.specs.Image.{pointBytes}
 use Rattle.image.proofs.Steps.{Laying, laying-none, laying-more, laying-all}
-use borrow.Author.Needs.{needs}
-use native.Mathlib.Omega.{arith}
 use Rattle.image.proofs.lay_places.Statement.{statement}
 use Rattle.image.proofs.lay_places.Tie as tie
 

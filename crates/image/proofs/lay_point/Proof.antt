@@ -1,8 +1,8 @@
 -- `image::lay_point` meets its contract.
 use native.Mathlib.Omega.{arith}
+use borrow.Author.Needs.{needs}
 use Rattle.image.specs.Image.{pointBytes}
 use Rattle.image.proofs.Steps.{laid-then}
-use borrow.Author.Needs.{needs}
 use Rattle.image.proofs.lay_point.Statement.{statement}
 use Rattle.image.proofs.lay_point.Tie as tie
 

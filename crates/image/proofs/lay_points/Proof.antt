@@ -1,8 +1,8 @@
 -- `image::lay_points` meets its contract.
+use native.Mathlib.Omega.{arith}
+use borrow.Author.Needs.{needs}
 use Rattle.image.specs.Image.{pointsBytes}
 use Rattle.image.proofs.Steps.{laid-then}
-use borrow.Author.Needs.{needs}
-use native.Mathlib.Omega.{arith}
 use Rattle.image.proofs.lay_points.Statement.{statement}
 use Rattle.image.proofs.lay_points.Tie as tie
 

@@ -1,9 +1,9 @@
 -- `image::read_places` meets its contract.
 use Prim.Native.Nat.{_-_, _+_, _*_}
+use native.Mathlib.Omega.{arith}
+use borrow.Author.Needs.{needs}
 use Rattle.image.specs.Image.{placeIn, placesIn}
 use Rattle.image.proofs.Copies.{Tabling, tabling-none, tabling-more, tabling-all}
-use borrow.Author.Needs.{needs}
-use native.Mathlib.Omega.{arith}
 use Rattle.image.proofs.read_places.Statement.{statement}
 use Rattle.image.proofs.read_places.Tie as tie
 

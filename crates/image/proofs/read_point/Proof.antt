@@ -1,6 +1,6 @@
 -- `image::read_point` meets its contract.
-use Rattle.image.specs.Image.{placeIn}
 use borrow.Author.Needs.{needs}
+use Rattle.image.specs.Image.{placeIn}
 use Rattle.image.proofs.read_point.Statement.{statement}
 use Rattle.image.proofs.read_point.Tie as tie
 

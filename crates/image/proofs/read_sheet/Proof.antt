@@ -1,14 +1,11 @@
 -- `image::read_sheet` meets its contract.
-use Rattle.image.specs.Image.{mapIn, pointsFrom, sheetIn}
 use borrow.Author.Needs.{needs}
+use Rattle.image.specs.Image.{pointsFrom, sheetIn}
 use Rattle.image.proofs.read_sheet.Statement.{statement}
 use Rattle.image.proofs.read_sheet.Tie as tie
 
-mul-read-map : tie.Need-mul-read-map
-mul-read-map c = search needs
-
-read-map-requires : tie.Need-read-map-requires
-read-map-requires c κs = search needs
+read-map-of-requires : tie.Need-read-map-of-requires
+read-map-of-requires c κs = search needs
 
 mul-from : tie.Need-mul-from
 mul-from c = search needs
@@ -26,15 +23,14 @@ read-places-requires : tie.Need-read-places-requires
 read-places-requires c κs = search needs
 
 returns : tie.Need-returns
-unfolding sheetIn mapIn pointsFrom
-returns c = rw (c .before .before .read-map .ensures, c .before .read-little .ensures .0, c .read-places .ensures)
+unfolding sheetIn pointsFrom
+returns c = rw (c .before .before .read-map-of .ensures, c .before .read-little .ensures .0, c .read-places .ensures)
 
 pub read-sheet-spec : {M : Type 1} → statement M
 read-sheet-spec =
     tie.close
     (tie.spec
-    mul-read-map
-    read-map-requires
+    read-map-of-requires
     mul-from
     add-from
     read-little-requires

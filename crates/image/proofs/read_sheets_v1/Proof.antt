@@ -1,10 +1,10 @@
 -- `image::read_sheets_v1` meets its contract.
-use mathlib.Core.Path.{refl}
 use Prim.Native.Nat.{_-_}
-use Rattle.image.specs.Image.{sheetV1In, mapIn}
-use Rattle.image.proofs.Copies.{Tabling, tabling-none, tabling-more, tabling-all}
-use borrow.Author.Needs.{needs}
+use mathlib.Core.Path.{refl}
 use native.Mathlib.Omega.{arith}
+use borrow.Author.Needs.{needs}
+use Rattle.image.specs.Image.{sheetV1In}
+use Rattle.image.proofs.Copies.{Tabling, tabling-none, tabling-more, tabling-all}
 use Rattle.image.proofs.read_sheets_v1.Statement.{statement}
 use Rattle.image.proofs.read_sheets_v1.Tie as tie
 
@@ -17,11 +17,8 @@ abbrev μ-loop : tie.MeasureT-loop
 loop-holds : tie.Need-loop-holds Inv-loop μ-loop
 loop-holds c = tabling-none _ _ (search needs)
 
-mul-read-map : tie.Need-mul-read-map Inv-loop μ-loop
-mul-read-map c = search needs
-
-read-map-requires : tie.Need-read-map-requires Inv-loop μ-loop
-read-map-requires c κs = search needs
+read-map-of-requires : tie.Need-read-map-of-requires Inv-loop μ-loop
+read-map-of-requires c κs = search needs
 
 mul-sheets : tie.Need-mul-sheets Inv-loop μ-loop
 mul-sheets c = search needs
@@ -36,10 +33,10 @@ loop-less : tie.Need-loop-less Inv-loop μ-loop
 loop-less c = omega arith
 
 loop-again : tie.Need-loop-again Inv-loop μ-loop
-unfolding sheetV1In mapIn
+unfolding sheetV1In
 loop-again c =
     let k = c .before .before .loop .inv in
-    tabling-more _ _ _ _ k (c .before .loop-test .taken) _ (rw (c .read-map .ensures) refl)
+    tabling-more _ _ _ _ k (c .before .loop-test .taken) _ (rw (c .read-map-of .ensures) refl)
 
 returns : tie.Need-returns Inv-loop μ-loop
 returns c = search tabling-all
@@ -51,8 +48,7 @@ read-sheets-v1-spec =
     Inv-loop
     μ-loop
     loop-holds
-    mul-read-map
-    read-map-requires
+    read-map-of-requires
     mul-sheets
     array-set-from-sheets
     add-s

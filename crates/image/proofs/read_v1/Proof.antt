@@ -1,6 +1,6 @@
 -- `image::read_v1` meets its contract.
-use Rattle.image.specs.Image.{sizeIn, tallyIn, benchV1In}
 use borrow.Author.Needs.{needs}
+use Rattle.image.specs.Image.{sizeIn, tallyIn, benchV1In}
 use Rattle.image.proofs.read_v1.Statement.{statement}
 use Rattle.image.proofs.read_v1.Tie as tie
 

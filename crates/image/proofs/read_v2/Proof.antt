@@ -1,6 +1,6 @@
 -- `image::read_v2` meets its contract.
-use Rattle.image.specs.Image.{sizeIn, tallyIn, benchV2In}
 use borrow.Author.Needs.{needs}
+use Rattle.image.specs.Image.{sizeIn, tallyIn, benchV2In}
 use Rattle.image.proofs.read_v2.Statement.{statement}
 use Rattle.image.proofs.read_v2.Tie as tie
 

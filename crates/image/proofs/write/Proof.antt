@@ -1,6 +1,6 @@
 -- `image::write` meets its contract.
-use Rattle.image.proofs.Images.{image-written}
 use borrow.Author.Needs.{needs}
+use Rattle.image.proofs.Images.{image-written}
 use Rattle.image.proofs.write.Statement.{statement}
 use Rattle.image.proofs.write.Tie as tie
 

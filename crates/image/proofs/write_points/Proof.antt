@@ -1,10 +1,10 @@
 -- `image::write_points` meets its contract.
-use Rattle.sheet.specs.Sheet.{noSheet}
 use Prim.Native.Nat.{_-_}
+use native.Mathlib.Omega.{arith}
+use borrow.Author.Needs.{needs}
+use Rattle.sheet.specs.Sheet.{noSheet}
 use Rattle.image.specs.Image.{pointsBytes}
 use Rattle.image.proofs.Steps.{Laying, laying-none, laying-more, laying-all}
-use borrow.Author.Needs.{needs}
-use native.Mathlib.Omega.{arith}
 use Rattle.image.proofs.write_points.Statement.{statement}
 use Rattle.image.proofs.write_points.Tie as tie
 

@@ -1,6 +1,6 @@
 -- `image::write_v2` meets its contract.
-use Rattle.image.proofs.Images.{imageV2-written}
 use borrow.Author.Needs.{needs}
+use Rattle.image.proofs.Images.{imageV2-written}
 use Rattle.image.proofs.write_v2.Statement.{statement}
 use Rattle.image.proofs.write_v2.Tie as tie
 
