@@ -1,44 +1,48 @@
--- Copies: a loop that copies one list over the start of another, element by element; bytes copied to the start of lent ones, as far as they
--- fit; and bytes laid into others from some byte on.
+-- Copies: a loop that fills eight elements from a table; bytes copied to the start of lent ones, as far as they fit; and bytes that a callee copied
+-- into the rest of lent ones.
 use Prim.Native.Nat.{ℕ, suc, _+_, _-_, _≤_, _<_}
-use mathlib.Core.List.{List, _++_, append-assoc, append-nil}
+use mathlib.Core.List.{List, _++_, map, append-nil}
 use mathlib.Core.Path.{_≡_, refl, sym, ap, _∙_}
 use native.Mathlib.Numerals.{add-one}
 use native.Mathlib.Omega.{arith}
-use lib.ListN.{length, getD, take, drop, set, length-drop, drop-of-length-le}
-use lib.Seq.{take-all, take-suc, drop-cons, append-snoc, set-at, take-at, drop-at, drop-drop, length-take-le}
+use lib.ListN.{length, getD, take, drop, set, length-drop, length-map, length-set, drop-of-length-le}
+use lib.Seq.{take-all, take-suc, drop-cons, append-snoc, set-at, length-take-le}
 use borrow.Rule.Slice.PartMut.{putMid, midOf}
-use Rattle.equivalence.specs.Lent.{written, laid}
+use Rattle.equivalence.specs.Lent.{written}
+use Rattle.equivalence.specs.Lists.{upTo}
 use Rattle.equivalence.proofs.Laying.{rest-whole, laid-from}
+use Rattle.equivalence.proofs.Lists.{upTo-length, table-at}
+use Rattle.bench.proofs.Copying.{Copying, copying-none, copying-more, copying-all}
 use Rattle.image.specs.Copies.{copied}
 use Rattle.image.specs.Image.{part}
+use Rattle.image.specs.InnerSteps.{Laid}
 
--- ---- the loop that copies
+-- ---- the loop that fills eight places
 
--- the first i elements of `from` stand in the place of the first i of `old`
-pub record Copying {A : Type 0} (from old : List A) (i : ℕ) (new : List A) : Type 0 where
-  pub within : i ≤ length from
-  pub room : i ≤ length old
-  pub elements : new ≡ take i from ++ drop i old
+-- the first i of eight elements are those of a table
+pub record Tabling {A : Type 0} (g : ℕ → A) (old : List A) (i : ℕ) (new : List A) : Type 0 where
+  pub long : length old ≡ 8
+  pub same : length new ≡ 8
+  pub copy : Copying (map g (upTo 8)) old i new
 
-module _ {A : Type 0} (from old : List A) where
-  pub copying-none : Copying from old 0 old
-  copying-none = record { within = omega arith; room = omega arith; elements = refl }
+pub table-length : {A : Type 0} (g : ℕ → A) → length (map g (upTo 8)) ≡ 8
+table-length g = length-map (upTo 8) g ∙ upTo-length 8
 
-  store : (i : ℕ) (d : A) → i < length from → i < length old → set (take i from ++ drop i old) i (getD from i d) ≡ take (suc i) from ++ drop (suc i) old
-  store i d h k =
-      ap (λ (r : List A). set (take i from ++ r) i (getD from i d)) (drop-cons old i d k)
-      ∙ set-at (take i from) (getD old i d) (drop (suc i) old) (getD from i d) i (length-take-le i from (omega arith))
-      ∙ sym (append-snoc (take i from) (getD from i d) (drop (suc i) old))
-      ∙ ap (λ (r : List A). r ++ drop (suc i) old) (sym (take-suc from i d h))
+module _ {A : Type 0} (g : ℕ → A) (old : List A) where
+  pub tabling-none : length old ≡ 8 → Tabling g old 0 old
+  tabling-none e = record { long = e; same = e; copy = copying-none (map g (upTo 8)) old }
 
-  pub copying-more : (i : ℕ) (new : List A) → Copying from old i new → i < length from → i < length old → (d v : A) → v ≡ getD from i d → Copying from old (i + 1) (set new i v)
-  copying-more i new c h k d v e =
-      record { within = omega arith; room = omega arith; elements = rw (c .elements, e, add-one i) (store i d h k) }
+  pub tabling-more : (i : ℕ) (new : List A) → Tabling g old i new → i < 8 → (v : A) → v ≡ g i → Tabling g old (i + 1) (set new i v)
+  tabling-more i new t h v e =
+      record {
+        long = t .long;
+        same = length-set new i v ∙ t .same;
+        copy = copying-more (map g (upTo 8)) old i new (t .copy) (omega (arith, table-length g)) (omega (arith, t .long)) v v (e ∙ sym (table-at g 8 i v h));
+      }
 
-  -- all of both
-  pub copying-all : (i : ℕ) (new : List A) → Copying from old i new → i ≡ length from → length old ≤ i → new ≡ from
-  copying-all i new c e h = c .elements ∙ rw (take-all i from (omega arith), drop-of-length-le old {i = i} h) (append-nil from)
+  pub tabling-all : (i : ℕ) (new : List A) → Tabling g old i new → 8 ≤ i → new ≡ map g (upTo 8)
+  tabling-all i new t h =
+      copying-all (map g (upTo 8)) old i new (t .copy) (omega (arith, table-length g, t .copy .within)) (omega (arith, t .long))
 
 -- ---- bytes copied as far as they fit
 
@@ -71,15 +75,12 @@ pub copied-part : (at k : ℕ) (l lent : List ℕ) → length lent ≡ k → at 
 unfolding part
 copied-part at k l lent e h = rw (rest-whole at l) (copied-first (drop at l) lent k e (omega (arith, length-drop at l)))
 
--- bytes that a callee copied into the rest
-pub copied-from : (to : ℕ) (l new rest : List ℕ) → to + length new ≤ length l → rest ≡ copied new (midOf to (length l - to) l)
-    → putMid to (length l - to) l rest ≡ laid l to new
-copied-from to l new rest h e =
+-- k bytes that a callee copied into the rest
+pub copied-from : (to k : ℕ) (l new rest : List ℕ) → length new ≡ k → to + k ≤ length l → rest ≡ copied new (midOf to (length l - to) l)
+    → Laid k new to l (putMid to (length l - to) l rest)
+copied-from to k l new rest long h e =
     let room : length new ≤ length (midOf to (length l - to) l) = rw (rest-whole to l, length-drop to l) (omega arith) in
-    ap (putMid to (length l - to) l) (e ∙ copied-all new (midOf to (length l - to) l) room) ∙ laid-from to l new (omega arith)
-
--- bytes laid behind those that stand before them
-pub laid-behind : (front old new : List ℕ) (to : ℕ) → length front ≡ to → laid (front ++ drop to old) to new ≡ front ++ new ++ drop (to + length new) old
-unfolding laid written
-laid-behind front old new to e =
-    rw (take-at front (drop to old) to e, drop-at front (drop to old) to e, drop-drop (length new) to old) (sym (append-assoc front new (drop (to + length new) old)))
+    record {
+      long = long;
+      bytes = ap (putMid to (length l - to) l) (e ∙ copied-all new (midOf to (length l - to) l) room) ∙ laid-from to l new (omega arith);
+    }

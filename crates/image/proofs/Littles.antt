@@ -9,6 +9,7 @@ use lib.ListN.{length, getD, take, drop, set}
 use lib.Seq.{take-all, drop-cons, drop-drop, paste, paste-zero, paste-suc}
 use Rattle.equivalence.specs.Lent.{written, laid}
 use Rattle.image.specs.Image.{little, littleIn, part}
+use Rattle.image.specs.InnerSteps.{Laid}
 
 pub little-length : (k x : ℕ) → length (little k x) ≡ k
 unfolding little
@@ -65,10 +66,13 @@ module _ (old : List ℕ) (to k x : ℕ) where
             ∙ ap (λ (j : ℕ). paste old to (little k x) j) (sym (add-one i));
       }
 
-  pub writing-all : (i rest : ℕ) (new : List ℕ) → Writing old to k x i rest new → i ≡ k → new ≡ laid old to (little k x)
+  pub writing-all : (i rest : ℕ) (new : List ℕ) → Writing old to k x i rest new → i ≡ k → Laid k (little k x) to old new
   unfolding laid written
   writing-all i rest new w e =
-      w .bytes ∙ rw (e, take-all k (little k x) (omega (arith, little-length k x)), little-length k x, drop-drop k to old) (append-assoc (take to old) (little k x) (drop (to + k) old))
+      record {
+        long = little-length k x;
+        bytes = w .bytes ∙ rw (e, take-all k (little k x) (omega (arith, little-length k x)), little-length k x, drop-drop k to old) (append-assoc (take to old) (little k x) (drop (to + k) old));
+      }
 
 -- ---- reading
 

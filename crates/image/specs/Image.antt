@@ -1,13 +1,18 @@
--- A bench as bytes, its image: the eight sheets of 64 bytes, the bench's n in one byte and the tally in eight; of a bench of the first kind in four.
+-- A bench as bytes, its image. In front, in every kind: eight maps of 64 bytes, the bench's n in one byte, and the tally, in eight bytes, of the first
+-- kind in four. Then, of today's kind, the points of each sheet.
 use Prim.Native.Nat.{ℕ, zero, suc, _+_, _*_, _/_, _%_, _^_, _<_}
 use mathlib.Core.List.{List, [], _∷_, _++_, map}
 use mathlib.Core.Path.{_≡_}
 use lib.ListN.{length, getD, take, drop}
-use Rattle.bench.specs.State.{noSheet}
+use Rattle.equivalence.specs.Equivalence.{Map}
+use Rattle.equivalence.specs.Lists.{upTo, concat}
+use Rattle.sheet.specs.Sheet.{noSheet}
+use Rattle.sheet.specs.declared.Point.{Point}
+use Rattle.sheet.specs.declared.Sheet.{Sheet}
 use Rattle.bench.specs.declared.Bench.{Bench}
 use Rattle.bench.specs.declared.conversion.BenchV1.{BenchV1}
-use Rattle.bench.specs.declared.Sheet.{Sheet}
-use Rattle.equivalence.specs.Lists.{upTo, concat}
+use Rattle.bench.specs.declared.conversion.BenchV2.{BenchV2}
+use Rattle.bench.specs.declared.conversion.SheetV1.{SheetV1}
 
 -- a number in k bytes, the lowest byte first
 unfoldable pub little : ℕ → ℕ → List ℕ
@@ -23,58 +28,108 @@ littleIn (b ∷ rest) = b + 256 * littleIn rest
 unfoldable pub part : ℕ → ℕ → List ℕ → List ℕ
 part from k l = take k (drop from l)
 
--- bytes 0 to 511: the sheets, one after the other
-unfoldable pub sheetBytes : List Sheet → List ℕ
-sheetBytes sheets = concat (map (λ s. s .map) sheets)
+-- ---- the image of a bench
 
--- byte 512: n
-unfoldable pub sizeBytes : ℕ → List ℕ
-sizeBytes n = little 1 n
+-- the front: maps one after the other, n in one byte, and the tally in k
+unfoldable pub layout : ℕ → List Map → ℕ → ℕ → List ℕ
+layout k maps n tally = concat maps ++ little 1 n ++ little k tally
 
--- bytes from 513 on: the tally, in k bytes
-unfoldable pub tallyBytes : ℕ → ℕ → List ℕ
-tallyBytes k tally = little k tally
+-- a point: its name, then its map; 72 bytes
+unfoldable pub pointBytes : Point → List ℕ
+pointBytes p = p .name ++ p .map
 
--- sheets, an n and a tally of k bytes, one behind the other
-unfoldable pub layout : ℕ → List Sheet → ℕ → ℕ → List ℕ
-layout k sheets n tally = sheetBytes sheets ++ sizeBytes n ++ tallyBytes k tally
+-- the points of a sheet: how many it holds in one byte, then its places; 577 bytes
+unfoldable pub pointsBytes : Sheet → List ℕ
+pointsBytes s = little 1 (s .count) ++ concat (map pointBytes (s .points))
 
--- the image of a bench: 521 bytes
+-- the maps of sheets
+abbrev pub mapsOf : List Sheet → List Map
+mapsOf sheets = map (λ s. s .map) sheets
+
+-- the maps of old sheets
+abbrev pub mapsV1Of : List SheetV1 → List Map
+mapsV1Of sheets = map (λ s. s .map) sheets
+
+-- the image of a bench: the front, 521 bytes, then the points of its sheets; 5137 bytes
 unfoldable pub imageOf : Bench → List ℕ
-imageOf b = layout 8 (b .sheets) (b .n) (b .tally)
+imageOf b = layout 8 (mapsOf (b .sheets)) (b .n) (b .tally) ++ concat (map pointsBytes (b .sheets))
+
+-- the image of a bench of the second kind: 521 bytes
+unfoldable pub imageV2Of : BenchV2 → List ℕ
+imageV2Of b = layout 8 (mapsV1Of (b .sheets)) (b .n) (b .tally)
 
 -- the image of a bench of the first kind: 517 bytes
 unfoldable pub imageV1Of : BenchV1 → List ℕ
-imageV1Of b = layout 4 (b .sheets) (b .n) (b .tally)
+imageV1Of b = layout 4 (mapsV1Of (b .sheets)) (b .n) (b .tally)
 
--- the eight sheets that an image shows
-unfoldable pub sheetsIn : List ℕ → List Sheet
-sheetsIn image = map (λ k. record { map = part (k * 64) 64 image }) (upTo 8)
+-- ---- the bench that an image shows
 
--- the n that an image shows
+-- the map of sheet s
+unfoldable pub mapIn : List ℕ → ℕ → Map
+mapIn image s = part (s * 64) 64 image
+
+-- the n
 unfoldable pub sizeIn : List ℕ → ℕ
 sizeIn image = littleIn (part 512 1 image)
 
--- the tally of k bytes that an image shows
+-- the tally of k bytes
 unfoldable pub tallyIn : ℕ → List ℕ → ℕ
 tallyIn k image = littleIn (part 513 k image)
 
--- the bench that an image shows
+-- where the points of sheet s begin
+unfoldable pub pointsFrom : ℕ → ℕ
+pointsFrom s = 521 + s * 577
+
+-- the point in the place from byte `from` on
+unfoldable pub placeIn : List ℕ → ℕ → Point
+placeIn image from = record { name = part from 8 image; map = part (from + 8) 64 image }
+
+-- the eight places from byte `from` on
+unfoldable pub placesIn : List ℕ → ℕ → List Point
+placesIn image from = map (λ i. placeIn image (from + i * 72)) (upTo 8)
+
+-- sheet s
+unfoldable pub sheetIn : List ℕ → ℕ → Sheet
+sheetIn image s = record { map = mapIn image s; count = littleIn (part (pointsFrom s) 1 image); points = placesIn image (pointsFrom s + 1) }
+
+-- old sheet s
+unfoldable pub sheetV1In : List ℕ → ℕ → SheetV1
+sheetV1In image s = record { map = mapIn image s }
+
+-- the bench
 unfoldable pub benchIn : List ℕ → Bench
-benchIn image = record { n = sizeIn image; tally = tallyIn 8 image; sheets = sheetsIn image }
+benchIn image = record { n = sizeIn image; tally = tallyIn 8 image; sheets = map (sheetIn image) (upTo 8) }
 
--- the bench of the first kind that an image shows
+-- the bench of the second kind
+unfoldable pub benchV2In : List ℕ → BenchV2
+benchV2In image = record { n = sizeIn image; tally = tallyIn 8 image; sheets = map (sheetV1In image) (upTo 8) }
+
+-- the bench of the first kind
 unfoldable pub benchV1In : List ℕ → BenchV1
-benchV1In image = record { n = sizeIn image; tally = tallyIn 4 image; sheets = sheetsIn image }
+benchV1In image = record { n = sizeIn image; tally = tallyIn 4 image; sheets = map (sheetV1In image) (upTo 8) }
 
--- eight sheets of 64 bytes, an n that fits a byte, and a tally t that fits k
-pub record Showable (k : ℕ) (sheets : List Sheet) (n t : ℕ) : Type 0 where
+-- ---- that the one shows the other
+
+-- eight lists of w bytes
+pub record Eight (w : ℕ) (lists : List (List ℕ)) : Type 0 where
+  pub count : length lists ≡ 8
+  pub full : (i : ℕ) → i < 8 → length (getD lists i []) ≡ w
+
+-- eight maps of 64 bytes, an n that fits a byte, and a tally t that fits k
+pub record Showable (k : ℕ) (maps : List Map) (n t : ℕ) : Type 0 where
   pub size : n < 256
   pub tally : t < 256 ^ k
-  pub count : length sheets ≡ 8
-  pub full : (s : ℕ) → s < 8 → length (getD sheets s noSheet .map) ≡ 64
+  pub whole : Eight 64 maps
 
--- the image of a bench of either kind shows it
+-- a count that fits a byte, and eight places with a name of eight bytes and a map of 64
+pub record PointsShowable (s : Sheet) : Type 0 where
+  pub count : s .count < 256
+  pub names : Eight 8 (map (λ p. p .name) (s .points))
+  pub maps : Eight 64 (map (λ p. p .map) (s .points))
+
+-- the image of a bench of any kind shows it
 pub record ImageRight : Type 0 where
-  pub bench : (b : Bench) → Showable 8 (b .sheets) (b .n) (b .tally) → benchIn (imageOf b) ≡ b
-  pub first : (b : BenchV1) → Showable 4 (b .sheets) (b .n) (b .tally) → benchV1In (imageV1Of b) ≡ b
+  pub bench : (b : Bench) → Showable 8 (mapsOf (b .sheets)) (b .n) (b .tally) → ((s : ℕ) → s < 8 → PointsShowable (getD (b .sheets) s noSheet))
+      → benchIn (imageOf b) ≡ b
+  pub second : (b : BenchV2) → Showable 8 (mapsV1Of (b .sheets)) (b .n) (b .tally) → benchV2In (imageV2Of b) ≡ b
+  pub first : (b : BenchV1) → Showable 4 (mapsV1Of (b .sheets)) (b .n) (b .tally) → benchV1In (imageV1Of b) ≡ b

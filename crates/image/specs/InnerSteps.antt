@@ -1,12 +1,11 @@
 -- What the inner functions promise each other of an image that is written part by part.
-use Prim.Native.Nat.{ℕ, _*_}
-use mathlib.Core.List.{List, _++_}
+use Prim.Native.Nat.{ℕ}
+use mathlib.Core.List.{List}
 use mathlib.Core.Path.{_≡_}
-use lib.ListN.{length, take, drop}
-use Rattle.bench.specs.declared.Sheet.{Sheet}
-use Rattle.image.specs.Image.{sheetBytes}
+use lib.ListN.{length}
+use Rattle.equivalence.specs.Lent.{laid}
 
--- the first s sheets are written, and the other bytes are as they were
-pub record SheetsLaid (s : ℕ) (sheets : List Sheet) (old new : List ℕ) : Type 0 where
-  pub long : length (sheetBytes (take s sheets)) ≡ s * 64
-  pub bytes : new ≡ sheetBytes (take s sheets) ++ drop (s * 64) old
+-- the new bytes, w of them, are laid from byte `to` on, and the other bytes are as they were
+pub record Laid (w : ℕ) (new : List ℕ) (to : ℕ) (before after : List ℕ) : Type 0 where
+  pub long : length new ≡ w
+  pub bytes : after ≡ laid before to new

@@ -4,7 +4,8 @@ use mathlib.Core.Path.{_≡_, refl}
 use native.Mathlib.Omega.{arith}
 use lib.ListN.{length, length-set}
 use borrow.Author.Needs.{needs}
-use Rattle.image.proofs.Copies.{Copying, copying-none, copying-more, copied-whole, copied-full}
+use Rattle.bench.proofs.Copying.{Copying, copying-none, copying-more}
+use Rattle.image.proofs.Copies.{copied-whole, copied-full}
 use Rattle.image.proofs.copy_part.Statement.{statement}
 use Rattle.image.proofs.copy_part.Tie as tie
 

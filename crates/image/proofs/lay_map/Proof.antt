@@ -1,9 +1,8 @@
 -- `image::lay_map` meets its contract.
 use mathlib.Core.Path.{_≡_}
-use native.Mathlib.Omega.{arith}
 use lib.ListN.{length}
-use Rattle.image.proofs.Copies.{copied-from}
 use borrow.Author.Needs.{needs}
+use Rattle.image.proofs.Copies.{copied-from}
 use Rattle.image.proofs.lay_map.Statement.{statement}
 use Rattle.image.proofs.lay_map.Tie as tie
 
@@ -26,7 +25,7 @@ returns : tie.Need-returns
 returns c =
     let k = c .before .before .before .before .before .before in
     let full : length (k .args .map .now) ≡ 64 = search needs in
-    (copied-from _ _ _ _ (omega (arith, k .pre)) (c .before .before .copy-part .ensures), full)
+    copied-from _ _ _ _ _ full (k .pre) (c .before .before .copy-part .ensures)
 
 pub lay-map-spec : {M : Type 1} → statement M
 lay-map-spec =

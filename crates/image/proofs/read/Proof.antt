@@ -1,6 +1,6 @@
 -- `image::read` meets its contract.
-use Rattle.image.specs.Image.{sizeIn, tallyIn, benchIn}
 use borrow.Author.Needs.{needs}
+use Rattle.image.specs.Image.{sizeIn, tallyIn, benchIn}
 use Rattle.image.proofs.read.Statement.{statement}
 use Rattle.image.proofs.read.Tie as tie
 

@@ -2,8 +2,8 @@
 use Prim.Native.Nat.{ℕ}
 use mathlib.Core.Path.{_∙_}
 use lib.ListN.{length-replicate}
-use Rattle.image.proofs.Copies.{copied-part}
 use borrow.Author.Needs.{needs}
+use Rattle.image.proofs.Copies.{copied-part}
 use Rattle.image.proofs.read_map.Statement.{statement}
 use Rattle.image.proofs.read_map.Tie as tie
 

@@ -1,17 +1,20 @@
 -- `image::write` meets its contract.
-use Rattle.image.proofs.Images.{image-written}
 use borrow.Author.Needs.{needs}
+use Rattle.image.proofs.Images.{image-written}
 use Rattle.image.proofs.write.Statement.{statement}
 use Rattle.image.proofs.write.Tie as tie
 
-write-sheets-requires : tie.Need-write-sheets-requires
-write-sheets-requires c κs = search needs
+write-maps-requires : tie.Need-write-maps-requires
+write-maps-requires c κs = search needs
 
 write-little-requires : tie.Need-write-little-requires
 write-little-requires c κs = search needs
 
 write-little-requires-2 : tie.Need-write-little-requires-2
 write-little-requires-2 c κs = search needs
+
+write-points-requires : tie.Need-write-points-requires
+write-points-requires c κs = search needs
 
 same-length : tie.Need-same-length
 same-length c = search needs
@@ -23,8 +26,9 @@ pub write-spec : {M : Type 1} → statement M
 write-spec =
     tie.close
     (tie.spec
-    write-sheets-requires
+    write-maps-requires
     write-little-requires
     write-little-requires-2
+    write-points-requires
     same-length
     returns)
