@@ -9,6 +9,7 @@ mod faults;
 mod images;
 mod lengths;
 mod material;
+mod points;
 mod sequences;
 
 use outside_tests::random::Rng;
@@ -112,6 +113,7 @@ fn starts(s: &mut Suite) {
 pub fn suites(run: &mut Run) {
     run.suite("probe: bench start", starts);
     edges::suites(run);
+    points::suites(run);
     faults::suites(run);
     sequences::suites(run);
     conversions::suites(run);
