@@ -8,6 +8,7 @@ mod edges;
 mod faults;
 mod images;
 mod lengths;
+mod lessons;
 mod material;
 mod points;
 mod sequences;
@@ -116,6 +117,7 @@ pub fn suites(run: &mut Run) {
     points::suites(run);
     faults::suites(run);
     sequences::suites(run);
+    lessons::suites(run);
     conversions::suites(run);
     lengths::suites(run);
 }
