@@ -2,7 +2,7 @@
  * that the comparisons can fail.
  *
  * The four services of include/congruence.h go to the optimized baseline; the
- * twelve functions of tests/PROBE.md are written out plainly here. The environment
+ * fifteen functions of tests/PROBE.md are written out plainly here. The environment
  * variable STANDIN_FAULT names one fault of the list below; without it there is
  * none. */
 #include <stdlib.h>
@@ -57,6 +57,48 @@ static const char *const faults[] = {
     "other-sheet",          /* add writes another sheet */
     "clear-tally",          /* clear lowers the tally */
     "clear-high",           /* clear drops the tally's four high bytes */
+    "start-points",         /* the points keep what was lent */
+    "add-points",           /* add gives the sheet's first point the new map */
+    "clear-points",         /* clear drops the sheet's points */
+    "set-identity",         /* set stores the identity */
+    "set-bytes",            /* set stores n bytes */
+    "set-full",             /* 16 where eight are held though the name is one of them */
+    "set-ninth",            /* a ninth name takes the first place */
+    "set-again",            /* a name that is held gets a second place */
+    "set-last",             /* a name that is held goes to the last place */
+    "set-sheet",            /* set writes another sheet's point */
+    "return-tally",         /* return raises the tally by the blocks lost */
+    "return-bytes",         /* return copies 64 bytes */
+    "return-first",         /* return takes the first point, whatever its name */
+    "return-forgets",       /* return drops the point if it is the last */
+    "return-joins",         /* return gives no smaller map than the sheet's */
+    "forget-last",          /* forget drops the last point */
+    "forget-shifts",        /* the points behind the freed place move up */
+    "forget-zeros",         /* the place that was the last is set to zeros */
+    "forget-name",          /* the last point's name moves and its map does not */
+    "forget-stays",         /* the point is dropped only where it is the last */
+    "point-map",            /* 8 does not look at the points' maps */
+    "point-eighth",         /* 8 does not look at the map in the eighth place */
+    "point-free",           /* 8 looks at the maps in free places too */
+    "point-free-names",     /* 8 looks at the names in free places too */
+    "point-past",           /* 8 looks at bytes past n of a point */
+    "point-count",          /* a count above eight is taken for eight */
+    "point-nine",           /* a count of nine is taken for eight */
+    "point-twins",          /* two points of one name are no fault */
+    "point-neighbours",     /* only points next to each other must differ in name */
+    "point-sheets",         /* points of two sheets must differ in name too */
+    "point-one-sheet",      /* 8 looks at the first sheet's points only */
+    "point-seven-sheets",   /* 8 does not look at the last sheet's points */
+    "point-seven-bytes",    /* names are compared by seven bytes */
+    "point-text",           /* names are compared up to a byte 0 */
+    "point-zeros",          /* zeros are no name */
+    "point-anywhere",       /* an unknown name is looked for on all sheets */
+    "point-exchanged",      /* 15 and 16 are exchanged */
+    "point-eight-first",    /* 8 is tested before 7 */
+    "point-fifteen-first",  /* 15 and 16 are tested before 8 */
+    "point-narrow",         /* the sheet is cut to 32 bits */
+    "point-top",            /* 13 at the top of the tally */
+    "point-name-length",    /* a longer name is taken */
     "bench-length",         /* a longer image is taken */
     "tally",                /* 13 is never said */
     "tally-old",            /* 13 at the top of 32 bits */
@@ -84,6 +126,10 @@ static const char *const faults[] = {
     "convert-after",        /* the byte after the new image is written */
     "convert-length",       /* a longer old image is taken */
     "convert-new-length",   /* a longer new image is lent and taken */
+    "convert-across",       /* the first kind is converted to the third */
+    "convert-copy",         /* the second kind is converted to itself */
+    "convert-point",        /* each sheet gets a point */
+    "convert-points",       /* the points keep what was lent */
     "write-length",         /* the length is one too high */
     "write-nine-early",     /* a byte more is wanted than the text has */
     "write-nine-late",      /* a byte less is enough */
@@ -617,8 +663,20 @@ uint32_t probe_certify(size_t n, const uint8_t *arities, size_t arities_len,
 
 /* ---- the bench, as an image ----------------------------------------------- */
 
-/* The sheets, n and the tally; an old bench has four bytes of tally. */
-enum { SIZE_AT = SHEETS * STRIDE, TALLY_AT, OLD_IMAGE = TALLY_AT + 4, IMAGE = TALLY_AT + 8, NO_IMAGE = 255 };
+/* The sheets' maps, n and the tally, of which the first kind of bench has four bytes; from the third
+ * kind on the points of each sheet, which are a count and eight places of a name and a map. */
+enum {
+    SIZE_AT = SHEETS * STRIDE,
+    TALLY_AT,
+    IMAGE_V1 = TALLY_AT + 4,
+    IMAGE_V2 = TALLY_AT + 8,
+    PLACES = 8,
+    NAME = 8,
+    PLACE = NAME + STRIDE,
+    POINTS = 1 + PLACES * PLACE,
+    IMAGE = IMAGE_V2 + SHEETS * POINTS,
+    NO_IMAGE = 255
+};
 
 static int is_image(size_t image_len)
 {
@@ -628,16 +686,6 @@ static int is_image(size_t image_len)
 static int is_size(size_t n)
 {
     return n >= 1 && n <= STRIDE;
-}
-
-static int has_maps(size_t n, const uint8_t *image)
-{
-    for (size_t i = 0; i < SHEETS; i++) {
-        if (!is_map(n, image + i * STRIDE, n)) {
-            return 0;
-        }
-    }
-    return 1;
 }
 
 static uint64_t number_in(const uint8_t *bytes, size_t count)
@@ -652,22 +700,137 @@ static void put_little(uint8_t *bytes, size_t count, uint64_t number)
     }
 }
 
+static void put_identity(uint8_t *map, size_t n)
+{
+    for (size_t x = 0; x < n; x++) {
+        map[x] = (uint8_t)x;
+    }
+}
+
+/* ---- points on a sheet ---------------------------------------------------- */
+
+/* Where a sheet's points are in the image, and a place among them. */
+static size_t points_at(size_t sheet)
+{
+    return IMAGE_V2 + sheet * POINTS;
+}
+
+static size_t place_at(size_t place)
+{
+    return 1 + place * PLACE;
+}
+
+static size_t held(const uint8_t *points)
+{
+    return points[0] < PLACES ? points[0] : PLACES;
+}
+
+static int same_name(const uint8_t *a, const uint8_t *b)
+{
+    if (fault("point-text")) {
+        return strncmp((const char *)a, (const char *)b, NAME) == 0;
+    }
+    return memcmp(a, b, fault("point-seven-bytes") ? NAME - 1 : NAME) == 0;
+}
+
+/* The name's place among the points held, or their number. */
+static size_t place_of(const uint8_t *points, const uint8_t *name)
+{
+    static const uint8_t zeros[NAME];
+    const size_t count = held(points);
+    size_t place = fault("point-zeros") && memcmp(name, zeros, NAME) == 0 ? count : 0;
+    while (place < count && !same_name(points + place_at(place), name)) {
+        place++;
+    }
+    return place;
+}
+
+static int is_known(const uint8_t *points, const uint8_t *name)
+{
+    return place_of(points, name) < held(points);
+}
+
+static int names_differ(const uint8_t *points, size_t count)
+{
+    for (size_t i = 1; i < count && !fault("point-twins"); i++) {
+        for (size_t j = fault("point-neighbours") ? i - 1 : 0; j < i; j++) {
+            if (same_name(points + place_at(i), points + place_at(j))) {
+                return 0;
+            }
+        }
+    }
+    return 1;
+}
+
+static int points_have_maps(size_t n, const uint8_t *points, size_t count)
+{
+    if (fault("point-map")) {
+        return 1;
+    }
+    if (fault("point-eighth") && count == PLACES) {
+        count--;
+    }
+    for (size_t i = 0; i < count; i++) {
+        if (!is_map(n, points + place_at(i) + NAME, n)) {
+            return 0;
+        }
+    }
+    return 1;
+}
+
+/* Whether 8 passes a sheet's points. */
+static int points_pass(size_t n, const uint8_t *points)
+{
+    const size_t most = PLACES + fault("point-nine");
+    if (points[0] > most && !fault("point-count")) {
+        return 0;
+    }
+    const size_t count = held(points);
+    return points_have_maps(fault("point-past") ? STRIDE : n, points, fault("point-free") ? PLACES : count) &&
+           names_differ(points, fault("point-free-names") ? PLACES : count);
+}
+
+static int names_differ_between_sheets(const uint8_t *image)
+{
+    for (size_t i = 1; i < SHEETS; i++) {
+        const uint8_t *points = image + points_at(i);
+        for (size_t place = 0; place < held(points); place++) {
+            if (is_known(image + points_at(i - 1), points + place_at(place))) {
+                return 0;
+            }
+        }
+    }
+    return 1;
+}
+
+static int is_faultless(size_t n, const uint8_t *image)
+{
+    const size_t first = fault("point-one-sheet") ? 1 : SHEETS;
+    const size_t with_points = fault("point-seven-sheets") ? SHEETS - 1 : first;
+    for (size_t i = 0; i < SHEETS; i++) {
+        if (!is_map(n, image + i * STRIDE, n) || (i < with_points && !points_pass(n, image + points_at(i)))) {
+            return 0;
+        }
+    }
+    return !fault("point-sheets") || names_differ_between_sheets(image);
+}
+
+/* ---- Start, Add, Clear ---------------------------------------------------- */
+
 uint32_t probe_bench_start(size_t n, uint8_t *image, size_t image_len)
 {
     if (!is_image(image_len)) {
         return NO_IMAGE;
     }
-    memset(image, 0, IMAGE);
+    memset(image, 0, fault("start-points") ? IMAGE_V2 : IMAGE);
     if (!is_size(n)) {
         return 1;
     }
     image[SIZE_AT] = (uint8_t)n;
     for (size_t i = 0; i < SHEETS; i++) {
-        for (size_t x = 0; x < n; x++) {
-            image[i * STRIDE + x] = (uint8_t)x;
-        }
+        put_identity(image + i * STRIDE, n);
     }
-    image[IMAGE - 1] = (uint8_t)fault("start");
+    image[IMAGE_V2 - 1] = (uint8_t)fault("start");
     return 0;
 }
 
@@ -713,7 +876,7 @@ uint32_t probe_bench_add(uint8_t *image, size_t image_len, size_t n,
     if (sheet >= SHEETS || x >= n || y >= n) {
         return 7;
     }
-    if (image[SIZE_AT] != n || !has_maps(n, image)) {
+    if (image[SIZE_AT] != n || !is_faultless(n, image)) {
         return 8;
     }
     uint8_t m[STRIDE];
@@ -728,7 +891,23 @@ uint32_t probe_bench_add(uint8_t *image, size_t image_len, size_t n,
     }
     put_little(image + TALLY_AT, fault("tally-four") ? 4 : 8, raised(tally, lost));
     memcpy(image + (fault("other-sheet") ? sheet ^ 1 : sheet) * STRIDE, m, n);
+    if (fault("add-points")) {
+        memcpy(image + points_at(sheet) + place_at(0) + NAME, m, n);
+    }
     return 0;
+}
+
+/* 1, 7 and 8 of a call on a sheet. */
+static uint32_t sheet_reason(const uint8_t *image, size_t sheet)
+{
+    const size_t n = image[SIZE_AT];
+    if (!is_size(n)) {
+        return 1;
+    }
+    if (sheet >= SHEETS) {
+        return fault("point-eight-first") && !is_faultless(n, image) ? 8 : 7;
+    }
+    return is_faultless(n, image) ? 0 : 8;
 }
 
 uint32_t probe_bench_clear(uint8_t *image, size_t image_len, size_t sheet)
@@ -736,25 +915,155 @@ uint32_t probe_bench_clear(uint8_t *image, size_t image_len, size_t sheet)
     if (!is_image(image_len)) {
         return NO_IMAGE;
     }
-    const size_t n = image[SIZE_AT];
-    if (!is_size(n)) {
-        return 1;
+    const uint32_t reason = sheet_reason(image, sheet);
+    if (reason) {
+        return reason;
     }
-    if (sheet >= SHEETS) {
-        return 7;
-    }
-    if (!has_maps(n, image)) {
-        return 8;
-    }
-    for (size_t x = 0; x < n; x++) {
-        image[sheet * STRIDE + x] = (uint8_t)x;
-    }
+    put_identity(image + sheet * STRIDE, image[SIZE_AT]);
     if (fault("clear-tally")) {
         image[TALLY_AT] = 0;
     }
     if (fault("clear-high")) {
         memset(image + TALLY_AT + 4, 0, 4);
     }
+    if (fault("clear-points")) {
+        image[points_at(sheet)] = 0;
+    }
+    return 0;
+}
+
+/* ---- Set, Return, Forget -------------------------------------------------- */
+
+/* 255, and 1, 7 and 8. */
+static uint32_t point_reason(const uint8_t *image, size_t image_len, size_t sheet, const uint8_t *name, size_t name_len)
+{
+    if (!is_image(image_len) || (name_len != NAME && !(name_len > NAME && fault("point-name-length")))) {
+        return NO_IMAGE;
+    }
+    const uint32_t reason = sheet_reason(image, sheet);
+    if (reason == 8 && fault("point-fifteen-first") && !is_known(image + points_at(sheet), name)) {
+        return 15;
+    }
+    if (reason == 0 && fault("point-top") && number_in(image + TALLY_AT, 8) == UINT64_MAX) {
+        return 13;
+    }
+    return reason;
+}
+
+static size_t sheet_meant(size_t sheet)
+{
+    return fault("point-narrow") ? (uint32_t)sheet : sheet;
+}
+
+/* The points among which the name is looked for. */
+static uint8_t *points_meant(uint8_t *image, size_t sheet, const uint8_t *name)
+{
+    for (size_t i = 0; i < SHEETS && fault("point-anywhere") && !is_known(image + points_at(sheet), name); i++) {
+        if (is_known(image + points_at(i), name)) {
+            return image + points_at(i);
+        }
+    }
+    return image + points_at(sheet);
+}
+
+/* The place that a Set writes, or their number where there is none. */
+static size_t place_to_set(const uint8_t *points, const uint8_t *name)
+{
+    const size_t count = held(points), place = place_of(points, name);
+    if (count == PLACES && place == count && fault("set-ninth")) {
+        return 0;
+    }
+    if (place < count && (fault("set-again") || (count == PLACES && fault("set-full")))) {
+        return count;
+    }
+    return place < count && fault("set-last") ? count - 1 : place;
+}
+
+uint32_t probe_bench_set(uint8_t *image, size_t image_len, size_t sheet, const uint8_t *name, size_t name_len)
+{
+    sheet = sheet_meant(sheet);
+    const uint32_t reason = point_reason(image, image_len, sheet, name, name_len);
+    if (reason) {
+        return reason;
+    }
+    uint8_t *points = points_meant(image, fault("set-sheet") ? sheet ^ 1 : sheet, name);
+    const size_t place = place_to_set(points, name);
+    if (place == PLACES) {
+        return fault("point-exchanged") ? 15 : 16;
+    }
+    uint8_t *point = points + place_at(place);
+    points[0] = (uint8_t)(points[0] + (place == held(points)));
+    memcpy(point, name, NAME);
+    memcpy(point + NAME, image + sheet * STRIDE, fault("set-bytes") ? image[SIZE_AT] : STRIDE);
+    if (fault("set-identity")) {
+        put_identity(point + NAME, image[SIZE_AT]);
+    }
+    return 0;
+}
+
+/* The sheet becomes the point's map. */
+static void go_back(uint8_t *image, size_t sheet, const uint8_t *map)
+{
+    const size_t n = image[SIZE_AT], before = blocks(n, image + sheet * STRIDE), after = blocks(n, map);
+    if (after > before && fault("return-joins")) {
+        return;
+    }
+    memcpy(image + sheet * STRIDE, map, fault("return-bytes") ? STRIDE : n);
+    if (before > after && fault("return-tally")) {
+        put_little(image + TALLY_AT, 8, number_in(image + TALLY_AT, 8) + before - after);
+    }
+}
+
+uint32_t probe_bench_return(uint8_t *image, size_t image_len, size_t sheet, const uint8_t *name, size_t name_len)
+{
+    sheet = sheet_meant(sheet);
+    const uint32_t reason = point_reason(image, image_len, sheet, name, name_len);
+    if (reason) {
+        return reason;
+    }
+    uint8_t *points = points_meant(image, sheet, name);
+    const size_t place = place_of(points, name), count = held(points);
+    if (place == count) {
+        return fault("point-exchanged") ? 16 : 15;
+    }
+    go_back(image, sheet, points + place_at(fault("return-first") ? 0 : place) + NAME);
+    if (place + 1 == count && fault("return-forgets")) {
+        points[0]--;
+    }
+    return 0;
+}
+
+/* The place is free, and the last of the points is behind no gap. */
+static void free_place(uint8_t *points, size_t place)
+{
+    const size_t last = held(points) - 1;
+    uint8_t *freed = points + place_at(place), *moved = points + place_at(last);
+    if (place < last && fault("forget-stays")) {
+        return;
+    }
+    if (fault("forget-shifts")) {
+        memmove(freed, freed + PLACE, (last - place) * PLACE);
+    } else if (!fault("forget-last")) {
+        memmove(freed, moved, fault("forget-name") ? NAME : PLACE);
+    }
+    if (fault("forget-zeros")) {
+        memset(moved, 0, PLACE);
+    }
+    points[0] = (uint8_t)last;
+}
+
+uint32_t probe_bench_forget(uint8_t *image, size_t image_len, size_t sheet, const uint8_t *name, size_t name_len)
+{
+    sheet = sheet_meant(sheet);
+    const uint32_t reason = point_reason(image, image_len, sheet, name, name_len);
+    if (reason) {
+        return reason;
+    }
+    uint8_t *points = points_meant(image, sheet, name);
+    if (!is_known(points, name)) {
+        return fault("point-exchanged") ? 16 : 15;
+    }
+    free_place(points, place_of(points, name));
     return 0;
 }
 
@@ -803,10 +1112,10 @@ static uint32_t old_reason(const uint8_t *old)
     return sized ? 0 : 1;
 }
 
-/* Into an image of zeros. */
-static void carry_over(const uint8_t *old, uint8_t *image)
+/* Into an image of zeros, whose tally has eight bytes; `width` is that of the old one. */
+static void carry_over(const uint8_t *old, size_t width, uint8_t *image)
 {
-    uint64_t tally = number_in(old + TALLY_AT, fault("convert-high") ? 2 : 4);
+    uint64_t tally = number_in(old + TALLY_AT, fault("convert-high") ? width - 2 : width);
     if (tally > UINT32_MAX / 2 && fault("convert-signed")) {
         tally += UINT64_MAX - UINT32_MAX;
     }
@@ -818,25 +1127,59 @@ static void carry_over(const uint8_t *old, uint8_t *image)
     put_little(image + TALLY_AT, fault("convert-behind") ? 4 : 8, tally);
 }
 
+/* A point without a name for each sheet's map. */
+static void add_points(uint8_t *image)
+{
+    for (size_t i = 0; i < SHEETS; i++) {
+        uint8_t *points = image + points_at(i);
+        points[0] = 1;
+        memcpy(points + place_at(0) + NAME, image + i * STRIDE, STRIDE);
+    }
+}
+
+/* Whether images of these lengths are an old bench and one of the kind behind it. */
+static int are_kinds(size_t old_len, size_t image_len, size_t old_wanted, size_t wanted)
+{
+    return (old_len == old_wanted || (old_len > old_wanted && fault("convert-length"))) &&
+           (image_len == wanted || (image_len > wanted && fault("convert-new-length")));
+}
+
+/* The bytes of the image that is made; 0 if it is none. */
+static size_t kind_made(size_t old_len, size_t image_len)
+{
+    if (are_kinds(old_len, image_len, IMAGE_V2, IMAGE)) {
+        return IMAGE;
+    }
+    if (are_kinds(old_len, image_len, IMAGE_V1, IMAGE_V2)) {
+        return IMAGE_V2;
+    }
+    if (are_kinds(old_len, image_len, IMAGE_V1, IMAGE) && fault("convert-across")) {
+        return IMAGE;
+    }
+    return are_kinds(old_len, image_len, IMAGE_V2, IMAGE_V2) && fault("convert-copy") ? IMAGE_V2 : 0;
+}
+
 uint32_t probe_bench_convert(const uint8_t *old, size_t old_len, uint8_t *image, size_t image_len)
 {
-    const int is_old = old_len == OLD_IMAGE || (old_len > OLD_IMAGE && fault("convert-length"));
-    const int is_new = image_len == IMAGE || (image_len > IMAGE && fault("convert-new-length"));
-    if (!is_old || !is_new) {
+    const size_t made = kind_made(old_len, image_len);
+    if (made == 0) {
         return NO_IMAGE;
     }
     const uint32_t reason = old_reason(old);
     if (reason == 0 || !fault("convert-unwritten")) {
-        memset(image, 0, fault("convert-behind") ? OLD_IMAGE : IMAGE);
+        memset(image, 0, fault("convert-behind") ? IMAGE_V1 : fault("convert-points") ? IMAGE_V2 : made);
     }
     if (reason == 0 || fault("convert-old")) {
-        carry_over(old, image);
+        carry_over(old, old_len < IMAGE_V2 ? 4 : 8, image);
+    }
+    if (reason == 0 && made == IMAGE && fault("convert-point")) {
+        add_points(image);
     }
     if (fault("convert-input")) {
         ((uint8_t *)old)[TALLY_AT] ^= 1;
     }
     if (fault("convert-after")) {
-        image[IMAGE]++;
+        image[made]++;
     }
     return reason;
 }

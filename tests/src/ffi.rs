@@ -270,6 +270,27 @@ pub mod probe {
             y: usize,
         ) -> u32;
         pub fn probe_bench_clear(image: *mut u8, image_len: usize, sheet: usize) -> u32;
+        pub fn probe_bench_set(
+            image: *mut u8,
+            image_len: usize,
+            sheet: usize,
+            name: *const u8,
+            name_len: usize,
+        ) -> u32;
+        pub fn probe_bench_return(
+            image: *mut u8,
+            image_len: usize,
+            sheet: usize,
+            name: *const u8,
+            name_len: usize,
+        ) -> u32;
+        pub fn probe_bench_forget(
+            image: *mut u8,
+            image_len: usize,
+            sheet: usize,
+            name: *const u8,
+            name_len: usize,
+        ) -> u32;
         pub fn probe_bench_convert(old: *const u8, old_len: usize, image: *mut u8, image_len: usize) -> u32;
     }
 }

@@ -4,7 +4,7 @@
 use outside_tests::algebras;
 use outside_tests::random::Rng;
 use outside_tests::reference::algebra::Algebra;
-use outside_tests::reference::bench::{self, Bench, BenchV1};
+use outside_tests::reference::bench::{self, Bench, BenchV1, BenchV2, Name, Sheet};
 use outside_tests::reference::brute::{self, Brute};
 use outside_tests::reference::desk::transcript;
 use outside_tests::reference::map;
@@ -138,35 +138,115 @@ fn longer_tally<E: Engine>(s: &mut Suite) {
     s.same("across the old top", raised(4_294_967_294, 3, turning, 0, 1), (0, 4_294_967_296, false));
     s.same("far from both", raised(7, 3, turning, 0, 1), (0, 9, false));
     let joined = bench::add(r, &Bench { tally: top - 1, ..bench::start(2).1 }, 2, &[], &[], 3, 0, 1).1;
-    s.same("the sheet at the top", joined.sheets[3][..2].to_vec(), vec![0, 0]);
+    s.same("the sheet at the top", joined.sheets[3].map[..2].to_vec(), vec![0, 0]);
     s.same("clear keeps the tally", bench::clear(&joined, 3).1.tally, top);
 }
 
 /// What an old bench becomes: 4,294,967,295 is a number like others, U's factors
 /// are on two sheets, and a byte past n is no fault.
 fn conversions(s: &mut Suite) {
-    let mut old = BenchV1 { n: 4, sheets: bench::start(4).1.sheets, tally: 4_294_967_295 };
-    old.sheets[0][..5].copy_from_slice(&[0, 1, 0, 1, 200]);
-    old.sheets[7][..4].copy_from_slice(&[0, 0, 2, 2]);
-    let whole = Bench { n: 4, sheets: old.sheets, tally: 4_294_967_295 };
-    s.same("accepted", bench::convert_v1(&old), (0, whole.clone()));
+    let mut maps = bench::start(4).1.maps();
+    maps[0][..5].copy_from_slice(&[0, 1, 0, 1, 200]);
+    maps[7][..4].copy_from_slice(&[0, 0, 2, 2]);
+    let first = BenchV1 { n: 4, maps, tally: 4_294_967_295 };
+    let second = BenchV2 { n: 4, maps, tally: 4_294_967_295 };
+    let whole = Bench { n: 4, sheets: maps.map(Sheet::bare), tally: 4_294_967_295 };
+    s.same("the first kind", bench::convert_v1(&first), (0, second.clone()));
+    s.same("the second kind", bench::convert_v2(&second), (0, whole.clone()));
     let r = &mut Reference::<Plain>::default();
     let (number, after) = bench::add(r, &whole, 4, &[1], &[1, 0, 3, 2], 0, 0, 1);
-    s.same("an Add after it", (number, after.tally, after.sheets[0][4]), (0, 4_294_967_296, 200));
-    let refused = |what: &str, s: &mut Suite, number: u32, change: &dyn Fn(&mut BenchV1)| {
-        let mut changed = old.clone();
+    s.same("an Add after it", (number, after.tally, after.sheets[0].map[4]), (0, 4_294_967_296, 200));
+    s.same("no point after it", bench::return_to(&whole, 0, [0; 8]).0, 15);
+    let refused = |what: &str, s: &mut Suite, number: u32, change: &dyn Fn(&mut BenchV2)| {
+        let mut changed = second.clone();
         change(&mut changed);
-        s.same(what, bench::convert_v1(&changed), (number, Bench::zeros()));
+        let first = BenchV1 { n: changed.n, maps: changed.maps, tally: 0 };
+        s.same(what, bench::convert_v1(&first), (number, BenchV2::zeros()));
+        s.same(what, bench::convert_v2(&changed), (number, Bench::zeros()));
     };
     refused("no elements", s, 1, &|b| b.n = 0);
     refused("65 elements", s, 1, &|b| b.n = 65);
-    refused("255 elements and no map", s, 1, &|b| (b.n, b.sheets[0][0]) = (255, 9));
-    refused("0 2 2 3 on the first sheet", s, 8, &|b| b.sheets[0][1] = 2);
-    refused("0 0 1 2 on the last sheet", s, 8, &|b| b.sheets[7][..4].copy_from_slice(&[0, 0, 1, 2]));
+    refused("255 elements and no map", s, 1, &|b| (b.n, b.maps[0][0]) = (255, 9));
+    refused("0 2 2 3 on the first sheet", s, 8, &|b| b.maps[0][1] = 2);
+    refused("0 0 1 2 on the last sheet", s, 8, &|b| b.maps[7][..4].copy_from_slice(&[0, 0, 1, 2]));
     refused("a fifth element with byte 200", s, 8, &|b| b.n = 5);
-    refused("an old bench of zeros", s, 1, &|b| {
-        *b = BenchV1 { n: 0, sheets: Bench::zeros().sheets, tally: 0 };
-    });
+    refused("zeros, as a refused conversion gives them", s, 1, &|b| *b = BenchV2::zeros());
+}
+
+/// A class hour over U, for one engine, with all that its sheet shows after each
+/// call: the number, sheet 2's map, the tally and how many points are held.
+fn class_hour<E: Engine>(s: &mut Suite) {
+    let r = &mut Reference::<E>::default();
+    let mut bench = bench::start(4).1;
+    let mut step = |what: &str, (number, after): (u32, Bench), due: (u32, [u8; 4], u64, usize)| -> Bench {
+        let sheet = &after.sheets[2];
+        s.same(
+            what,
+            (number, sheet.map[..4].to_vec(), after.tally, sheet.count),
+            (due.0, due.1.to_vec(), due.2, due.3),
+        );
+        after
+    };
+    let mut add = |bench: &Bench, x: usize, y: usize| bench::add(r, bench, 4, &[1], &[1, 0, 3, 2], 2, x, y);
+    let (half, rest): (Name, Name) = (*b"half    ", *b"the rest");
+    bench = step("a name unknown", bench::return_to(&bench, 2, half), (15, [0, 1, 2, 3], 0, 0));
+    bench = step("0 2 are joined, so 1 3", add(&bench, 0, 2), (0, [0, 1, 0, 1], 2, 0));
+    bench = step("half", bench::set_point(&bench, 2, half), (0, [0, 1, 0, 1], 2, 1));
+    bench = step("0 1 are joined too", add(&bench, 0, 1), (0, [0, 0, 0, 0], 3, 1));
+    bench = step("back: the tally stays", bench::return_to(&bench, 2, half), (0, [0, 1, 0, 1], 3, 1));
+    bench = step("2 3 are joined this time", add(&bench, 2, 3), (0, [0, 0, 0, 0], 4, 1));
+    bench = step("the rest", bench::set_point(&bench, 2, rest), (0, [0, 0, 0, 0], 4, 2));
+    bench = step("clear keeps the points", bench::clear(&bench, 2), (0, [0, 1, 2, 3], 4, 2));
+    bench = step("half once more", bench::return_to(&bench, 2, half), (0, [0, 1, 0, 1], 4, 2));
+    bench = step("on another sheet", bench::return_to(&bench, 3, half), (15, [0, 1, 0, 1], 4, 2));
+    bench = step("cleared again", bench::clear(&bench, 2), (0, [0, 1, 2, 3], 4, 2));
+    bench = step("half becomes the identity", bench::set_point(&bench, 2, half), (0, [0, 1, 2, 3], 4, 2));
+    bench = step("2 3 alone", add(&bench, 2, 3), (0, [0, 1, 2, 2], 5, 2));
+    bench = step("half is not what it was", bench::return_to(&bench, 2, half), (0, [0, 1, 2, 3], 5, 2));
+    bench = step("half is forgotten", bench::forget(&bench, 2, half), (0, [0, 1, 2, 3], 5, 1));
+    bench = step("and gone", bench::return_to(&bench, 2, half), (15, [0, 1, 2, 3], 5, 1));
+    bench = step("the rest, in another place", bench::return_to(&bench, 2, rest), (0, [0, 0, 0, 0], 5, 1));
+    for k in 1..8 {
+        let set = bench::set_point(&bench, 2, [k; 8]);
+        bench = step("up to eight", set, (0, [0, 0, 0, 0], 5, 1 + k as usize));
+    }
+    bench = step("a ninth", bench::set_point(&bench, 2, half), (16, [0, 0, 0, 0], 5, 8));
+    bench = step("one of the eight", bench::set_point(&bench, 2, rest), (0, [0, 0, 0, 0], 5, 8));
+    bench = step("one is forgotten", bench::forget(&bench, 2, [3; 8]), (0, [0, 0, 0, 0], 5, 7));
+    step("now there is room", bench::set_point(&bench, 2, half), (0, [0, 0, 0, 0], 5, 8));
+    let again = bench::start(4).1;
+    step("no points after Start", bench::forget(&again, 2, rest), (15, [0, 1, 2, 3], 0, 0));
+}
+
+/// What is reason 8 of points, and what is none; 1, 7 and 8 go before 15 and 16.
+fn faulty_points(s: &mut Suite) {
+    let (one, two): (Name, Name) = (*b"point  1", *b"point  2");
+    let mut good = bench::start(3).1;
+    for name in [one, two] {
+        good = bench::set_point(&good, 6, name).1;
+    }
+    let mut drawn = |what: &str, numbers: [u32; 4], change: &dyn Fn(&mut Bench)| {
+        let mut changed = good.clone();
+        change(&mut changed);
+        let found = [
+            bench::set_point(&changed, 0, one),
+            bench::return_to(&changed, 6, two),
+            bench::forget(&changed, 6, [9; 8]),
+            bench::clear(&changed, 8),
+        ];
+        s.same(what, found.map(|(number, _)| number), numbers);
+    };
+    drawn("as it is", [0, 0, 15, 7], &|_| {});
+    drawn("nine points", [8, 8, 8, 7], &|b| b.sheets[1].count = 9);
+    drawn("255 points", [8, 8, 8, 7], &|b| b.sheets[7].count = 255);
+    drawn("0 2 2 under a name", [8, 8, 8, 7], &|b| b.sheets[6].points[1].map[1] = 2);
+    drawn("the same in a free place", [0, 0, 15, 7], &|b| b.sheets[6].points[2].map[1] = 2);
+    drawn("and past n", [0, 0, 15, 7], &|b| b.sheets[6].points[1].map[3] = 9);
+    drawn("two of one name", [8, 8, 8, 7], &|b| b.sheets[6].points[0].name = two);
+    drawn("one of them free", [0, 0, 15, 7], &|b| b.sheets[6].points[7].name = two);
+    drawn("one of them on another sheet", [0, 0, 15, 7], &|b| b.sheets[5] = b.sheets[6]);
+    drawn("no elements, and nine points", [1, 1, 1, 1], &|b| (b.n, b.sheets[0].count) = (0, 9));
+    drawn("zeros", [1, 1, 1, 1], &|b| *b = Bench::zeros());
 }
 
 /// Whether both engines agree on everything about one algebra.
@@ -243,7 +323,10 @@ pub fn suites(run: &mut Run) {
     run.suite("reference: document 02's space for factors, plain", factor_space::<Plain>);
     run.suite("reference: document 02's longer tally, by brute force", longer_tally::<Brute>);
     run.suite("reference: document 02's longer tally, plain", longer_tally::<Plain>);
-    run.suite("reference: document 02's conversion of a bench", conversions);
+    run.suite("reference: document 02's conversions of a bench", conversions);
+    run.suite("reference: a class hour with points, by brute force", class_hour::<Brute>);
+    run.suite("reference: a class hour with points, plain", class_hour::<Plain>);
+    run.suite("reference: faulty points", faulty_points);
     run.suite("reference: brute force and plain agree, n to 5", |s| many(s, 5, 300, 6000));
     run.suite("reference: brute force and plain agree, n to 6", |s| many(s, 6, 250, 1000));
     run.suite("reference: pair places", |s| {

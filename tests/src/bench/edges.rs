@@ -7,7 +7,10 @@ use outside_tests::reference::bench::Bench;
 use outside_tests::reference::map::{identity, Map};
 use outside_tests::report::{Run, Suite};
 
-use super::{ask_add, ask_clear, image, some_sheets, Comparison, Pair};
+use super::calls::{ask_add, ask_clear, Pair};
+use super::images::{Image, IMAGE, IMAGE_V2};
+use super::material::some_bench;
+use super::Comparison;
 
 const TOP: u64 = 18_446_744_073_709_551_615;
 
@@ -73,19 +76,19 @@ fn losing(n: usize, lost: usize) -> (Algebra, usize, usize, Map) {
 fn row(comparison: &mut Comparison, tally: u64, n: usize, lost: usize, number: u32, after: u64) {
     let (algebra, x, y, map) = losing(n, lost);
     for sheet in 0..8 {
-        let mut bench = Bench { n, sheets: some_sheets(n, comparison.rng()), tally };
-        bench.sheets[sheet][..n].copy_from_slice(&identity(n));
+        let mut bench = Bench { tally, ..some_bench(n, comparison.rng()) };
+        bench.sheets[sheet].map[..n].copy_from_slice(&identity(n));
         let mut raised = bench.clone();
         if number == 0 {
             raised.tally = after;
-            raised.sheets[sheet][..n].copy_from_slice(&map);
+            raised.sheets[sheet].map[..n].copy_from_slice(&map);
         }
         let pair = Pair { algebra: algebra.clone(), sheet, x, y };
-        let found = ask_add(&image(&bench), &pair, comparison.rng());
+        let found = ask_add(&bench.image(), &pair, comparison.rng());
         let what = || format!("{tally} and {lost} more, n = {n}, sheet {sheet}");
         comparison.compare(found, (number, raised.clone()), what);
         let cleared = Bench { tally: after, ..bench };
-        let found = ask_clear(&image(&raised), sheet, comparison.rng());
+        let found = ask_clear(&raised.image(), sheet, comparison.rng());
         comparison.compare(found, (0, cleared), || format!("then the sheet is cleared: {}", what()));
     }
 }
@@ -111,7 +114,7 @@ fn by_bytes(s: &mut Suite) {
     let sheet = |map: [u8; 4]| [&map[..], &[77; 60]].concat();
     let shown = |first: [u8; 4], tally: [u8; 8]| {
         let others: Vec<u8> = (0..7).flat_map(|_| sheet([0, 1, 2, 3])).collect();
-        [&sheet(first)[..], &others, &[4], &tally].concat()
+        [&sheet(first)[..], &others, &[4], &tally, &[0; IMAGE - IMAGE_V2]].concat()
     };
     let u = Algebra { n: 4, arities: vec![1], cells: vec![1, 0, 3, 2] };
     let pair = Pair { algebra: u, sheet: 0, x: 3, y: 3 };

@@ -1,17 +1,19 @@
-//! Images of another length: each call answers 255 and writes nothing.
+//! Images and names of another length: each call answers 255 and writes nothing.
 
 use std::ptr::{null, null_mut};
 
 use outside_tests::algebras::bare;
 use outside_tests::report::{Run, Suite};
 
-use super::{
-    ask_add, ask_clear, ask_convert, ask_start, old_image, some_old_bench, Found, Pair, IMAGE, OLD_IMAGE,
-};
+use super::calls::{ask_add, ask_clear, ask_convert, ask_start, Found, Pair, PointCall, POINT_CALLS};
+use super::images::{Image, IMAGE, IMAGE_V1, IMAGE_V2};
+use super::material::{some_bench, some_bench_v2, some_name};
 use crate::ffi::probe;
 
-const LENGTHS: [usize; 17] =
-    [0, 1, 512, 513, 516, 517, 518, 519, 520, 521, 522, 523, 525, 529, 1034, 1042, 5137];
+const LENGTHS: [usize; 20] =
+    [0, 1, 512, 513, 516, 517, 518, 519, 520, 521, 522, 525, 529, 1042, 4560, 5136, 5137, 5138, 5201, 10274];
+
+const NAME_LENGTHS: [usize; 10] = [0, 1, 4, 7, 8, 9, 15, 16, 64, 72];
 
 fn check(s: &mut Suite, what: &str, found: Found, lent: &[u8]) {
     let good = found.number == 255 && found.image == lent && found.untouched;
@@ -23,11 +25,11 @@ fn of_length(bytes: &[u8], length: usize, s: &mut Suite) -> Vec<u8> {
     [bytes, &s.rng.bytes(length)].concat()[..length].to_vec()
 }
 
-/// Start, Add and Clear, which the length goes before: 1 and 7 would apply.
+/// The length of the image goes before 1 and 7.
 fn calls(s: &mut Suite) {
     for length in LENGTHS.into_iter().filter(|&length| length != IMAGE) {
         for n in [0, 2, 3, 64, 65] {
-            let good = old_image(&some_old_bench(n.clamp(1, 64), &mut s.rng));
+            let good = some_bench(n.clamp(1, 64), &mut s.rng).image();
             let lent = of_length(&good, length, s);
             let found = ask_start(n, &lent, &mut s.rng);
             check(s, &format!("start {n}"), found, &lent);
@@ -37,6 +39,9 @@ fn calls(s: &mut Suite) {
                 let pair = Pair { algebra: bare(n), sheet, x: 0, y: 1 };
                 let found = ask_add(&lent, &pair, &mut s.rng);
                 check(s, &format!("add {pair:?}"), found, &lent);
+                for call in POINT_CALLS {
+                    try_name(s, call, &lent, sheet, 8);
+                }
             }
         }
     }
@@ -44,20 +49,52 @@ fn calls(s: &mut Suite) {
     s.same("clear, no image", unsafe { probe::probe_bench_clear(null_mut(), 0, 0) }, 255);
     let added = unsafe { probe::probe_bench_add(null_mut(), 0, 2, null(), 0, null(), 0, 0, 0, 1) };
     s.same("add, no image", added, 255);
+    for call in POINT_CALLS {
+        let found = unsafe { call.function()(null_mut(), 0, 0, [0; 8].as_ptr(), 8) };
+        s.same("a name and no image", found, 255);
+        s.same("neither", unsafe { call.function()(null_mut(), 0, 0, null(), 0) }, 255);
+    }
 }
 
-/// The length of either image goes before 1 and 8.
+/// A name of this length, where the image or the name has another than its own.
+fn try_name(s: &mut Suite, call: PointCall, image: &[u8], sheet: usize, length: usize) {
+    let name = some_name(&mut s.rng);
+    let given = of_length(&name, length, s);
+    let found = call.ask(image, sheet, &given, &mut s.rng);
+    check(s, &format!("{call:?} {given:?}, sheet {sheet}"), found, image);
+}
+
+/// The length of the name goes before 1, 7 and 8; and is no cause where the
+/// image is of another length anyhow.
+fn names(s: &mut Suite) {
+    for length in NAME_LENGTHS.into_iter().filter(|&length| length != 8) {
+        for call in POINT_CALLS {
+            let zeros = vec![0; IMAGE];
+            let mut bench = some_bench(5, &mut s.rng);
+            let good = bench.image();
+            bench.sheets[3].count = 9;
+            for image in [&good, &bench.image(), &zeros, &good[..IMAGE_V2].to_vec()] {
+                for sheet in [0, 7, 8, usize::MAX] {
+                    try_name(s, call, image, sheet, length);
+                }
+            }
+        }
+    }
+}
+
+/// The lengths of the two images say which conversion is meant, and go before 1
+/// and 8.
 fn conversions(s: &mut Suite) {
     for old_length in LENGTHS {
         for length in LENGTHS {
-            if (old_length, length) == (OLD_IMAGE, IMAGE) {
+            if [(IMAGE_V1, IMAGE_V2), (IMAGE_V2, IMAGE)].contains(&(old_length, length)) {
                 continue;
             }
             for n in [0, 1, 4, 64, 65] {
-                let mut old = some_old_bench(n.clamp(1, 64), &mut s.rng);
+                let mut old = some_bench_v2(n.clamp(1, 64), &mut s.rng);
                 old.n = n;
-                old.sheets[3][0] = s.rng.below(2) as u8;
-                let given = of_length(&old_image(&old), old_length, s);
+                old.maps[3][0] = s.rng.below(2) as u8;
+                let given = of_length(&old.image(), old_length, s);
                 let lent = s.rng.bytes(length);
                 let found = ask_convert(&given, &lent, &mut s.rng);
                 check(s, &format!("convert {old:?}, {old_length} bytes"), found, &lent);
@@ -65,14 +102,16 @@ fn conversions(s: &mut Suite) {
         }
     }
     // Where an image is none, the other one may be right.
-    let given = old_image(&some_old_bench(4, &mut s.rng));
+    let given = some_bench_v2(4, &mut s.rng).image();
     let lent = s.rng.bytes(IMAGE);
     let mut out = lent.clone();
     let (old, image) = (given.as_ptr(), out.as_mut_ptr());
     for (what, number) in [
         ("neither image", unsafe { probe::probe_bench_convert(null(), 0, null_mut(), 0) }),
         ("no old image", unsafe { probe::probe_bench_convert(null(), 0, image, IMAGE) }),
-        ("no new image", unsafe { probe::probe_bench_convert(old, OLD_IMAGE, null_mut(), 0) }),
+        ("no old image", unsafe { probe::probe_bench_convert(null(), 0, image, IMAGE_V2) }),
+        ("no new image", unsafe { probe::probe_bench_convert(old, IMAGE_V2, null_mut(), 0) }),
+        ("no new image", unsafe { probe::probe_bench_convert(old, IMAGE_V1, null_mut(), 0) }),
     ] {
         s.same(what, number, 255);
     }
@@ -81,5 +120,6 @@ fn conversions(s: &mut Suite) {
 
 pub fn suites(run: &mut Run) {
     run.suite("probe: bench lengths", calls);
+    run.suite("probe: bench name lengths", names);
     run.suite("probe: bench conversion, lengths", conversions);
 }

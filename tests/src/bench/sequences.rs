@@ -1,67 +1,77 @@
 //! Lists of calls, each on the bench that the one before gave, which begin with
-//! a Start, an old bench's conversion, or a bench that no call gave.
+//! a Start, with an old bench's conversions, or with a bench that no call gave.
 
 use outside_tests::algebras;
 use outside_tests::random::Rng;
-use outside_tests::reference::bench::{Bench, Sheets, OLD_TOP, TOP};
+use outside_tests::reference::bench::{Bench, BenchV1, Maps, Name, OLD_TOP};
 use outside_tests::report::{Run, Suite};
 
-use super::{scribble, some_old_bench, Comparison, Pair};
+use super::calls::{Pair, POINT_CALLS};
+use super::faults::spoil_points;
+use super::material::{
+    scribble, some_bench, some_bench_v1, some_bench_v2, some_name, some_sheet, some_tally,
+};
+use super::Comparison;
 
-/// A tally to begin with: near a top, near another number at which a byte
-/// carries into the next, or anywhere.
-fn some_tally(n: usize, rng: &mut Rng) -> u64 {
-    let edge = match rng.below(8) {
-        0 | 1 => TOP,
-        2 | 3 => OLD_TOP,
-        4 | 5 => (1 << (8 * rng.within(1, 7))) - 1,
-        6 => return rng.next() >> rng.below(64),
-        _ => return 0,
-    };
-    edge - rng.below(2 * n + 2) as u64
-}
-
-/// Sheets and a size that no call gave.
-fn spoil(n: &mut usize, sheets: &mut Sheets, rng: &mut Rng) {
-    let (sheet, place) = (rng.below(8), rng.below(64));
+/// Maps and a size that no call gave.
+fn spoil(n: &mut usize, maps: &mut Maps, rng: &mut Rng) {
+    let (size, sheet, place) = ((*n).clamp(1, 64), rng.below(8), rng.below(64));
     match rng.below(5) {
         0 => *n = rng.below(256),
-        1 => sheets[sheet][place] = rng.byte(),
+        1 => maps[sheet][place] = rng.byte(),
         2 => *n = 0,
-        3 => scribble(*n, sheets, rng),
+        3 => maps.iter_mut().for_each(|map| scribble(size, map, rng)),
         _ => {
-            let blocks = rng.within(1, *n);
-            sheets[sheet][..*n].copy_from_slice(&rng.map(*n, blocks));
+            let blocks = rng.within(1, size);
+            maps[sheet][..size].copy_from_slice(&rng.map(size, blocks));
         }
     }
 }
 
+fn spoil_bench(bench: &mut Bench, rng: &mut Rng) {
+    if rng.once_in(2) {
+        return spoil_points(bench, rng);
+    }
+    let mut maps = bench.maps();
+    spoil(&mut bench.n, &mut maps, rng);
+    for (sheet, map) in bench.sheets.iter_mut().zip(maps) {
+        sheet.map = map;
+    }
+}
+
+fn old_bench(n: usize, rng: &mut Rng) -> BenchV1 {
+    let mut old = some_bench_v1(n, rng);
+    if rng.once_in(2) {
+        old.tally = OLD_TOP as u32 - rng.below(2 * n + 2) as u32;
+    }
+    if rng.once_in(8) {
+        spoil(&mut old.n, &mut old.maps, rng);
+    }
+    old
+}
+
+/// From the first kind in two steps, or from the second.
 fn converted(comparison: &mut Comparison, n: usize) -> Bench {
-    let mut old = some_old_bench(n, comparison.rng());
-    if comparison.rng().once_in(2) {
-        old.tally = OLD_TOP as u32 - comparison.rng().below(2 * n + 2) as u32;
+    let old = old_bench(n, comparison.rng());
+    let mut second = comparison.convert_v1(&old).1;
+    if comparison.rng().once_in(3) {
+        second = some_bench_v2(n, comparison.rng());
     }
-    if comparison.rng().once_in(8) {
-        spoil(&mut old.n, &mut old.sheets, comparison.rng());
-    }
-    comparison.convert(&old).1
+    comparison.convert_v2(&second).1
 }
 
 fn started(comparison: &mut Comparison, n: usize) -> Bench {
     let (_, mut bench) = comparison.start(n);
     bench.tally = some_tally(n, comparison.rng());
-    if comparison.rng().once_in(8) {
-        spoil(&mut bench.n, &mut bench.sheets, comparison.rng());
-    }
     bench
 }
 
-fn some_sheet(rng: &mut Rng) -> usize {
-    if rng.once_in(16) {
-        *rng.pick(&[8, 9, 255, 256, 1 << 32, usize::MAX])
-    } else {
-        rng.below(8)
-    }
+/// With points from the beginning; sometimes with one fault or two.
+fn made_up(comparison: &mut Comparison, n: usize) -> Bench {
+    let mut bench = some_bench(n, comparison.rng());
+    let faults = comparison.rng().below(8).saturating_sub(5);
+    (0..faults).for_each(|_| spoil_bench(&mut bench, comparison.rng()));
+    bench
 }
 
 fn some_element(n: usize, rng: &mut Rng) -> usize {
@@ -82,14 +92,28 @@ fn some_pair(n: usize, limit: usize, rng: &mut Rng) -> Pair {
     Pair { algebra, sheet: some_sheet(rng), x: some_element(n, rng), y: some_element(n, rng) }
 }
 
-/// A Clear or an Add.
-pub(super) fn some_call(comparison: &mut Comparison, bench: &Bench, n: usize, limit: usize) -> (u32, Bench) {
-    if comparison.rng().once_in(5) {
-        let sheet = some_sheet(comparison.rng());
-        comparison.clear(bench, sheet)
-    } else {
-        let pair = some_pair(n, limit, comparison.rng());
-        comparison.add(bench, &pair)
+/// Often a name that the sheet holds, or has forgotten.
+fn name_for(bench: &Bench, sheet: usize, rng: &mut Rng) -> Name {
+    match bench.sheets.get(sheet) {
+        Some(sheet) if rng.once_in(2) => rng.pick(&sheet.points).name,
+        _ => some_name(rng),
+    }
+}
+
+/// An Add, a Clear or a call of points.
+pub fn some_call(comparison: &mut Comparison, bench: &Bench, n: usize, limit: usize) -> (u32, Bench) {
+    let sheet = some_sheet(comparison.rng());
+    match comparison.rng().below(10) {
+        0 => comparison.clear(bench, sheet),
+        1..=4 => {
+            let pair = some_pair(n, limit, comparison.rng());
+            comparison.add(bench, &pair)
+        }
+        _ => {
+            let call = *comparison.rng().pick(&POINT_CALLS);
+            let name = name_for(bench, sheet, comparison.rng());
+            comparison.point(call, bench, sheet, name)
+        }
     }
 }
 
@@ -97,12 +121,12 @@ fn sequences(s: &mut Suite) {
     let mut comparison = Comparison::new(s);
     // How often a call carried into each byte of the tally.
     let mut carries = [0u32; 8];
-    for round in 0..10_000 {
+    for round in 0..8_000 {
         let limit = if round % 30 == 0 { 64 } else { 6 };
         let n = comparison.rng().within(1, limit);
-        let begin = if round % 3 == 0 { converted } else { started };
+        let begin = [converted, started, made_up][round % 3];
         let mut bench = begin(&mut comparison, n);
-        for _ in 0..12 {
+        for _ in 0..20 {
             let (_, after) = some_call(&mut comparison, &bench, n, limit);
             for (k, count) in carries.iter_mut().enumerate() {
                 *count += (bench.tally >> (8 * k) != after.tally >> (8 * k)) as u32;
@@ -113,11 +137,11 @@ fn sequences(s: &mut Suite) {
             return;
         }
     }
-    comparison.must_have_seen(&[0, 1, 2, 3, 4, 5, 6, 7, 8, 13]);
+    comparison.must_have_seen(&[0, 1, 2, 3, 4, 5, 6, 7, 8, 13, 15, 16]);
     let few = carries.iter().any(|&count| count < 20);
     s.check(!few, || format!("  too few calls carried into a byte of the tally: {carries:?}"));
 }
 
 pub fn suites(run: &mut Run) {
-    run.suite("probe: bench add and clear", sequences);
+    run.suite("probe: bench lists of calls", sequences);
 }

@@ -1,4 +1,4 @@
-//! A reference implementation of document 01 and of document 02's first three
+//! A reference implementation of document 01 and of document 02's first five
 //! requests, written from these alone and for plainness: every service, twice
 //! where a definition can be searched.
 //!
@@ -7,7 +7,7 @@
 //! - `brute`: every notion by its definition, searching all maps over n
 //! - `plain`: the same notions in polynomial time, for n up to 64
 //! - `service`: the services with their refusals and lent bytes
-//! - `bench`: the eight sheets and the tally, and an old bench's conversion
+//! - `bench`: the eight sheets with their points, the tally, and old benches' conversions
 //! - `text`: algebra texts, their reader and their writer
 //! - `desk`: the text of the desk program
 
