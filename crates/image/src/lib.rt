@@ -87,7 +87,7 @@ fn copy_name(bytes: &[u8], name: &mut [u8; NAME_BYTES])
 }
 
 // The 8 bytes from `from` on.
-fn read_name(bytes: &[u8], from: usize) -> [u8; NAME_BYTES]
+pub fn read_name(bytes: &[u8], from: usize) -> [u8; NAME_BYTES]
     requires { ⌜ from + 8 ≤ length (now bytes) ⌝ }
     ensures { λ r. ⌜ r ≡ part from 8 (now (bytes .entry)) ⌝ }
 {

@@ -1,5 +1,5 @@
 -- The definitions of what the tests call, by their cases: a place's number, the part that Prefer hands back, bytes of a length that is asked for, a call
--- over an image.
+-- over an image, with a name, and a conversion.
 use Prim.Native.Nat.{ℕ, _<_}
 use mathlib.Core.Bool.{Bool, true, false}
 use mathlib.Core.List.{List}
@@ -7,11 +7,14 @@ use mathlib.Core.Path.{_≡_, refl, sym, ap, _∙_}
 use native.Mathlib.Omega.{arith}
 use lib.Dec.{eqb, eqb→eq}
 use lib.ListN.{length}
+use lib.Seq.{take-all}
 use denote.Ref.{RefT, now}
-use Rattle.bench.specs.Conversion.{convertV1Call}
+use Rattle.bench.specs.Conversion.{convertV1Call, convertV2Call}
 use Rattle.bench.specs.Outcome.{answerOutcome}
 use Rattle.bench.specs.declared.Bench.{Bench}
 use Rattle.bench.specs.declared.conversion.BenchV1.{BenchV1}
+use Rattle.bench.specs.declared.conversion.BenchV2.{BenchV2}
+use Rattle.bench.specs.declared.conversion.BenchedV2.{BenchedV2}
 use Rattle.bench.specs.declared.Benched.{Benched}
 use Rattle.equivalence.specs.Outcome.{Outcome, packed}
 use Rattle.equivalence.specs.Calls.{preferCheck, earlierOf, Preferred}
@@ -23,8 +26,8 @@ use Rattle.equivalence.specs.declared.Check.the-variants.{Passed, Failed}
 use Rattle.equivalence.specs.declared.Place.the-variants.{At}
 use Rattle.equivalence.proofs.Places.{place-index}
 use Rattle.equivalence.proofs.Tests.{eq→eqb, pick, pick-yes, pick-no}
-use Rattle.image.specs.Image.{imageOf, benchIn, benchV1In}
-use Rattle.probe.specs.Calls.{preferred, ofLength, benchShown, imageCall, oldImageCall}
+use Rattle.image.specs.Image.{part, imageOf, imageV2Of, benchIn, benchV2In, benchV1In}
+use Rattle.probe.specs.Calls.{preferred, ofLength, benchShown, imageCall, namedCall, benchV2Shown, firstImageCall, oldImageCall}
 
 -- ---- places
 
@@ -79,35 +82,76 @@ unfolding benchShown
 bench-shown r number after e f = rw (e, f)
 
 module _ (call : Bench → Benched) (image : List ℕ) where
-  pub image-other : ¬ (length image ≡ 521) → (255, image) ≡ imageCall call image
+  pub image-other : ¬ (length image ≡ 5137) → (255, image) ≡ imageCall call image
   unfolding imageCall
-  image-other h = sym (other-length 521 image _ _ h)
+  image-other h = sym (other-length 5137 image _ _ h)
 
   -- by its steps: the bench read, the call made, what it gave shown
-  pub image-called : length image ≡ 521 → (before : Bench) → before ≡ benchIn image → (r : Benched) → r ≡ call before → (after : ℕ × List ℕ)
+  pub image-called : length image ≡ 5137 → (before : Bench) → before ≡ benchIn image → (r : Benched) → r ≡ call before → (after : ℕ × List ℕ)
       → after ≡ benchShown r → after ≡ imageCall call image
   unfolding imageCall
-  image-called e before f r g after h = rw (h, g, f) (sym (right-length 521 image _ _ e))
+  image-called e before f r g after h = rw (h, g, f) (sym (right-length 5137 image _ _ e))
 
 -- a call that looks at no bench
-pub image-given : (given : Benched) (image : List ℕ) → length image ≡ 521 → (r : Benched) → r ≡ given → (after : ℕ × List ℕ) → after ≡ benchShown r
+pub image-given : (given : Benched) (image : List ℕ) → length image ≡ 5137 → (r : Benched) → r ≡ given → (after : ℕ × List ℕ) → after ≡ benchShown r
     → after ≡ imageCall (λ b. given) image
 image-given given image e r f after g = image-called (λ b. given) image e (benchIn image) refl r f after g
 
--- a conversion, over two images
+-- a call of a point, over an image and a name
+module _ (call : Bench → List ℕ → Benched) (image name : List ℕ) where
+  pub name-other : ¬ (length name ≡ 8) → (255, image) ≡ namedCall call image name
+  unfolding namedCall
+  name-other h = sym (other-length 8 name _ _ h)
+
+  module _ (e : length name ≡ 8) where
+    named-read : imageCall (λ b. call b name) image ≡ namedCall call image name
+    unfolding namedCall
+    named-read = sym (right-length 8 name _ _ e)
+
+    pub named-other : ¬ (length image ≡ 5137) → (255, image) ≡ namedCall call image name
+    named-other h = image-other _ image h ∙ named-read
+
+    pub named-called : length image ≡ 5137 → (before : Bench) → before ≡ benchIn image → (point : List ℕ) → point ≡ part 0 8 name → (r : Benched) → r ≡ call before point
+        → (after : ℕ × List ℕ) → after ≡ benchShown r → after ≡ namedCall call image name
+    unfolding part
+    named-called f before g point i r h after k =
+        let whole : point ≡ name = i ∙ take-all 8 name (omega arith) in
+        image-called (λ b. call b name) image f before g r (h ∙ ap (call before) whole) after k ∙ named-read
+
+-- ---- a conversion, over two images
+
+pub second-shown : (r : BenchedV2) (number : ℕ) (after : List ℕ) → after ≡ imageV2Of (r .bench) → number ≡ packed (answerOutcome (r .answer))
+    → (number, after) ≡ benchV2Shown r
+unfolding benchV2Shown
+second-shown r number after e f = rw (e, f)
+
 module _ (old image : List ℕ) where
-  pub old-other : ¬ (length old ≡ 517) → (255, image) ≡ oldImageCall old image
+  pub first-other : ¬ (length image ≡ 521) → (255, image) ≡ firstImageCall old image
+  unfolding firstImageCall
+  first-other h = sym (other-length 521 image _ _ h)
+
+  pub first-called : length image ≡ 521 → (before : BenchV1) → before ≡ benchV1In old → (r : BenchedV2) → r ≡ convertV1Call before → (after : ℕ × List ℕ)
+      → after ≡ benchV2Shown r → after ≡ firstImageCall old image
+  unfolding firstImageCall
+  first-called e before f r g after h = rw (h, g, f) (sym (right-length 521 image _ _ e))
+
+  pub old-first : length old ≡ 517 → {after : ℕ × List ℕ} → after ≡ firstImageCall old image → after ≡ oldImageCall old image
   unfolding oldImageCall
-  old-other h = sym (other-length 517 old _ _ h)
+  old-first e f = f ∙ sym (right-length 517 old _ _ e)
 
-  module _ (e : length old ≡ 517) where
-    old-read : imageCall (λ b. convertV1Call (benchV1In old)) image ≡ oldImageCall old image
+  module _ (h : ¬ (length old ≡ 517)) where
+    pub old-other : ¬ (length old ≡ 521) → (255, image) ≡ oldImageCall old image
     unfolding oldImageCall
-    old-read = sym (right-length 517 old _ _ e)
+    old-other i = sym (other-length 517 old _ _ h ∙ other-length 521 old _ _ i)
 
-    pub new-other : ¬ (length image ≡ 521) → (255, image) ≡ oldImageCall old image
-    new-other h = image-other _ image h ∙ old-read
+    module _ (e : length old ≡ 521) where
+      old-second : imageCall (λ b. convertV2Call (benchV2In old)) image ≡ oldImageCall old image
+      unfolding oldImageCall
+      old-second = sym (other-length 517 old _ _ h ∙ right-length 521 old _ _ e)
 
-    pub old-called : length image ≡ 521 → (before : BenchV1) → before ≡ benchV1In old → (r : Benched) → r ≡ convertV1Call before → (after : ℕ × List ℕ)
-        → after ≡ benchShown r → after ≡ oldImageCall old image
-    old-called f before g r h after i = image-given _ image f r (h ∙ ap convertV1Call g) after i ∙ old-read
+      pub new-other : ¬ (length image ≡ 5137) → (255, image) ≡ oldImageCall old image
+      new-other i = image-other _ image i ∙ old-second
+
+      pub old-called : length image ≡ 5137 → (before : BenchV2) → before ≡ benchV2In old → (r : Benched) → r ≡ convertV2Call before → (after : ℕ × List ℕ)
+          → after ≡ benchShown r → after ≡ oldImageCall old image
+      old-called f before g r i after k = image-given _ image f r (i ∙ ap convertV2Call g) after k ∙ old-second

@@ -7,18 +7,21 @@ ghost use Rattle.algebra.specs.Algebra.{algebraIn};
 ghost use Rattle.congruence.specs.Calls.{quotientCall, certifyCall};
 ghost use Rattle.equivalence.specs.Outcome.{packed, writtenOutcome};
 ghost use Rattle.congruence.specs.Outcome.{dividedOutcome, certifiedOutcome};
-ghost use Rattle.bench.specs.Calls.{startCall, addCall, clearCall};
-ghost use Rattle.probe.specs.Calls.{placeNumber, preferCopy, benchShown, imageCall, oldImageCall, headCall};
+ghost use Rattle.bench.specs.Calls.{startCall, addCall, clearCall, setCall, returnCall, forgetCall};
+ghost use Rattle.probe.specs.Calls.{placeNumber, preferCopy, benchShown, imageCall, namedCall, benchV2Shown, firstImageCall, oldImageCall, headCall};
 ghost use Rattle.head.specs.Head.{textNumber};
 ghost use Rattle.algebratext.specs.Calls.{writeCall};
 use bench::Benched;
+use bench::BenchedV2;
 use head::HEAD_LENGTH;
 use image::LENGTH as IMAGE_LENGTH;
-use image::LENGTH_V1 as OLD_IMAGE_LENGTH;
+use image::LENGTH_V1 as IMAGE_V1_LENGTH;
+use image::LENGTH_V2 as IMAGE_V2_LENGTH;
+use sheet::NAME_BYTES;
 
 mod numbers;
 
-// The answer to an image of another length.
+// The answer to an image, or a name, of another length.
 const OTHER_LENGTH: u32 = 255;
 
 // Meet: the reason.
@@ -82,7 +85,7 @@ pub extern "C" fn probe_certify(n: usize, arities: &[u8], cells: &[u8], maps: &[
 
 // Writes the image of the bench that a call gave, and gives the number of its answer.
 fn show(done: Benched, bytes: &mut [u8]) -> u32
-    requires { ⌜ length (now bytes) ≡ 521 ⌝ }
+    requires { ⌜ length (now bytes) ≡ 5137 ⌝ }
     ensures { λ r. ⌜ (r, now (bytes .exit)) ≡ benchShown done ⌝ }
 {
     let after = done.bench;
@@ -137,19 +140,98 @@ pub extern "C" fn probe_bench_clear(bytes: &mut [u8], sheet: usize) -> u32
     show(done, bytes)
 }
 
-// The conversion of an old bench, over its image and one for the new bench: the reason, or 255 where either has another length.
+// Set, over a bench's image and a name: the reason, or 255 where either has another length.
 #[no_mangle]
-pub extern "C" fn probe_bench_convert(old: &[u8], bytes: &mut [u8]) -> u32
-    ensures { λ r. ⌜ (r, now (bytes .exit)) ≡ oldImageCall (now (old .entry)) (now (bytes .entry)) ⌝ }
+pub extern "C" fn probe_bench_set(bytes: &mut [u8], sheet: usize, name: &[u8]) -> u32
+    ensures { λ r. ⌜ (r, now (bytes .exit)) ≡ namedCall (λ b p. setCall b sheet p) (now (bytes .entry)) (now (name .entry)) ⌝ }
 {
-    if old.len() != OLD_IMAGE_LENGTH {
+    if name.len() != NAME_BYTES {
         return OTHER_LENGTH;
     }
     if bytes.len() != IMAGE_LENGTH {
         return OTHER_LENGTH;
     }
+    let before = image::read(bytes);
+    let point = image::read_name(name, 0);
+    let done = bench::set_point(before, sheet, point);
+    show(done, bytes)
+}
+
+// Return, over a bench's image and a name: the reason, or 255 where either has another length.
+#[no_mangle]
+pub extern "C" fn probe_bench_return(bytes: &mut [u8], sheet: usize, name: &[u8]) -> u32
+    ensures { λ r. ⌜ (r, now (bytes .exit)) ≡ namedCall (λ b p. returnCall b sheet p) (now (bytes .entry)) (now (name .entry)) ⌝ }
+{
+    if name.len() != NAME_BYTES {
+        return OTHER_LENGTH;
+    }
+    if bytes.len() != IMAGE_LENGTH {
+        return OTHER_LENGTH;
+    }
+    let before = image::read(bytes);
+    let point = image::read_name(name, 0);
+    let done = bench::return_to(before, sheet, point);
+    show(done, bytes)
+}
+
+// Forget, over a bench's image and a name: the reason, or 255 where either has another length.
+#[no_mangle]
+pub extern "C" fn probe_bench_forget(bytes: &mut [u8], sheet: usize, name: &[u8]) -> u32
+    ensures { λ r. ⌜ (r, now (bytes .exit)) ≡ namedCall (λ b p. forgetCall b sheet p) (now (bytes .entry)) (now (name .entry)) ⌝ }
+{
+    if name.len() != NAME_BYTES {
+        return OTHER_LENGTH;
+    }
+    if bytes.len() != IMAGE_LENGTH {
+        return OTHER_LENGTH;
+    }
+    let before = image::read(bytes);
+    let point = image::read_name(name, 0);
+    let done = bench::forget(before, sheet, point);
+    show(done, bytes)
+}
+
+// Writes the image of the bench that the conversion into the second kind gave, and gives the number of its answer.
+fn show_v2(done: BenchedV2, bytes: &mut [u8]) -> u32
+    requires { ⌜ length (now bytes) ≡ 521 ⌝ }
+    ensures { λ r. ⌜ (r, now (bytes .exit)) ≡ benchV2Shown done ⌝ }
+{
+    let after = done.bench;
+    image::write_v2(after, bytes);
+    let answer = done.answer;
+    numbers::answer_number(answer)
+}
+
+// The conversion of a bench of the first kind.
+fn convert_first(old: &[u8], bytes: &mut [u8]) -> u32
+    requires { ⌜ length (now old) ≡ 517 ⌝ }
+    ensures { λ r. ⌜ (r, now (bytes .exit)) ≡ firstImageCall (now (old .entry)) (now (bytes .entry)) ⌝ }
+{
+    if bytes.len() != IMAGE_V2_LENGTH {
+        return OTHER_LENGTH;
+    }
     let before = image::read_v1(old);
     let done = bench::convert_v1(before);
+    show_v2(done, bytes)
+}
+
+// The conversion of an old bench, whose image's length tells its kind, over that and an image of the next kind: the reason, or 255 where either has
+// another length.
+#[no_mangle]
+pub extern "C" fn probe_bench_convert(old: &[u8], bytes: &mut [u8]) -> u32
+    ensures { λ r. ⌜ (r, now (bytes .exit)) ≡ oldImageCall (now (old .entry)) (now (bytes .entry)) ⌝ }
+{
+    if old.len() == IMAGE_V1_LENGTH {
+        return convert_first(old, bytes);
+    }
+    if old.len() != IMAGE_V2_LENGTH {
+        return OTHER_LENGTH;
+    }
+    if bytes.len() != IMAGE_LENGTH {
+        return OTHER_LENGTH;
+    }
+    let before = image::read_v2(old);
+    let done = bench::convert_v2(before);
     show(done, bytes)
 }
 

@@ -1,39 +1,51 @@
 -- `probe::probe_bench_convert` meets its contract.
 use native.Mathlib.Omega.{arith}
-use Rattle.probe.proofs.Probes.{old-other, new-other, old-called}
+use Rattle.probe.proofs.Probes.{old-first, old-other, new-other, old-called}
 use borrow.Author.Needs.{needs}
 use Rattle.probe.proofs.probe_bench_convert.Statement.{statement}
 use Rattle.probe.proofs.probe_bench_convert.Tie as tie
 
-returns : tie.Need-returns
-returns c = search (old-other, arith)
-
-returns-2 : tie.Need-returns-2
-returns-2 c = search (new-other, arith)
-
-read-v1-requires : tie.Need-read-v1-requires
-read-v1-requires c κs = search needs
-
-convert-v1-requires : tie.Need-convert-v1-requires
-convert-v1-requires c κs = search needs
-
-show-requires : tie.Need-show-requires
-show-requires c κs = search needs
+convert-first-requires : tie.Need-convert-first-requires
+convert-first-requires c κs = search needs
 
 same-length : tie.Need-same-length
 same-length c = search needs
 
+returns : tie.Need-returns
+returns c = search (old-first, arith)
+
+returns-2 : tie.Need-returns-2
+returns-2 c = search (old-other, arith)
+
 returns-3 : tie.Need-returns-3
-returns-3 c = search (old-called, arith)
+returns-3 c = search (new-other, arith)
+
+read-v2-requires : tie.Need-read-v2-requires
+read-v2-requires c κs = search needs
+
+convert-v2-requires : tie.Need-convert-v2-requires
+convert-v2-requires c κs = search needs
+
+show-requires : tie.Need-show-requires
+show-requires c κs = search needs
+
+same-length-2 : tie.Need-same-length-2
+same-length-2 c = search needs
+
+returns-4 : tie.Need-returns-4
+returns-4 c = search (old-called, arith)
 
 pub probe-bench-convert-spec : {M : Type 1} → statement M
 probe-bench-convert-spec =
     tie.close
     (tie.spec
+    convert-first-requires
+    same-length
     returns
     returns-2
-    read-v1-requires
-    convert-v1-requires
+    returns-3
+    read-v2-requires
+    convert-v2-requires
     show-requires
-    same-length
-    returns-3)
+    same-length-2
+    returns-4)
