@@ -135,25 +135,28 @@ struct Played {
     turns: usize,
 }
 
+fn ended(made: Benched, turns: usize) -> Played {
+    let bench = made.bench;
+    Played { bench, turns }
+}
+
+// What a call gave is kept as it is until the next: each copy of a bench would be timed.
 fn play(workload: u8, begun: Bench, cells: &[u8], turns: usize) -> Played {
-    let mut bench = begun;
+    let mut made = Benched {
+        answer: Answer::Done,
+        bench: begun,
+    };
     let mut number: usize = 0;
     while number < turns {
-        let made = turn(workload, bench, cells, number);
+        let bench = made.bench;
+        made = turn(workload, bench, cells, number);
         let answer = made.answer;
-        bench = made.bench;
         if !is_done(answer) {
-            return Played {
-                bench,
-                turns: number,
-            };
+            return ended(made, number);
         }
         number += 1;
     }
-    Played {
-        bench,
-        turns: number,
-    }
+    ended(made, number)
 }
 
 // The sum of the numbers so far, and the sum of all these sums.
