@@ -5,17 +5,16 @@
 use bench::Answer;
 use bench::Bench;
 use bench::Benched;
-use bench::Point;
 use bench::SHEETS;
-use bench::Sheet;
+use sheet::NAME_BYTES;
+use sheet::PLACES;
+use sheet::Point;
+use sheet::Sheet;
 
 // How many elements the group has.
 const SIZE: usize = 64;
 
 const CELLS: usize = 4096;
-
-// How many points a sheet holds.
-const PLACES: usize = 8;
 
 // The elements are lists of six bits, which are added without a carry.
 fn sum_of(x: usize, y: usize) -> u8 {
@@ -33,7 +32,7 @@ fn group_cells() -> [u8; CELLS] {
 }
 
 // Names of points differ in their last byte.
-fn name_of(place: usize) -> [u8; 8] {
+fn name_of(place: usize) -> [u8; NAME_BYTES] {
     let last = (place % PLACES) as u8;
     [b'p', b'o', b'i', b'n', b't', b' ', b' ', last]
 }
@@ -136,25 +135,28 @@ struct Played {
     turns: usize,
 }
 
+fn ended(made: Benched, turns: usize) -> Played {
+    let bench = made.bench;
+    Played { bench, turns }
+}
+
+// What a call gave is kept as it is until the next: each copy of a bench would be timed.
 fn play(workload: u8, begun: Bench, cells: &[u8], turns: usize) -> Played {
-    let mut bench = begun;
+    let mut made = Benched {
+        answer: Answer::Done,
+        bench: begun,
+    };
     let mut number: usize = 0;
     while number < turns {
-        let made = turn(workload, bench, cells, number);
+        let bench = made.bench;
+        made = turn(workload, bench, cells, number);
         let answer = made.answer;
-        bench = made.bench;
         if !is_done(answer) {
-            return Played {
-                bench,
-                turns: number,
-            };
+            return ended(made, number);
         }
         number += 1;
     }
-    Played {
-        bench,
-        turns: number,
-    }
+    ended(made, number)
 }
 
 // The sum of the numbers so far, and the sum of all these sums.

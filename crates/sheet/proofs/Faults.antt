@@ -5,29 +5,52 @@ use mathlib.Core.List.{List}
 use mathlib.Core.Path.{_≡_, sym, ap, _∙_}
 use native.Mathlib.Decide.{decLt}
 use native.Mathlib.Omega.{arith}
-use lib.Dec.{T, eqb, leb, leb→le, T-not}
+use lib.Dec.{T, leb, leb→le, T-not, not-T}
 use lib.ListN.{take}
 use borrow.Author.Tests.{le-leb, lt-leb, not-true, not-false}
 use Rattle.equivalence.specs.Equivalence.{isMap}
 use Rattle.equivalence.specs.Lists.{upTo, every}
 use Rattle.equivalence.proofs.Lists.{of-below}
-use Rattle.equivalence.proofs.Tests.{left, right}
-use Rattle.sheet.specs.Points.{pointIn, isNamedBelow, firstNamed, isPoint, isFaultless}
+use Rattle.equivalence.proofs.Tests.{both, left, right, T-of, not-T-of, false-is}
+use Rattle.sheet.specs.Points.{pointIn, isNamedBelow, isPoint, isFaultless}
 use Rattle.sheet.specs.Sheet.{mapOn}
-use Rattle.sheet.proofs.Places.{namedBelow-of, first-eqb}
+use Rattle.sheet.proofs.Places.{Named, namedBelow-of, of-namedBelow}
 use Rattle.sheet.specs.declared.Point.{Point}
 use Rattle.sheet.specs.declared.Sheet.{Sheet}
 
 -- ---- the tests as they are made
 
-module _ (n : ℕ) (places : List Point) (i : ℕ) {flag : Bool} (s : flag ≡ isMap n (take n (pointIn places i .map))) where
-  pub point-unmapped : not flag ≡ true → false ≡ isPoint n places i
-  unfolding isPoint
-  point-unmapped f = simp (sym s ∙ not-true flag f)
+module _ (n : ℕ) (places : List Point) (i : ℕ) where
+  -- the two parts of the test of place i
+  abbrev mapped : Bool
+  mapped = isMap n (take n (pointIn places i .map))
 
-  pub point-last : not flag ≡ false → (j : ℕ) → j ≡ firstNamed (pointIn places i .name) places i → eqb j i ≡ isPoint n places i
+  abbrev named : Bool
+  named = isNamedBelow (pointIn places i .name) places i
+
+  module _ {flag : Bool} (s : flag ≡ mapped) where
+    unmapped : not flag ≡ true → ¬ T (isPoint n places i)
+    unfolding isPoint
+    unmapped f t = not-T-of (sym s ∙ not-true flag f) (left mapped (not named) t)
+
+    pub point-right : not flag ≡ false → ((j : ℕ) → j < i → ¬ Named (pointIn places i .name) places j) → T (isPoint n places i)
+    unfolding isPoint
+    point-right f h =
+        both mapped (not named) (T-of (sym s ∙ not-false flag f)) (not-T named (λ t. let r = of-namedBelow _ places i t in h (r .0) (r .1) (r .2)))
+
+  alike : (j : ℕ) → j < i → Named (pointIn places i .name) places j → ¬ T (isPoint n places i)
   unfolding isPoint
-  point-last f j e = first-eqb _ _ i j e ∙ simp (sym s ∙ not-false flag f)
+  alike j l e t = T-not named (right mapped (not named) t) (namedBelow-of _ places i j l e)
+
+  module _ (count : ℕ) (h : i < count) where
+    not-every : ¬ T (isPoint n places i) → false ≡ every (isPoint n places) (upTo count)
+    not-every f = false-is _ (λ t. f (of-below count (isPoint n places) t i h))
+
+    pub points-unmapped : {flag : Bool} → flag ≡ mapped → not flag ≡ true → false ≡ every (isPoint n places) (upTo count)
+    points-unmapped s f = not-every (unmapped s f)
+
+    pub points-alike : (j : ℕ) → j < i → Named (pointIn places i .name) places j → false ≡ every (isPoint n places) (upTo count)
+    points-alike j l e = not-every (alike j l e)
 
 module _ (n : ℕ) (s : Sheet) {flag : Bool} (e : flag ≡ isMap n (take n (s .map))) where
   pub sheet-unmapped : not flag ≡ true → false ≡ isFaultless n s
@@ -58,8 +81,7 @@ pub record Faultless (n : ℕ) (s : Sheet) : Type 0 where
 module _ (n : ℕ) (s : Sheet) where
   module _ (right-all : (i : ℕ) → i < s .count → T (isPoint n (s .points) i)) where
     new-name : (i j : ℕ) → i < j → j < s .count → ¬ (pointIn (s .points) i .name ≡ pointIn (s .points) j .name)
-    unfolding isPoint
-    new-name i j h l e = T-not (isNamedBelow (pointIn (s .points) j .name) (s .points) j) (right (isMap n (take n (pointIn (s .points) j .map))) _ (right-all j l)) (namedBelow-of _ _ j i h e)
+    new-name i j h l e = alike n (s .points) j i h e (right-all j l)
 
     names-apart : Apart s
     names-apart i j h l e =

@@ -1,4 +1,5 @@
 pub mod SheetMaps
+pub mod MapSums
 pub mod Names
 pub mod Places
 pub mod Faults

@@ -1,11 +1,10 @@
 -- Places looked through by name: one of the first k has it, and which is the first.
 use Prim.Native.Nat.{ℕ, _<_}
-use mathlib.Core.Bool.{not}
 use mathlib.Core.List.{List}
-use mathlib.Core.Path.{_≡_, ap, _∙_}
+use mathlib.Core.Path.{_≡_, _∙_}
 use native.Mathlib.Omega.{arith}
-use lib.Dec.{T, eqb, ltb}
-use borrow.Author.Tests.{lt-ltb, le-ltb, eq-eqb, ne-eqb}
+use lib.Dec.{T, ltb}
+use borrow.Author.Tests.{lt-ltb, le-ltb}
 use Rattle.equivalence.specs.Lists.{upTo, any, first}
 use Rattle.equivalence.proofs.Lists.{any-of, of-any, first-found, first-none, first-is, member-upTo, of-upTo}
 use Rattle.equivalence.proofs.Tests.{T?, true-is, false-is}
@@ -62,11 +61,4 @@ module _ (name : List ℕ) (places : List Point) where
       elim (T? (isNamedBelow name places k)) [
         | yes t ↦ lt-ltb i k (let l = first-named k t .0 in omega arith) ∙ true-is _ t
         | no t ↦ le-ltb i k (let e = first-none-named k t in omega arith) ∙ false-is _ t
-      ]
-
-  pub first-eqb : (k i : ℕ) → i ≡ firstNamed name places k → eqb i k ≡ not (isNamedBelow name places k)
-  first-eqb k i f =
-      elim (T? (isNamedBelow name places k)) [
-        | yes t ↦ ne-eqb i k (λ e. let l = first-named k t .0 in omega arith) ∙ ap not (true-is (isNamedBelow name places k) t)
-        | no t ↦ eq-eqb i k (f ∙ first-none-named k t) ∙ ap not (false-is (isNamedBelow name places k) t)
       ]

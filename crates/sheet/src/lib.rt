@@ -9,6 +9,7 @@ ghost use Rattle.equivalence.specs.Lent.{written};
 ghost use Rattle.sheet.specs.Sheet.{zeroSheet, sheetWith};
 ghost use Rattle.sheet.specs.Points.{isFaultless};
 
+mod maps;
 pub mod points;
 
 // How many bytes a map is kept in.
@@ -68,13 +69,16 @@ pub fn with_identity(sheet: Sheet, n: usize) -> Sheet
     next
 }
 
-// Whether the first n bytes are a map over n.
+// Whether the first n bytes are a map over n. Of 64 elements the compiler makes code of its own.
 pub fn has_map(n: usize, map: &[u8; MAP_BYTES]) -> bool
     requires { ⌜ n ≤ 64 ⌝ }
     ensures { λ r. ⌜ r ≡ isMap n (take n (now (map .entry))) ⌝ }
 {
     let bytes = &map[..];
-    equivalence::map::is_map(n, &bytes[0..n])
+    if n == MAP_BYTES {
+        return maps::is_map(MAP_BYTES, bytes);
+    }
+    maps::is_map(n, &bytes[0..n])
 }
 
 // Whether the sheet is without fault over n.

@@ -43,22 +43,7 @@ fn first_named(places: [Point; PLACES], k: usize, name: [u8; NAME_BYTES]) -> usi
     k
 }
 
-// Whether the point in place i has a map over n, and a name that no place before it has.
-fn is_point(n: usize, places: [Point; PLACES], i: usize) -> bool
-    requires { ⌜ n ≤ 64 ⌝ }
-    requires { ⌜ i < 8 ⌝ }
-    ensures { λ r. ⌜ r ≡ isPoint n places i ⌝ }
-{
-    let point = places[i];
-    let map = point.map;
-    if !super::has_map(n, &map) {
-        return false;
-    }
-    let name = point.name;
-    first_named(places, i, name) == i
-}
-
-// Whether the first `count` places have points over n, under names that differ.
+// Whether the first `count` places have points over n, under names that differ. Both loops stand here, since places that are handed on are copied.
 pub fn all_right(n: usize, places: [Point; PLACES], count: usize) -> bool
     requires { ⌜ n ≤ 64 ⌝ }
     requires { ⌜ count ≤ 8 ⌝ }
@@ -66,8 +51,20 @@ pub fn all_right(n: usize, places: [Point; PLACES], count: usize) -> bool
 {
     let mut i = 0;
     while i < count {
-        if !is_point(n, places, i) {
+        let point = places[i];
+        let map = point.map;
+        if !super::has_map(n, &map) {
             return false;
+        }
+        let name = point.name;
+        let mut j = 0;
+        while j < i {
+            let before = places[j];
+            let taken = before.name;
+            if is_same_name(taken, name) {
+                return false;
+            }
+            j += 1;
         }
         i += 1;
     }
