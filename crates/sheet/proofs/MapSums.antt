@@ -13,7 +13,7 @@ use Rattle.kernel.specs.InnerKernel.{bit}
 use Rattle.equivalence.specs.Equivalence.{Map, byte, isMap}
 use Rattle.equivalence.proofs.Maps.{isMap-of, of-isMap}
 use Rattle.equivalence.proofs.Tests.{true-is, false-is}
-use Rattle.sheet.specs.InnerSums.{sum, above}
+use Rattle.sheet.specs.InnerSums.{sum, exceeding}
 
 -- ---- a loop that adds
 
@@ -56,23 +56,23 @@ sum-zeros (suc n) = omega (arith, sum-zeros n)
 -- ---- how many values are above
 
 module _ (f : ℕ → ℕ) where
-  above-no : (x : ℕ) → f x ≤ x → 0 ≡ above f x
-  unfolding above
-  above-no x h = sym (ap bit (le-ltb x (f x) h))
+  exceeding-no : (x : ℕ) → f x ≤ x → 0 ≡ exceeding f x
+  unfolding exceeding
+  exceeding-no x h = sym (ap bit (le-ltb x (f x) h))
 
-  of-above-no : (x : ℕ) → 0 ≡ above f x → f x ≤ x
-  unfolding above
-  of-above-no x e = elim (decLt x (f x)) [ yes l ↦ absurd (omega (arith, ap bit (lt-ltb x (f x) l))) | no l ↦ omega arith ]
+  of-exceeding-no : (x : ℕ) → 0 ≡ exceeding f x → f x ≤ x
+  unfolding exceeding
+  of-exceeding-no x e = elim (decLt x (f x)) [ yes l ↦ absurd (omega (arith, ap bit (lt-ltb x (f x) l))) | no l ↦ omega arith ]
 
-  pub none-above : (n : ℕ) {count : ℕ} → count ≡ sum n (above f) → count ≡ 0 → (x : ℕ) → x < n → f x ≤ x
-  none-above n e z x l = of-above-no x (of-sum-same (above f) (λ y. 0) n (λ y k. omega arith) (sum-zeros n ∙ sym z ∙ e) x l)
+  pub none-exceeding : (n : ℕ) {count : ℕ} → count ≡ sum n (exceeding f) → count ≡ 0 → (x : ℕ) → x < n → f x ≤ x
+  none-exceeding n e z x l = of-exceeding-no x (of-sum-same (exceeding f) (λ y. 0) n (λ y k. omega arith) (sum-zeros n ∙ sym z ∙ e) x l)
 
 -- ---- the test
 
-module _ (n : ℕ) (m : Map) {count : ℕ} (e : count ≡ sum n (above (byte m))) where
-  pub isMap-above : ¬ (count ≡ 0) → false ≡ isMap n m
-  isMap-above h =
-      false-is _ (λ t. h (e ∙ sym (sum-same (above (byte m)) (λ x. 0) n (λ x l. above-no (byte m) x (of-isMap n m t .low x l))) ∙ sum-zeros n))
+module _ (n : ℕ) (m : Map) {count : ℕ} (e : count ≡ sum n (exceeding (byte m))) where
+  pub isMap-exceeding : ¬ (count ≡ 0) → false ≡ isMap n m
+  isMap-exceeding h =
+      false-is _ (λ t. h (e ∙ sym (sum-same (exceeding (byte m)) (λ x. 0) n (λ x l. exceeding-no (byte m) x (of-isMap n m t .low x l))) ∙ sum-zeros n))
 
   pub isMap-sums : count ≡ 0 → length m ≡ n → {a b : ℕ} → a ≡ sum n (λ x. byte m (byte m x)) → b ≡ sum n (byte m) → eqb a b ≡ isMap n m
   isMap-sums z long {a} {b} s t =
@@ -82,7 +82,7 @@ module _ (n : ℕ) (m : Map) {count : ℕ} (e : count ≡ sum n (above (byte m))
       ]
     where
       low : (x : ℕ) → x < n → byte m x ≤ x
-      low = none-above (byte m) n e z
+      low = none-exceeding (byte m) n e z
 
       shrinks : (x : ℕ) → x < n → byte m (byte m x) ≤ byte m x
       shrinks x l = low (byte m x) (omega (arith, low x l))

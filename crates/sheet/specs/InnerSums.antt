@@ -10,5 +10,5 @@ sum zero f = 0
 sum (suc n) f = sum n f + f n
 
 -- 1 where the value at x is above x, 0 where it is not
-unfoldable pub above : (ℕ → ℕ) → ℕ → ℕ
-above f x = bit (ltb x (f x))
+unfoldable pub exceeding : (ℕ → ℕ) → ℕ → ℕ
+exceeding f x = bit (ltb x (f x))

@@ -5,7 +5,7 @@ ghost use Prim.Native.Nat.{ℕ, _<_, _≤_};
 ghost use lib.Dec.{ltb};
 ghost use Rattle.kernel.specs.InnerKernel.{bit};
 ghost use Rattle.equivalence.specs.Equivalence.{byte, isMap};
-ghost use Rattle.sheet.specs.InnerSums.{sum, above};
+ghost use Rattle.sheet.specs.InnerSums.{sum, exceeding};
 
 // 1 where the byte is above x, 0 where it is not.
 fn is_above(byte: u8, x: u8) -> u8
@@ -18,7 +18,7 @@ fn is_above(byte: u8, x: u8) -> u8
 fn count_above(n: usize, m: &[u8]) -> u8
     requires { ⌜ n ≤ 64 ⌝ }
     requires { do ⌜ n ≤ (← ⟦m.len()⟧) ⌝ }
-    ensures { λ r. ⌜ r ≡ sum n (above (byte (now (m .entry)))) ⌝ }
+    ensures { λ r. ⌜ r ≡ sum n (exceeding (byte (now (m .entry)))) ⌝ }
 {
     let mut count: u8 = 0;
     let mut x = 0;

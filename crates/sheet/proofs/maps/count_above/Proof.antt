@@ -4,13 +4,13 @@ use mathlib.Core.Path.{_≡_, refl}
 use native.Mathlib.Omega.{arith}
 use borrow.Author.Needs.{needs}
 use Rattle.equivalence.specs.Equivalence.{byte}
-use Rattle.sheet.specs.InnerSums.{sum, above}
+use Rattle.sheet.specs.InnerSums.{sum, exceeding}
 use Rattle.sheet.proofs.MapSums.{sum-more, sum-all}
 use Rattle.sheet.proofs.maps.count_above.Statement.{statement}
 use Rattle.sheet.proofs.maps.count_above.Tie as tie
 
 abbrev Inv-loop : tie.InvT-loop
-Inv-loop n m count₀ x₀ count x = (x ≤ n) × (count ≡ sum x (above (byte m))) × (count ≤ x)
+Inv-loop n m count₀ x₀ count x = (x ≤ n) × (count ≡ sum x (exceeding (byte m))) × (count ≤ x)
 
 abbrev μ-loop : tie.MeasureT-loop
 μ-loop n m count₀ x₀ count x = n - x
@@ -38,7 +38,7 @@ loop-less : tie.Need-loop-less Inv-loop μ-loop
 loop-less c = search needs
 
 loop-again : tie.Need-loop-again Inv-loop μ-loop
-unfolding above
+unfolding exceeding
 loop-again c = (search needs, sum-more _ _ (c .before .before .before .loop .inv .1) (c .is-above .ensures .0), omega arith)
 
 returns : tie.Need-returns Inv-loop μ-loop

@@ -1,6 +1,6 @@
 -- `sheet::maps::is_map` meets its contract, by the laws of MapSums: one for each return.
 use borrow.Author.Needs.{needs}
-use Rattle.sheet.proofs.MapSums.{none-above, isMap-above, isMap-sums}
+use Rattle.sheet.proofs.MapSums.{none-exceeding, isMap-exceeding, isMap-sums}
 use Rattle.sheet.proofs.maps.is_map.Statement.{statement}
 use Rattle.sheet.proofs.maps.is_map.Tie as tie
 
@@ -8,10 +8,10 @@ count-above-requires : tie.Need-count-above-requires
 count-above-requires c κs = search needs
 
 returns : tie.Need-returns
-returns c = search isMap-above
+returns c = search isMap-exceeding
 
 sum-named-requires : tie.Need-sum-named-requires
-sum-named-requires c κs = (search needs, (search needs, none-above _ _ (c .before .count-above .ensures) (c .if1 .left)))
+sum-named-requires c κs = (search needs, (search needs, none-exceeding _ _ (c .before .count-above .ensures) (c .if1 .left)))
 
 sum-bytes-requires : tie.Need-sum-bytes-requires
 sum-bytes-requires c κs = search needs
