@@ -15,7 +15,7 @@ use Rattle.algebra.specs.Algebra.{Algebra}
 use Rattle.equivalence.proofs.Outcomes.{refusal-injective, success-apart}
 use Rattle.bench.specs.Calls.{sheetTest, benchTest, tallyTest, unknownTest, fullTest, benched, startTests, startCall, placeTests, handedTests, addTests, addCall}
 use Rattle.bench.specs.Calls.{clearTests, clearCall, setTests, setCall, knownTests, returnCall, forgetCall}
-use Rattle.bench.specs.Conversion.{mapsTest, convertTests, convertV1Call, convertV2Call}
+use Rattle.bench.specs.Conversion.{mapsTest, convertTests, convertV2Call}
 use Rattle.bench.specs.Outcome.{answerOutcome}
 use Rattle.bench.specs.Reasons.{BenchReasons}
 use Rattle.bench.proofs.Conversions.{first-answer}

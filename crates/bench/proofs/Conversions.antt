@@ -6,7 +6,7 @@ use mathlib.Core.Logic.{_⊎_, inl, inr}
 use mathlib.Core.Path.{_≡_, refl, sym, ap, _∙_}
 use native.Mathlib.Omega.{arith}
 use lib.ListN.{take}
-use borrow.Author.Tests.{eq-eqb, not-true, not-false}
+use borrow.Author.Tests.{eq-eqb}
 use Rattle.equivalence.specs.Equivalence.{isMap}
 use Rattle.equivalence.specs.Lists.{every, upTo}
 use Rattle.equivalence.specs.Refusal.{Test, lowest, sizeTest, answered}
@@ -16,7 +16,7 @@ use Rattle.equivalence.specs.declared.Check.{Check}
 use Rattle.equivalence.specs.declared.Check.the-variants.{Passed, Failed}
 use Rattle.equivalence.specs.declared.Refusal.{Refusal}
 use Rattle.equivalence.specs.declared.Refusal.the-variants.{Size, NotMap}
-use Rattle.sheet.specs.Points.{isPoint, isFaultless}
+use Rattle.sheet.specs.Points.{isFaultless}
 use Rattle.sheet.specs.Sheet.{mapOn}
 use Rattle.bench.specs.Calls.{benchTest, clearTests}
 use Rattle.bench.specs.Conversion.{mapsTest, convertTests, widened, zeroBenchV2, convertV1Call, unpointed}

@@ -3,17 +3,16 @@ use Prim.Native.Nat.{ℕ, _<_}
 use mathlib.Core.Bool.{not, _&&_, _||_}
 use mathlib.Core.List.{List}
 use mathlib.Core.Logic.{_⊎_}
-use mathlib.Core.Path.{_≡_, ap, _∙_}
+use mathlib.Core.Path.{_≡_}
 use native.Mathlib.Omega.{arith}
 use lib.Dec.{T}
 use lib.ListN.{length}
-use Rattle.equivalence.specs.Equivalence.{Map, identity}
+use Rattle.equivalence.specs.Equivalence.{identity}
 use Rattle.equivalence.proofs.Maps.{identity-map}
 use Rattle.equivalence.proofs.Tests.{pick}
 use Rattle.equivalence.specs.declared.Refusal.{Refusal}
 use Rattle.sheet.specs.Points.{sameName, isHeld, isFullFor, mapUnder, withPoint, withoutPoint}
 use Rattle.sheet.specs.Sheet.{mapOn}
-use Rattle.sheet.specs.declared.Sheet.{Sheet}
 use Rattle.sheet.proofs.Faults.{Faultless}
 use Rattle.sheet.proofs.Storing.{place-room, under-length, set-names, set-stored, forget-names, forget-stored}
 use Rattle.bench.specs.Calls.{clearTests, clearCall, setTests, setCall, knownTests, returnCall, forgetCall}

@@ -14,12 +14,12 @@ use Rattle.equivalence.specs.declared.Check.{Check}
 use Rattle.equivalence.specs.declared.Refusal.{Refusal}
 use Rattle.algebra.specs.Algebra.{Algebra}
 use Rattle.sheet.specs.Points.{mapUnder, withPoint, withoutPoint}
-use Rattle.sheet.specs.Sheet.{mapOn, zeroPoint, zeroSheet, sheetWith, noSheet}
+use Rattle.sheet.specs.Sheet.{mapOn, zeroSheet, sheetWith, noSheet}
 use Rattle.sheet.specs.declared.Sheet.{Sheet}
 use Rattle.sheet.proofs.SheetMaps.{mapOn-sheetWith, past-sheetWith}
 use Rattle.sheet.proofs.Storing.{point-map, pointless-map}
-use Rattle.bench.specs.Calls.{startTests, startCall, mapByAdd, lostByAdd, addCall, clearTests, clearCall, setCall, returnCall, forgetCall}
-use Rattle.bench.specs.Conversion.{convertTests, withoutPoints, unpointed, convertV1Call, convertV2Call}
+use Rattle.bench.specs.Calls.{startTests, startCall, mapByAdd, lostByAdd, addCall, clearTests, clearCall}
+use Rattle.bench.specs.Conversion.{convertTests, withoutPoints, unpointed, convertV2Call}
 use Rattle.bench.specs.Promises.{OnlySheet, OnlyMap, OnlyPoints, Unaltered, StartPromise, AddPromise, ClearPromise}
 use Rattle.bench.specs.Promises.{SetPromise, ReturnPromise, ForgetPromise, ConvertV1Promise, ConvertV2Promise}
 use Rattle.bench.specs.State.{eightOf, zeroBench, freshBench, sheetOf, withSheet, withMap, raisedBy}

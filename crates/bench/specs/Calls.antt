@@ -83,7 +83,7 @@ clearTests b k = sizeTest (b .n) ∷ sheetTest k ∷ benchTest (b .n) b ∷ []
 unfoldable pub clearCall : Bench → ℕ → Benched
 clearCall b k = benched (clearTests b k) (withMap b k (identity (b .n))) b
 
--- Set's tests: those, and 16
+-- Set's tests: Clear's, and 16
 unfoldable pub setTests : Bench → ℕ → List ℕ → List Test
 setTests b k name = clearTests b k ++ (fullTest name (sheetOf b k) ∷ [])
 
@@ -91,7 +91,7 @@ setTests b k name = clearTests b k ++ (fullTest name (sheetOf b k) ∷ [])
 unfoldable pub setCall : Bench → ℕ → List ℕ → Benched
 setCall b k name = benched (setTests b k name) (withSheet b k (withPoint name (sheetOf b k))) b
 
--- Return's and Forget's tests: 1, 7 and 8 as Clear's, and 15
+-- Return's and Forget's tests: Clear's, and 15
 unfoldable pub knownTests : Bench → ℕ → List ℕ → List Test
 knownTests b k name = clearTests b k ++ (unknownTest name (sheetOf b k) ∷ [])
 

@@ -68,8 +68,8 @@ unfoldable pub after : History → List Call → History
 after h [] = h
 after h (c ∷ rest) = after (next h c) rest
 
--- what the calls say of a sheet: the n of the latest Start; the map; how many blocks it lost since; whether a name is known, its latest Set or Forget
--- since being a Set; and the map that was on the sheet when a name was last set since
+-- what the calls say of a sheet: the n of the latest Start; the map; how many blocks the sheet lost since that Start; which names are known, those whose
+-- latest Set or Forget since is a Set; and the map that was on the sheet when a name was last set since
 pub record SheetState : Type 0 where
   pub n : ℕ
   pub map : Map

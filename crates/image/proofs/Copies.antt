@@ -1,12 +1,11 @@
 -- Copies: a loop that fills eight elements from a table; bytes copied to the start of lent ones, as far as they fit; and bytes that a callee copied
 -- into the rest of lent ones.
-use Prim.Native.Nat.{ℕ, suc, _+_, _-_, _≤_, _<_}
-use mathlib.Core.List.{List, _++_, map, append-nil}
+use Prim.Native.Nat.{ℕ, _+_, _-_, _≤_, _<_}
+use mathlib.Core.List.{List, map, append-nil}
 use mathlib.Core.Path.{_≡_, refl, sym, ap, _∙_}
-use native.Mathlib.Numerals.{add-one}
 use native.Mathlib.Omega.{arith}
-use lib.ListN.{length, getD, take, drop, set, length-drop, length-map, length-set, drop-of-length-le}
-use lib.Seq.{take-all, take-suc, drop-cons, append-snoc, set-at, length-take-le}
+use lib.ListN.{length, take, drop, set, length-drop, length-map, length-set, drop-of-length-le}
+use lib.Seq.{take-all, length-take-le}
 use borrow.Rule.Slice.PartMut.{putMid, midOf}
 use Rattle.equivalence.specs.Lent.{written}
 use Rattle.equivalence.specs.Lists.{upTo}

@@ -1,7 +1,7 @@
 -- Names have the same bytes if and only if they are equal.
 use Prim.Native.Nat.{ℕ}
 use mathlib.Core.List.{List, [], _∷_}
-use mathlib.Core.Path.{_≡_, refl, sym, ap, subst, _∙_}
+use mathlib.Core.Path.{_≡_, refl, ap, subst, _∙_}
 use lib.Dec.{T, eqb, eqb→eq, eqb-refl}
 use Rattle.equivalence.proofs.Tests.{both, left, right}
 use Rattle.sheet.specs.Points.{sameName}

@@ -5,10 +5,10 @@ use mathlib.Core.Path.{_≡_, _∙_}
 use native.Mathlib.Omega.{arith}
 use lib.Dec.{T, ltb}
 use borrow.Author.Tests.{lt-ltb, le-ltb}
-use Rattle.equivalence.specs.Lists.{upTo, any, first}
+use Rattle.equivalence.specs.Lists.{upTo}
 use Rattle.equivalence.proofs.Lists.{any-of, of-any, first-found, first-none, first-is, member-upTo, of-upTo}
 use Rattle.equivalence.proofs.Tests.{T?, true-is, false-is}
-use Rattle.sheet.specs.Points.{sameName, pointIn, isNamed, isNamedBelow, firstNamed}
+use Rattle.sheet.specs.Points.{pointIn, isNamed, isNamedBelow, firstNamed}
 use Rattle.sheet.specs.declared.Point.{Point}
 use Rattle.sheet.proofs.Names.{of-sameName, sameName-of}
 

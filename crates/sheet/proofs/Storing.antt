@@ -4,15 +4,14 @@ use mathlib.Core.Bool.{Bool, true, false, not, _&&_, _||_}
 use mathlib.Core.List.{List}
 use mathlib.Core.Logic.{_≢_, inl, inr}
 use mathlib.Core.Path.{_≡_, refl, sym, ap, subst, _∙_}
-use native.Mathlib.Decide.{decLt, ℕ-discrete}
+use native.Mathlib.Decide.{ℕ-discrete}
 use native.Mathlib.Omega.{arith}
 use lib.Dec.{T, eqb, T-not, not-T}
 use lib.ListN.{length, take, set, length-set}
 use lib.Seq.{getD-set-same, getD-set-other}
-use Rattle.equivalence.specs.Equivalence.{Map}
 use Rattle.equivalence.proofs.Maps.{of-isMap}
 use Rattle.equivalence.proofs.Tests.{T?, both, left, right, or-left, or-right, or-cases, eq→eqb, pick, pick-yes, pick-no}
-use Rattle.sheet.specs.Points.{sameName, pointIn, firstNamed, isNamedBelow, isHeld, isFullFor, placeNamed, mapUnder, withPoint, withoutPoint}
+use Rattle.sheet.specs.Points.{sameName, pointIn, isHeld, isFullFor, placeNamed, mapUnder, withPoint, withoutPoint}
 use Rattle.sheet.specs.Sheet.{mapOn, noPoint}
 use Rattle.sheet.proofs.Faults.{Apart, Faultless}
 use Rattle.sheet.proofs.Names.{of-sameName, sameName-of}

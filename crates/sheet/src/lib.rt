@@ -1,8 +1,7 @@
 // A sheet of the bench: a map, and up to eight points to go back to, each a map under a name. A sheet is a value. Any sheet is legal, also one that no
 // call gave: its count may be too large, and what stands in its places may be no map.
 ghost use mathlib.Core.Path.{_≡_};
-ghost use Prim.Native.Nat.{_<_, _≤_};
-ghost use lib.Dec.{T};
+ghost use Prim.Native.Nat.{_≤_};
 ghost use lib.ListN.{take};
 ghost use Rattle.equivalence.specs.Equivalence.{isMap, identity};
 ghost use Rattle.equivalence.specs.Lent.{written};

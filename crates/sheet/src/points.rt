@@ -2,7 +2,7 @@
 ghost use mathlib.Core.Path.{_≡_};
 ghost use Prim.Native.Nat.{suc, _<_, _≤_};
 ghost use lib.Dec.{T};
-ghost use lib.ListN.{take, length};
+ghost use lib.ListN.{take};
 ghost use Rattle.equivalence.specs.Lists.{upTo, every};
 ghost use Rattle.equivalence.specs.Lent.{written};
 ghost use Rattle.sheet.specs.Sheet.{sheetWith};

@@ -1,7 +1,7 @@
 -- `sheet::points::copy_map` meets its contract.
 use mathlib.Core.Path.{_≡_}
 use native.Mathlib.Omega.{arith}
-use lib.ListN.{length, take}
+use lib.ListN.{length}
 use lib.Seq.{length-take-le}
 use borrow.Author.Needs.{needs}
 use Rattle.equivalence.proofs.Writing.{filled-written}
