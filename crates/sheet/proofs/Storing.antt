@@ -22,11 +22,11 @@ use Rattle.sheet.specs.declared.Sheet.{Sheet}
 -- ---- which names are held, and where
 
 module _ (name : List ℕ) (s : Sheet) where
-  pub held-of : (i : ℕ) → i < s .count → Named name (s .points) i → T (isHeld name s)
+  held-of : (i : ℕ) → i < s .count → Named name (s .points) i → T (isHeld name s)
   unfolding isHeld
   held-of i h e = namedBelow-of name (s .points) (s .count) i h e
 
-  pub of-held : T (isHeld name s) → (i : ℕ) × (i < s .count) × Named name (s .points) i
+  of-held : T (isHeld name s) → (i : ℕ) × (i < s .count) × Named name (s .points) i
   unfolding isHeld
   of-held t = of-namedBelow name (s .points) (s .count) t
 
@@ -34,7 +34,7 @@ module _ (name : List ℕ) (s : Sheet) where
   unfolding isHeld placeNamed
   held-place t = first-named name (s .points) (s .count) t
 
-  pub free-place : ¬ T (isHeld name s) → placeNamed name s ≡ s .count
+  free-place : ¬ T (isHeld name s) → placeNamed name s ≡ s .count
   unfolding isHeld placeNamed
   free-place t = first-none-named name (s .points) (s .count) t
 
@@ -173,8 +173,10 @@ module _ (name : List ℕ) (s : Sheet) (eight : length (s .points) ≡ 8) (room 
 
   pub set-names : (other : List ℕ) → isHeld other (withPoint name s) ≡ (sameName other name || isHeld other s)
   set-names other =
-      same-test _ _ (λ t. elim (T? (sameName other name)) [ yes e ↦ or-left (sameName other name) (isHeld other s) e | no e ↦ or-right (sameName other name) (isHeld other s) (set-only other t (λ f. e (sameName-of _ _ f))) ])
-      (λ t. elim (or-cases (sameName other name) (isHeld other s) t) [
+      let same : Bool = sameName other name in
+      let held : Bool = isHeld other s in
+      same-test _ _ (λ t. elim (T? same) [ yes e ↦ or-left same held e | no e ↦ or-right same held (set-only other t (λ f. e (sameName-of _ _ f))) ])
+      (λ t. elim (or-cases same held t) [
         | inl e ↦ subst (λ (q : List ℕ). T (isHeld q (withPoint name s))) (sym (of-sameName _ _ e)) set-known
         | inr h ↦ set-keeps other h
       ])
@@ -275,8 +277,12 @@ module _ (name : List ℕ) (s : Sheet) (eight : length (s .points) ≡ 8) (few :
 
   pub forget-names : (other : List ℕ) → isHeld other (withoutPoint name s) ≡ (not (sameName other name) && isHeld other s)
   forget-names other =
-      same-test _ _ (λ t. both (not (sameName other name)) (isHeld other s) (not-T (sameName other name) (λ e. forget-gone (subst (λ (q : List ℕ). T (isHeld q (withoutPoint name s))) (of-sameName _ _ e) t))) (forget-only other t))
-      (λ t. forget-keeps other (right (not (sameName other name)) (isHeld other s) t) (λ e. T-not (sameName other name) (left (not (sameName other name)) (isHeld other s) t) (sameName-of _ _ e)))
+      let same : Bool = sameName other name in
+      let held : Bool = isHeld other s in
+      let gone : T (isHeld other (withoutPoint name s)) → ¬ T same =
+      λ t e. forget-gone (subst (λ (q : List ℕ). T (isHeld q (withoutPoint name s))) (of-sameName _ _ e) t) in
+      same-test _ _ (λ t. both (not same) held (not-T same (gone t)) (forget-only other t))
+      (λ t. forget-keeps other (right (not same) held t) (λ e. T-not same (left (not same) held t) (sameName-of _ _ e)))
 
   -- with what is under them
   pub forget-stored : (n : ℕ) (other : List ℕ) → T (isHeld other (withoutPoint name s)) → mapUnder n other (withoutPoint name s) ≡ mapUnder n other s

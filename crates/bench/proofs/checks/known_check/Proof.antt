@@ -36,14 +36,16 @@ unfolding knownTests unknownTest sheetOf
 returns-2 c =
     let k = c .before in
     let told = c .before .before .before .before in
-    more-applies _ (unknownTest _ _) (told .before .before .clear-check .ensures) (told .enum-told .given .1) (ap not (k .is-held .ensures ∙ ap (isHeld _) (k .before .nth .ensures .0))) (c .if1 .taken)
+    let passed = told .before .before .clear-check .ensures in
+    more-applies _ (unknownTest _ _) passed (told .enum-told .given .1) (ap not (k .is-held .ensures ∙ ap (isHeld _) (k .before .nth .ensures .0))) (c .if1 .taken)
 
 returns-3 : tie.Need-returns-3
 unfolding knownTests unknownTest sheetOf
 returns-3 c =
     let k = c .before in
     let told = c .before .before .before .before in
-    more-passes _ (unknownTest _ _) (told .before .before .clear-check .ensures) (told .enum-told .given .1) (ap not (k .is-held .ensures ∙ ap (isHeld _) (k .before .nth .ensures .0))) (c .if1 .left)
+    let passed = told .before .before .clear-check .ensures in
+    more-passes _ (unknownTest _ _) passed (told .enum-told .given .1) (ap not (k .is-held .ensures ∙ ap (isHeld _) (k .before .nth .ensures .0))) (c .if1 .left)
 
 pub known-check-spec : {M : Type 1} → statement M
 known-check-spec =

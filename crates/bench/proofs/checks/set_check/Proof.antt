@@ -35,14 +35,16 @@ unfolding setTests fullTest sheetOf
 returns-2 c =
     let k = c .before in
     let told = c .before .before .before .before in
-    more-applies _ (fullTest _ _) (told .before .before .clear-check .ensures) (told .enum-told .given .1) (k .is-full-for .ensures ∙ ap (isFullFor _) (k .before .nth .ensures .0)) (c .if1 .taken)
+    let passed = told .before .before .clear-check .ensures in
+    more-applies _ (fullTest _ _) passed (told .enum-told .given .1) (k .is-full-for .ensures ∙ ap (isFullFor _) (k .before .nth .ensures .0)) (c .if1 .taken)
 
 returns-3 : tie.Need-returns-3
 unfolding setTests fullTest sheetOf
 returns-3 c =
     let k = c .before in
     let told = c .before .before .before .before in
-    more-passes _ (fullTest _ _) (told .before .before .clear-check .ensures) (told .enum-told .given .1) (k .is-full-for .ensures ∙ ap (isFullFor _) (k .before .nth .ensures .0)) (c .if1 .left)
+    let passed = told .before .before .clear-check .ensures in
+    more-passes _ (fullTest _ _) passed (told .enum-told .given .1) (k .is-full-for .ensures ∙ ap (isFullFor _) (k .before .nth .ensures .0)) (c .if1 .left)
 
 pub set-check-spec : {M : Type 1} → statement M
 set-check-spec =

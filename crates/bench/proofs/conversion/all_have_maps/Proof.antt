@@ -36,7 +36,8 @@ returns : tie.Need-returns Inv-loop μ-loop
 returns c =
     let l = c .before .before .before .before .before .before .before .args .t2 in
     let e : length l ≡ 8 = search needs in
-    false-is _ (λ t. not-T-of (sym (c .before .has-map .ensures) ∙ not-true _ (c .if1 .taken)) (of-every-at _ l noSheetV1 t _ (omega (arith, c .before .before .before .before .before .loop-test .taken))))
+    let h = c .before .before .before .before .before .loop-test .taken in
+    false-is _ (λ t. not-T-of (sym (c .before .has-map .ensures) ∙ not-true _ (c .if1 .taken)) (of-every-at _ l noSheetV1 t _ (omega (arith, h))))
 
 add-k : tie.Need-add-k Inv-loop μ-loop
 add-k c = search needs
