@@ -1,13 +1,13 @@
 -- The bench with another sheet: that sheet, the others, and what it shares with the one before it; a test of every sheet.
 use Prim.Native.Nat.{ℕ, _≤_, _<_}
 use mathlib.Core.Bool.{Bool}
-use mathlib.Core.List.{List}
+use mathlib.Core.List.{List, map}
 use mathlib.Core.Logic.{_≢_}
-use mathlib.Core.Path.{_≡_, ap, subst}
+use mathlib.Core.Path.{_≡_, sym, ap, subst, _∙_}
 use native.Mathlib.Decide.{decLt, ℕ-discrete}
 use native.Mathlib.Omega.{arith}
 use lib.Dec.{T}
-use lib.ListN.{length, getD, length-set}
+use lib.ListN.{length, getD, length-set, length-map}
 use lib.Seq.{getD-set-same, getD-set-other, set-out}
 use Rattle.equivalence.specs.Lists.{every}
 use Rattle.equivalence.proofs.Lists.{every-of, of-every, member-at, member-index}
@@ -43,6 +43,10 @@ module _ (b : Bench) (k : ℕ) (s : Sheet) where
         ]
         | no i ↦ ap of (withSheet-other j i)
       ]
+
+-- how long a list is, by what its elements are taken to
+pub mapped-length : (A B : Type 0) (f : A → B) (l : List A) (n : ℕ) → length (map f l) ≡ n → length l ≡ n
+mapped-length A B f l n e = sym (length-map l f) ∙ e
 
 -- a test of every sheet, of any kind, by the sheets' numbers
 module _ {A : Type 0} (p : A → Bool) (l : List A) (d : A) where

@@ -1,10 +1,6 @@
+pub mod Samples
 pub mod Edges
 pub mod BenchSheets
-pub mod Copying
+pub mod Giving
 pub mod Testing
-pub mod Conversions
-pub mod Answers
 pub mod Adding
-pub mod Pointing
-pub mod Promises
-pub mod Histories

@@ -25,6 +25,8 @@ use Rattle.sheet.proofs.Faults.{of-faultless, Faultless as SheetFaultless}
 use Rattle.bench.specs.Calls.{sheetTest, benchTest, tallyTest, unknownTest, fullTest, startTests, placeTests, handedTests, clearTests, setTests, knownTests, benched}
 use Rattle.bench.specs.State.{sheetOf}
 use Rattle.bench.proofs.BenchSheets.{of-every-at}
+use Rattle.bench.proofs.Giving.{given-passed, given-failed, given-cases, given-answer, given-done, given-refused, given-no, given-yes}
+use Rattle.bench.specs.declared.Answer.{Answer}
 use Rattle.bench.specs.declared.Answer.the-variants.{Done, Refused}
 use Rattle.bench.specs.declared.Bench.{Bench}
 use Rattle.bench.specs.declared.Benched.{Benched}
@@ -35,23 +37,22 @@ doneWith b = record { answer = Done; bench = b }
 abbrev pub refused : Refusal → Bench → Benched
 refused r b = record { answer = Refused r; bench = b }
 
+abbrev give : Answer → Bench → Benched
+give a b = record { answer = a; bench = b }
+
 module _ (tests : List Test) (new other : Bench) where
   pub benched-passed : lowest tests ≡ Passed → benched tests new other ≡ doneWith new
-  unfolding benched answered
-  benched-passed e = rw e
+  unfolding benched
+  benched-passed e = given-passed give new other (lowest tests) e
 
   pub benched-failed : (r : Refusal) → lowest tests ≡ Failed r → benched tests new other ≡ refused r other
-  unfolding benched answered
-  benched-failed r e = rw e
+  unfolding benched
+  benched-failed r e = given-failed give new other (lowest tests) r e
 
   -- one or the other
   pub benched-cases : ((lowest tests ≡ Passed) × (benched tests new other ≡ doneWith new)) ⊎ ((r : Refusal) × (benched tests new other ≡ refused r other))
-  benched-cases = by (lowest tests) refl
-    where
-      by : (c : Check) → lowest tests ≡ c
-          → ((lowest tests ≡ Passed) × (benched tests new other ≡ doneWith new)) ⊎ ((r : Refusal) × (benched tests new other ≡ refused r other))
-      by Passed e = inl (e, benched-passed e)
-      by (Failed r) e = inr (r, benched-failed r e)
+  unfolding benched
+  benched-cases = given-cases give new other (lowest tests)
 
   -- and what the tests leave
   pub call-cases : {Left : Type 0} → (lowest tests ≡ Passed → Left) → (Left × (benched tests new other ≡ doneWith new)) ⊎ ((r : Refusal) × (benched tests new other ≡ refused r other))
@@ -61,22 +62,29 @@ module _ (tests : List Test) (new other : Bench) where
         | inr p ↦ inr p
       ]
 
--- the answer is that of the tests, whatever the benches
-pub benched-answer : (tests : List Test) (new other : Bench) → benched tests new other .answer ≡ answered Refused (lowest tests) Done
-unfolding benched answered
-benched-answer tests new other = by (lowest tests)
-  where
-    by : (c : Check) → answered (λ r. refused r other) c (doneWith new) .answer ≡ answered Refused c Done
-    by Passed = refl
-    by (Failed r) = refl
+  -- the answer is that of the tests, whatever the benches
+  pub benched-answer : benched tests new other .answer ≡ answered Refused (lowest tests) Done
+  unfolding benched
+  benched-answer = given-answer give new other (λ (g : Benched). g .answer) (λ a b. refl) (lowest tests)
 
--- by what the tests found
-module _ (tests : List Test) (new other : Bench) {check : Check} (s : check ≡ lowest tests) where
-  pub benched-no : {r : Refusal} → check ≡ Failed r → (b : Bench) → b ≡ other → refused r b ≡ benched tests new other
-  benched-no e b f = rw f (sym (benched-failed tests new other _ (sym s ∙ e)))
+  -- and the bench is known by the answer
+  pub benched-done : benched tests new other .answer ≡ Done → benched tests new other .bench ≡ new
+  unfolding benched
+  benched-done e = given-done give new other (λ (g : Benched). g .answer) (λ (g : Benched). g .bench) (λ a b. (refl, refl)) (lowest tests) e
 
-  pub benched-yes : check ≡ Passed → (b : Bench) → b ≡ new → doneWith b ≡ benched tests new other
-  benched-yes e b f = rw f (sym (benched-passed tests new other (sym s ∙ e)))
+  pub benched-refused : (r : Refusal) → benched tests new other .answer ≡ Refused r → benched tests new other .bench ≡ other
+  unfolding benched
+  benched-refused r e = given-refused give new other (λ (g : Benched). g .answer) (λ (g : Benched). g .bench) (λ a b. (refl, refl)) (lowest tests) r e
+
+  -- by what the tests found
+  module _ {check : Check} (s : check ≡ lowest tests) where
+    pub benched-no : {r : Refusal} → check ≡ Failed r → (b : Bench) → b ≡ other → refused r b ≡ benched tests new other
+    unfolding benched
+    benched-no e b f = given-no give new other tests s e b f
+
+    pub benched-yes : check ≡ Passed → (b : Bench) → b ≡ new → doneWith b ≡ benched tests new other
+    unfolding benched
+    benched-yes e b f = given-yes give new other tests s e b f
 
 -- tests that pass are passed over
 pub benched-append : (ts rest : List Test) (new other : Bench) → lowest ts ≡ Passed → benched (ts ++ rest) new other ≡ benched rest new other

@@ -11,9 +11,9 @@ use Rattle.algebra.specs.Accepted.{algebraTests}
 use Rattle.algebra.specs.Algebra.{Algebra}
 use Rattle.theory.specs.Extremal.{extended}
 use Rattle.sheet.specs.Points.{isHeld, isFullFor, mapUnder, isFaultless, withPoint, withoutPoint}
-use Rattle.sheet.specs.Sheet.{mapOn}
+use Rattle.sheet.specs.Sheet.{mapOn, sheetWith, raisedBy}
 use Rattle.sheet.specs.declared.Sheet.{Sheet}
-use Rattle.bench.specs.State.{zeroBench, freshBench, sheetOf, withSheet, withMap, raisedBy, blocksLost}
+use Rattle.bench.specs.State.{zeroBench, freshBench, sheetOf, withSheet, withMap, blocksLost}
 use Rattle.bench.specs.declared.Answer.the-variants.{Done, Refused}
 use Rattle.bench.specs.declared.Bench.{Bench}
 use Rattle.bench.specs.declared.Benched.{Benched}
@@ -26,7 +26,7 @@ sheetTest k = record { applies = ltb 7 k; reason = Range }
 unfoldable pub benchTest : ℕ → Bench → Test
 benchTest n b = record { applies = not (eqb (b .n) n) || not (every (isFaultless n) (b .sheets)); reason = NotMap }
 
--- 13: the tally would pass the top of 64 bits
+-- 13: a sheet's tally would pass the top of 64 bits
 unfoldable pub tallyTest : ℕ → Test
 tallyTest tally = record { applies = ltb 18446744073709551615 tally; reason = Tally }
 
@@ -47,7 +47,7 @@ benched tests new other =
 abbrev pub startTests : ℕ → List Test
 startTests n = sizeTest n ∷ []
 
--- Start (1): identities and tally 0; refused, a bench of zeros
+-- Start (1): identities, and nine zeros; refused, a bench of zeros
 unfoldable pub startCall : ℕ → Benched
 startCall n = benched (startTests n) (freshBench n) zeroBench
 
@@ -67,19 +67,23 @@ placeTests b n k x y = sheetTest k ∷ elementsTest n x y ∷ benchTest n b ∷ 
 unfoldable pub handedTests : Bench → Algebra → ℕ → ℕ → ℕ → List Test
 handedTests b a k x y = algebraTests a ++ placeTests b (a .size) k x y
 
--- Add's tests: those, and 13
+-- Add's tests: those, and 13 of the sheet's own tally
 abbrev pub addTests : Bench → Algebra → ℕ → ℕ → ℕ → List Test
-addTests b a k x y = handedTests b a k x y ++ (tallyTest (b .tally + lostByAdd b a k x y) ∷ [])
+addTests b a k x y = handedTests b a k x y ++ (tallyTest (sheetOf b k .tally + lostByAdd b a k x y) ∷ [])
 
--- Add (1 to 8, 13): the sheet gets the map, and the tally rises by the blocks lost
+-- the sheet that Add gives: it has the map, and its tally rises by the blocks lost
+unfoldable pub sheetByAdd : Bench → Algebra → ℕ → ℕ → ℕ → Sheet
+sheetByAdd b a k x y = raisedBy (lostByAdd b a k x y) (sheetWith (mapByAdd b a k x y) (sheetOf b k))
+
+-- Add (1 to 8, 13): that sheet in the place of the old one
 unfoldable pub addCall : Bench → Algebra → ℕ → ℕ → ℕ → Benched
-addCall b a k x y = benched (addTests b a k x y) (raisedBy (lostByAdd b a k x y) (withMap b k (mapByAdd b a k x y))) b
+addCall b a k x y = benched (addTests b a k x y) (withSheet b k (sheetByAdd b a k x y)) b
 
 -- Clear's tests: 1 of the bench's own n, 7 and 8
 unfoldable pub clearTests : Bench → ℕ → List Test
 clearTests b k = sizeTest (b .n) ∷ sheetTest k ∷ benchTest (b .n) b ∷ []
 
--- Clear (1, 7, 8): the sheet gets the identity, and the tally stays
+-- Clear (1, 7, 8): the sheet gets the identity, and its tally stays
 unfoldable pub clearCall : Bench → ℕ → Benched
 clearCall b k = benched (clearTests b k) (withMap b k (identity (b .n))) b
 
@@ -95,7 +99,7 @@ setCall b k name = benched (setTests b k name) (withSheet b k (withPoint name (s
 unfoldable pub knownTests : Bench → ℕ → List ℕ → List Test
 knownTests b k name = clearTests b k ++ (unknownTest name (sheetOf b k) ∷ [])
 
--- Return (1, 7, 8, 15): the sheet gets the map that is stored under the name; the point and the tally stay
+-- Return (1, 7, 8, 15): the sheet gets the map that is stored under the name; the point and its tally stay
 unfoldable pub returnCall : Bench → ℕ → List ℕ → Benched
 returnCall b k name = benched (knownTests b k name) (withMap b k (mapUnder (b .n) name (sheetOf b k))) b
 

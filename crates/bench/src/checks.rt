@@ -31,8 +31,7 @@ fn bench_check(bench: Bench, n: usize) -> Check
     if bench.n != n {
         return Check::Failed(Refusal::NotMap);
     }
-    let on_bench = bench.sheets;
-    if !sheets::all_faultless(n, on_bench) {
+    if !sheets::all_faultless(bench, n) {
         return Check::Failed(Refusal::NotMap);
     }
     Check::Passed
@@ -60,8 +59,7 @@ pub fn set_check(bench: Bench, k: usize, name: [u8; NAME_BYTES]) -> Check
     if let Check::Failed(reason) = check {
         return Check::Failed(reason);
     }
-    let on_bench = bench.sheets;
-    let sheet = sheets::nth(on_bench, k);
+    let sheet = sheets::nth(bench, k);
     if sheet::points::is_full_for(sheet, name) {
         return Check::Failed(Refusal::PointsFull);
     }
@@ -76,8 +74,7 @@ pub fn known_check(bench: Bench, k: usize, name: [u8; NAME_BYTES]) -> Check
     if let Check::Failed(reason) = check {
         return Check::Failed(reason);
     }
-    let on_bench = bench.sheets;
-    let sheet = sheets::nth(on_bench, k);
+    let sheet = sheets::nth(bench, k);
     if !sheet::points::is_held(sheet, name) {
         return Check::Failed(Refusal::UnknownName);
     }

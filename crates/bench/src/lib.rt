@@ -1,4 +1,5 @@
-// The bench: eight sheets for class work, each with a map and points to go back to, over one n, and one tally of the blocks that the sheets lost.
+// The bench: eight sheets for class work over one n, each with a map, a tally of the blocks that it lost, and points to go back to; and what the bench
+// lost before its sheets had tallies, which no call but Start alters.
 // A bench is a value: it goes into a call and comes back beside the answer. Any bench is legal, also one that no call here gave.
 ghost use mathlib.Core.Path.{_≡_};
 ghost use mathlib.Core.List.{[], _∷_};
@@ -6,7 +7,8 @@ ghost use Prim.Native.Nat.{_+_, _<_, _≤_};
 ghost use Rattle.equivalence.specs.Refusal.{lowest};
 ghost use Rattle.equivalence.specs.declared.Check.the-variants.{Passed};
 ghost use Rattle.algebra.specs.Algebra.{algebraIn};
-ghost use Rattle.bench.specs.State.{withSheet, raisedBy};
+ghost use Rattle.sheet.specs.Sheet.{raisedBy};
+ghost use Rattle.bench.specs.State.{withSheet};
 ghost use Rattle.bench.specs.Calls.{tallyTest, benched, startCall, handedTests, addCall, clearCall};
 ghost use Rattle.bench.specs.Calls.{setCall, returnCall, forgetCall};
 use equivalence::Check;
@@ -15,25 +17,17 @@ use sheet::NAME_BYTES;
 use sheet::Sheet;
 
 pub mod checks;
-pub mod conversion;
 pub mod sheets;
-
-pub use conversion::BenchV1;
-pub use conversion::BenchV2;
-pub use conversion::BenchedV2;
-pub use conversion::SheetV1;
-pub use conversion::convert_v1;
-pub use conversion::convert_v2;
 
 // How many sheets a bench has.
 pub const SHEETS: usize = 8;
 
-// The top of the tally.
+// The top of a tally.
 const MAX_TALLY: u64 = 18446744073709551615;
 
 pub struct Bench {
     pub n: usize,
-    pub tally: u64,
+    pub earlier: u64,
     pub sheets: [Sheet; SHEETS],
 }
 
@@ -48,7 +42,7 @@ pub struct Benched {
     pub bench: Bench,
 }
 
-// A bench over n: every sheet has the identity and no points, and the tally is 0. Refused, a bench of zeros.
+// A bench over n: every sheet has the identity, tally 0 and no points, and nothing was lost earlier. Refused, a bench of zeros.
 pub fn start(n: usize) -> Benched
     ensures { λ r. ⌜ r ≡ startCall n ⌝ }
 {
@@ -65,24 +59,24 @@ pub fn start(n: usize) -> Benched
     }
 }
 
-// The bench with a new sheet and the tally raised, or 13.
+// The bench with a new sheet whose tally is raised, or 13.
 fn raised(bench: Bench, k: usize, sheet: Sheet, lost: usize) -> Benched
     requires { ⌜ k < 8 ⌝ }
     requires { ⌜ lost ≤ 64 ⌝ }
-    ensures { λ r. ⌜ r ≡ benched (tallyTest (bench .tally + lost) ∷ []) (raisedBy lost (withSheet bench k sheet)) bench ⌝ }
+    ensures { λ r. ⌜ r ≡ benched (tallyTest (sheet .tally + lost) ∷ []) (withSheet bench k (raisedBy lost sheet)) bench ⌝ }
 {
-    let left = MAX_TALLY - bench.tally;
+    let left = MAX_TALLY - sheet.tally;
     if lost as u64 > left {
         return Benched {
             answer: Answer::Refused(Refusal::Tally),
             bench,
         };
     }
-    let mut next = sheets::with_sheet(bench, k, sheet);
-    next.tally = bench.tally + lost as u64;
+    let mut next = sheet;
+    next.tally = sheet.tally + lost as u64;
     Benched {
         answer: Answer::Done,
-        bench: next,
+        bench: sheets::with_sheet(bench, k, next),
     }
 }
 
@@ -99,14 +93,13 @@ fn extend(
     requires { ⌜ lowest (handedTests bench (algebraIn n arities cells) k x y) ≡ Passed ⌝ }
     ensures { λ r. ⌜ r ≡ addCall bench (algebraIn n (arities .entry) (cells .entry)) k x y ⌝ }
 {
-    let on_bench = bench.sheets;
-    let old = sheets::nth(on_bench, k);
+    let old = sheets::nth(bench, k);
     let grown = sheets::extended(old, n, arities, cells, x, y);
     let new = grown.sheet;
     raised(bench, k, new, grown.lost)
 }
 
-// The sheet becomes the least congruence of the algebra that holds its old map and the pair; the tally rises by the blocks lost.
+// The sheet becomes the least congruence of the algebra that holds its old map and the pair; its tally rises by the blocks lost.
 pub fn add(
     bench: Bench,
     n: usize,
@@ -128,7 +121,7 @@ pub fn add(
     }
 }
 
-// The sheet gets the identity; the tally stays.
+// The sheet gets the identity; its tally stays.
 pub fn clear(bench: Bench, sheet: usize) -> Benched
     ensures { λ r. ⌜ r ≡ clearCall bench sheet ⌝ }
 {
@@ -162,7 +155,7 @@ pub fn set_point(bench: Bench, sheet: usize, name: [u8; NAME_BYTES]) -> Benched
     }
 }
 
-// The sheet gets the map that is stored under the name; the point and the tally stay.
+// The sheet gets the map that is stored under the name; the point and its tally stay.
 pub fn return_to(bench: Bench, sheet: usize, name: [u8; NAME_BYTES]) -> Benched
     ensures { λ r. ⌜ r ≡ returnCall bench sheet name ⌝ }
 {

@@ -1,7 +1,7 @@
 // The state of a bench: its sheets made, tested and changed.
 ghost use mathlib.Core.Path.{_≡_};
 ghost use Prim.Native.Nat.{_<_, _≤_};
-ghost use lib.ListN.{length, getD, take};
+ghost use lib.ListN.{length, take};
 ghost use Rattle.equivalence.specs.Lists.{every};
 ghost use lib.Dec.{T};
 ghost use Rattle.equivalence.specs.Equivalence.{isMap, identity};
@@ -9,7 +9,7 @@ ghost use Rattle.equivalence.specs.Refusal.{lowest};
 ghost use Rattle.equivalence.specs.declared.Check.the-variants.{Passed};
 ghost use Rattle.algebra.specs.Algebra.{algebraIn};
 ghost use Rattle.algebra.specs.Accepted.{Accepted};
-ghost use Rattle.sheet.specs.Sheet.{mapOn, noSheet};
+ghost use Rattle.sheet.specs.Sheet.{mapOn};
 ghost use Rattle.sheet.specs.Points.{mapUnder, isFaultless, withPoint, withoutPoint};
 ghost use Rattle.bench.specs.State.{eightOf, zeroBench, freshBench, sheetOf, withSheet, withMap};
 ghost use Rattle.bench.specs.Calls.{setTests, knownTests};
@@ -20,13 +20,13 @@ use sheet::MAP_BYTES;
 use sheet::NAME_BYTES;
 use sheet::Sheet;
 
-// A bench over n with eight equal sheets and tally 0.
+// A bench over n with eight equal sheets, before which nothing was lost.
 fn eight_of(n: usize, sheet: Sheet) -> Bench
     ensures { λ r. ⌜ r ≡ eightOf n sheet ⌝ }
 {
     Bench {
         n,
-        tally: 0,
+        earlier: 0,
         sheets: [sheet; SHEETS],
     }
 }
@@ -38,7 +38,7 @@ pub fn zeros() -> Bench
     eight_of(0, sheet::zeros())
 }
 
-// A bench over n with the identity on every sheet, no points and tally 0.
+// A bench over n with the identity, tally 0 and no points on every sheet.
 pub fn fresh(n: usize) -> Bench
     requires { ⌜ n ≤ 64 ⌝ }
     ensures { λ r. ⌜ r ≡ freshBench n ⌝ }
@@ -64,18 +64,17 @@ pub fn cleared(bench: Bench, k: usize) -> Bench
     requires { ⌜ k < 8 ⌝ }
     ensures { λ r. ⌜ r ≡ withMap bench k (identity (bench .n)) ⌝ }
 {
-    let on_bench = bench.sheets;
-    let old = nth(on_bench, k);
+    let old = nth(bench, k);
     let new = sheet::with_identity(old, bench.n);
     with_sheet(bench, k, new)
 }
 
-// One of eight sheets.
-pub fn nth(sheets: [Sheet; SHEETS], k: usize) -> Sheet
+// One of the sheets.
+pub fn nth(bench: Bench, k: usize) -> Sheet
     requires { ⌜ k < 8 ⌝ }
-    ensures { λ r. ⌜ (r ≡ getD sheets k noSheet) × (k < length sheets) ⌝ }
+    ensures { λ r. ⌜ (r ≡ sheetOf bench k) × (k < length (bench .sheets)) ⌝ }
 {
-    sheets[k]
+    bench.sheets[k]
 }
 
 // The bench with the map of one sheet stored under a name.
@@ -83,8 +82,7 @@ pub fn with_point(bench: Bench, k: usize, name: [u8; NAME_BYTES]) -> Bench
     requires { ⌜ lowest (setTests bench k name) ≡ Passed ⌝ }
     ensures { λ r. ⌜ r ≡ withSheet bench k (withPoint name (sheetOf bench k)) ⌝ }
 {
-    let on_bench = bench.sheets;
-    let old = nth(on_bench, k);
+    let old = nth(bench, k);
     let new = sheet::points::with_point(old, name);
     with_sheet(bench, k, new)
 }
@@ -94,8 +92,7 @@ pub fn returned(bench: Bench, k: usize, name: [u8; NAME_BYTES]) -> Bench
     requires { ⌜ lowest (knownTests bench k name) ≡ Passed ⌝ }
     ensures { λ r. ⌜ r ≡ withMap bench k (mapUnder (bench .n) name (sheetOf bench k)) ⌝ }
 {
-    let on_bench = bench.sheets;
-    let old = nth(on_bench, k);
+    let old = nth(bench, k);
     let new = sheet::points::returned(old, bench.n, name);
     with_sheet(bench, k, new)
 }
@@ -105,20 +102,19 @@ pub fn without_point(bench: Bench, k: usize, name: [u8; NAME_BYTES]) -> Bench
     requires { ⌜ lowest (knownTests bench k name) ≡ Passed ⌝ }
     ensures { λ r. ⌜ r ≡ withSheet bench k (withoutPoint name (sheetOf bench k)) ⌝ }
 {
-    let on_bench = bench.sheets;
-    let old = nth(on_bench, k);
+    let old = nth(bench, k);
     let new = sheet::points::without_point(old, name);
     with_sheet(bench, k, new)
 }
 
 // Whether all eight sheets are without fault over n.
-pub fn all_faultless(n: usize, sheets: [Sheet; SHEETS]) -> bool
+pub fn all_faultless(bench: Bench, n: usize) -> bool
     requires { ⌜ n ≤ 64 ⌝ }
-    ensures { λ r. ⌜ r ≡ every (isFaultless n) sheets ⌝ }
+    ensures { λ r. ⌜ r ≡ every (isFaultless n) (bench .sheets) ⌝ }
 {
     let mut k: usize = 0;
     while k < SHEETS {
-        let sheet = sheets[k];
+        let sheet = bench.sheets[k];
         if !sheet::is_faultless(n, sheet) {
             return false;
         }

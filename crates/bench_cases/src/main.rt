@@ -1,12 +1,15 @@
-// The calls of the bench and the conversions of old benches on cases that a reader can check by hand, and a short class hour with points: each line is
-// a call, its answer, and the first four bytes of the sheet that it names (for Start sheet 0, for a conversion sheet 5), the tally, and the names of the
-// points that the sheet holds after it. The algebra has the elements 0 to 3 and one unary operation with cells 1 0 3 2, but where a line says otherwise.
+// The calls of the bench and the conversions of old benches on cases that a reader can check by hand, a short class hour with points, and one that two
+// lecturers share. Each line is a call, its answer, and of the sheet that it names the first four bytes, its tally, and the names of the points that it
+// holds after the call. A call that names no sheet of the bench shows the eight tallies and the earlier total: Start with the bytes of sheet 0, a
+// conversion with those of sheet 5. The algebra has the elements 0 to 3 and one unary operation with cells 1 0 3 2, but where a line says otherwise.
 use bench::Answer;
 use bench::Bench;
-use bench::BenchV1;
-use bench::BenchV2;
 use bench::Benched;
-use bench::SheetV1;
+use conversion::BenchV1;
+use conversion::BenchV2;
+use conversion::BenchV3;
+use conversion::SheetV1;
+use conversion::SheetV3;
 use sheet::Point;
 use sheet::Sheet;
 
@@ -63,24 +66,70 @@ fn print_names(sheet: Sheet) {
 }
 
 // The map, the tally and the names of a sheet.
-fn print_sheet(sheet: Sheet, tally: u64) {
+fn print_sheet(sheet: Sheet) {
     let map = sheet.map;
     print_map(map);
-    print_tally(tally);
+    print_tally(sheet.tally);
     print_names(sheet);
 }
 
-// The answer, the sheet, the tally and the names.
+// The tally of sheet k.
+fn print_tally_of(bench: Bench, k: usize) {
+    if k >= 8 {
+        return;
+    }
+    let sheet = bench.sheets[k];
+    io::write_all(1, b" ");
+    io::print_decimal(1, sheet.tally);
+}
+
+// The tallies of all sheets, and the total of an older bench.
+fn print_tallies(bench: Bench) {
+    io::write_all(1, b" tallies");
+    print_tally_of(bench, 0);
+    print_tally_of(bench, 1);
+    print_tally_of(bench, 2);
+    print_tally_of(bench, 3);
+    print_tally_of(bench, 4);
+    print_tally_of(bench, 5);
+    print_tally_of(bench, 6);
+    print_tally_of(bench, 7);
+    io::write_all(1, b", earlier ");
+    io::print_decimal(1, bench.earlier);
+}
+
+// The answer, and the sheet that was named; all tallies where there is no such sheet.
 fn print_bench(made: Benched, sheet: usize) {
     let answer = made.answer;
     print_answer(answer);
     let on_bench = made.bench;
     if sheet < 8 {
         let shown = on_bench.sheets[sheet];
-        print_sheet(shown, on_bench.tally);
+        print_sheet(shown);
     } else {
-        print_tally(on_bench.tally);
+        io::write_all(1, b",");
+        print_tallies(on_bench);
     }
+    io::write_all(1, b"\n");
+}
+
+// The answer of a call that makes a bench, all tallies, and the map and the names of one of its sheets.
+fn print_new(made: Benched, shown: Sheet) {
+    let answer = made.answer;
+    print_answer(answer);
+    let map = shown.map;
+    print_map(map);
+    let on_bench = made.bench;
+    io::write_all(1, b",");
+    print_tallies(on_bench);
+    print_names(shown);
+    io::write_all(1, b"\n");
+}
+
+// All tallies of a bench, as its calls have left it.
+fn show(bench: Bench) {
+    io::write_all(1, b"the bench:");
+    print_tallies(bench);
     io::write_all(1, b"\n");
 }
 
@@ -89,8 +138,10 @@ fn start(n: usize) -> Bench {
     io::print_decimal(1, n as u64);
     io::write_all(1, b" ->");
     let made = bench::start(n);
-    print_bench(made, 0);
-    made.bench
+    let fresh = made.bench;
+    let first = fresh.sheets[0];
+    print_new(made, first);
+    fresh
 }
 
 // Add under an algebra on n elements with these cells of one unary operation.
@@ -163,7 +214,9 @@ fn work() -> Bench {
     let four = clear(three, 0);
     let five = add(four, 0, 3, 2);
     say(b"under cells 1 2 3 0, an equal pair:");
-    add_under(five, 4, b"\x01\x02\x03\x00", 0, 1, 1)
+    let six = add_under(five, 4, b"\x01\x02\x03\x00", 0, 1, 1);
+    show(six);
+    six
 }
 
 // What is declined, each on the bench that the work left.
@@ -188,12 +241,18 @@ fn plain(map: [u8; 64]) -> Sheet {
     sheet
 }
 
-// A bench of the caller's own making over four elements: identities but on sheet 5, and this tally.
-fn forged(sheet: Sheet, tally: u64) -> Bench {
+// The identity over four elements, and this tally.
+fn tallied(tally: u64) -> Sheet {
+    let mut sheet = plain(bytes(1));
+    sheet.tally = tally;
+    sheet
+}
+
+// A bench of the caller's own making over four elements: identities but on sheet 5.
+fn forged(sheet: Sheet) -> Bench {
     let made = bench::start(4);
     let mut bench = made.bench;
     bench.sheets[5] = sheet;
-    bench.tally = tally;
     bench
 }
 
@@ -208,16 +267,26 @@ fn bytes(second: u8) -> [u8; 64] {
 
 fn edges() {
     say(b"sheet 5 is 0 2 2 3:");
-    let faulty = forged(plain(bytes(2)), 0);
+    let faulty = forged(plain(bytes(2)));
     let unnamed = add(faulty, 0, 0, 1);
     let cleared = clear(faulty, 5);
-    say(b"the tally one below its top:");
-    let near = forged(plain(bytes(1)), 18446744073709551614);
-    let passed = add(near, 0, 0, 2);
-    let at_top = add(near, 1, 0, 1);
-    say(b"and at it:");
-    let held = add(at_top, 1, 1, 0);
-    let over = add(held, 2, 2, 3);
+}
+
+// The top of a tally: 13 looks at the tally of the sheet that an Add names, and at no other number.
+fn tops() {
+    say(b"the tally of sheet 5 one below its top:");
+    let near = forged(tallied(18446744073709551614));
+    let passed = add(near, 5, 0, 2);
+    let at_top = add(passed, 5, 0, 1);
+    say(b"and at it, where a pair that is held loses no block:");
+    let held = add(at_top, 5, 1, 0);
+    let over = add(held, 5, 2, 3);
+    say(b"its neighbour has a tally of its own:");
+    let beside = add(over, 6, 2, 3);
+    say(b"a cleared sheet keeps its tally:");
+    let cleared = clear(beside, 5);
+    let again = add(cleared, 5, 2, 3);
+    show(again);
 }
 
 // A class hour with points, on sheet 0 and beside it on sheet 3: a pair is tried, looked at, and gone back from.
@@ -241,6 +310,20 @@ fn hour() -> Bench {
     let unknown = return_to(gone, 0, *b"identity");
     let elsewhere = return_to(unknown, 3, *b"zero=one");
     forget(elsewhere, 3, *b"Identity")
+}
+
+// Two lecturers share a bench: each has a sheet, and the tally beside it counts what that one lost.
+fn lecturers() {
+    say(b"two lecturers share the bench, one on sheet 1, one on sheet 2:");
+    let fresh = start(4);
+    let first = add(fresh, 1, 0, 1);
+    let second = add(first, 2, 0, 2);
+    let kept = set(second, 1, *b"zero=one");
+    let cleared = clear(kept, 2);
+    let joined = add(cleared, 1, 1, 2);
+    let other = add(joined, 2, 0, 3);
+    let back = return_to(other, 1, *b"zero=one");
+    show(back);
 }
 
 // The bench with the map of sheet 6 stored under the name that ends so.
@@ -275,12 +358,12 @@ fn pointed(count: usize, map: [u8; 64]) -> Sheet {
 // Faults of points, each on sheet 5; the calls name sheet 0.
 fn faulty_points() {
     say(b"sheet 5 holds a point, 0 0 2 3; two of one name; one that is 0 2 2 3; nine:");
-    let right = clear(forged(pointed(1, bytes(0)), 0), 0);
-    let twins = clear(forged(pointed(2, bytes(0)), 0), 0);
-    let no_map = set(forged(pointed(1, bytes(2)), 0), 0, *b"identity");
-    let nine = add(forged(pointed(9, bytes(0)), 0), 0, 0, 1);
+    let right = clear(forged(pointed(1, bytes(0))), 0);
+    let twins = clear(forged(pointed(2, bytes(0))), 0);
+    let no_map = set(forged(pointed(1, bytes(2))), 0, *b"identity");
+    let nine = add(forged(pointed(9, bytes(0))), 0, 0, 1);
     say(b"and none, though its places have all that:");
-    let free = clear(forged(pointed(0, bytes(2)), 0), 0);
+    let free = clear(forged(pointed(0, bytes(2))), 0);
 }
 
 // Eight sheets of an old bench over four elements, with identities but on sheet 5.
@@ -290,62 +373,150 @@ fn old_sheets(map: [u8; 64]) -> [SheetV1; 8] {
     sheets
 }
 
-// Converts a bench of the second kind over n, whose tally is at the top of 32 bits.
-fn convert_second(n: usize, map: [u8; 64]) -> Bench {
-    io::write_all(1, b"convert the second kind over ");
-    io::print_decimal(1, n as u64);
-    io::write_all(1, b" ->");
-    let made = bench::convert_v2(BenchV2 {
+// A bench of the first kind, whose tally is at the top of 32 bits.
+fn first_kind(n: usize, map: [u8; 64]) -> BenchV1 {
+    BenchV1 {
         n,
         tally: 4294967295,
         sheets: old_sheets(map),
-    });
-    print_bench(made, 5);
-    made.bench
+    }
 }
 
-// Converts one of the first kind.
-fn convert_first(n: usize, map: [u8; 64]) -> BenchV2 {
-    io::write_all(1, b"convert the first kind over ");
+// A bench of the second kind, whose tally is one higher.
+fn second_kind(n: usize, map: [u8; 64]) -> BenchV2 {
+    BenchV2 {
+        n,
+        tally: 4294967296,
+        sheets: old_sheets(map),
+    }
+}
+
+// A sheet of the third kind, which has no tally.
+fn untallied(sheet: Sheet) -> SheetV3 {
+    let map = sheet.map;
+    let points = sheet.points;
+    SheetV3 {
+        map,
+        count: sheet.count,
+        points,
+    }
+}
+
+// A bench of the third kind with identities but on sheet 5, whose one tally is at the top of 64 bits.
+fn third_kind(n: usize, sheet: Sheet) -> BenchV3 {
+    let identity = untallied(plain(bytes(1)));
+    let mut sheets = [identity; 8];
+    sheets[5] = untallied(sheet);
+    BenchV3 {
+        n,
+        tally: 18446744073709551615,
+        sheets,
+    }
+}
+
+// A conversion, as it is said.
+fn ask_of(kind: &[u8], n: usize) {
+    io::write_all(1, b"convert the ");
+    io::write_all(1, kind);
+    io::write_all(1, b" kind over ");
     io::print_decimal(1, n as u64);
     io::write_all(1, b" ->");
-    let made = bench::convert_v1(BenchV1 {
-        n,
-        tally: 4294967295,
-        sheets: old_sheets(map),
-    });
-    let answer = made.answer;
+}
+
+// What a conversion into an older kind gives: its answer, the map of sheet 5, and the one tally.
+fn print_old(answer: Answer, map: [u8; 64], tally: u64) {
     print_answer(answer);
-    let old = made.bench;
-    let shown = old.sheets[5];
-    let kept = shown.map;
-    print_map(kept);
-    print_tally(old.tally);
+    print_map(map);
+    print_tally(tally);
     io::write_all(1, b"\n");
-    old
 }
 
-// What an old bench becomes; the tally goes on where 32 bits ended.
-fn conversions() {
-    say(b"old benches, the tally at the top of 32 bits; sheet 5 is 0 0 2 3:");
-    let first = convert_first(4, bytes(0));
-    let kept = convert_second(4, bytes(0));
-    let more = add(kept, 5, 2, 3);
+fn convert_first(old: BenchV1) -> BenchV2 {
+    ask_of(b"first", old.n);
+    let made = conversion::convert_v1(old);
+    let answer = made.answer;
+    let next = made.bench;
+    let shown = next.sheets[5];
+    let map = shown.map;
+    print_old(answer, map, next.tally);
+    next
+}
+
+fn convert_second(old: BenchV2) -> BenchV3 {
+    ask_of(b"second", old.n);
+    let made = conversion::convert_v2(old);
+    let answer = made.answer;
+    let next = made.bench;
+    let shown = next.sheets[5];
+    let map = shown.map;
+    print_old(answer, map, next.tally);
+    next
+}
+
+fn convert_third(old: BenchV3) -> Bench {
+    ask_of(b"third", old.n);
+    let made = conversion::convert_v3(old);
+    let next = made.bench;
+    let shown = next.sheets[5];
+    print_new(made, shown);
+    next
+}
+
+// What a bench of the third kind becomes: the old tally stands by itself, the sheets begin at 0, and the points are held.
+fn converted() {
+    say(b"an old bench, its one tally at the top of 64 bits; sheet 5 holds a point, 0 0 2 3:");
+    let bench = convert_third(third_kind(4, pointed(1, bytes(0))));
+    let back = return_to(bench, 5, *b"samename");
+    say(b"the old total refuses nothing:");
+    let joined = add(back, 5, 1, 2);
+    let beside = add(joined, 0, 2, 3);
+    show(beside);
+    say(b"a new start:");
+    let fresh = start(4);
+}
+
+// Benches of older kinds go through the conversions in turn.
+fn chains() {
+    say(b"an older one, its tally at the top of 32 bits; sheet 5 is 0 0 2 3:");
+    let second = convert_first(first_kind(4, bytes(0)));
+    let third = convert_second(second);
+    let bench = convert_third(third);
+    let more = add(bench, 5, 2, 3);
     let stored = set(more, 5, *b"zero=one");
-    say(b"and declined: over 0 and 65 elements, and with 0 2 2 3 on sheet 5:");
-    let none = convert_first(0, bytes(0));
-    let many = convert_second(65, bytes(0));
-    let odd = convert_first(4, bytes(2));
-    let faulty = convert_second(4, bytes(2));
+    show(stored);
+    say(b"one of the second kind, its tally one higher:");
+    let pointless = convert_second(second_kind(4, bytes(0)));
+    let last = convert_third(pointless);
+}
+
+// What the conversions decline, each with a bench of zeros.
+fn unconverted() {
+    say(b"declined, old benches over 0 and 65 elements:");
+    let none = convert_first(first_kind(0, bytes(0)));
+    let many = convert_second(second_kind(65, bytes(0)));
+    let third = convert_third(third_kind(65, plain(bytes(0))));
+    say(b"with 0 2 2 3 on sheet 5; the zeros that come instead are declined in turn:");
+    let odd = convert_first(first_kind(4, bytes(2)));
+    let zeros = convert_second(odd);
+    let second = convert_second(second_kind(4, bytes(2)));
+    let faulty = convert_third(third_kind(4, plain(bytes(2))));
     let again = clear(faulty, 5);
+    say(b"with two points of one name there; one that is 0 2 2 3; nine:");
+    let twins = convert_third(third_kind(4, pointed(2, bytes(0))));
+    let no_map = convert_third(third_kind(4, pointed(1, bytes(2))));
+    let nine = convert_third(third_kind(4, pointed(9, bytes(0))));
 }
 
 fn main() {
     let left = work();
     declined(left);
     edges();
+    tops();
     let taught = hour();
     let full = many(taught);
+    lecturers();
     faulty_points();
-    conversions();
+    converted();
+    chains();
+    unconverted();
 }

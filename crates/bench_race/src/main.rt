@@ -1,7 +1,7 @@
 // The race of the bench: over 64 elements and with eight points on each of its eight sheets, it is given to the calls of a workload again and again.
 // Standard input has the letter of the workload, and the number of turns in three bytes, the lowest first; a byte that is not there is 0. The line that is
-// printed has the turns that were done, the tally, and two sums over the bytes of all sheets. `benches/classwork_race.c` does the same with a bench in C, and
-// `benches/classwork` times the two.
+// printed has the turns that were done, the earlier total, the tallies of the sheets, and two sums over all that is on the sheets.
+// `benches/classwork_race.c` does the same with a bench in C, and `benches/classwork` times the two.
 use bench::Answer;
 use bench::Bench;
 use bench::Benched;
@@ -209,7 +209,8 @@ fn with_sheet(sums: Sums, sheet: Sheet) -> Sums {
     let map = sheet.map;
     let points = sheet.points;
     let mapped = with_bytes(sums, &map);
-    let counted = with_number(mapped, sheet.count as u64);
+    let tallied = with_number(mapped, sheet.tally);
+    let counted = with_number(tallied, sheet.count as u64);
     with_places(counted, points)
 }
 
@@ -229,12 +230,33 @@ fn print_number(words: &[u8], number: u64) {
     io::print_decimal(1, number);
 }
 
+fn print_tally(sheets: [Sheet; SHEETS], k: usize) {
+    if k >= SHEETS {
+        return;
+    }
+    let sheet = sheets[k];
+    print_number(b" ", sheet.tally);
+}
+
+fn print_tallies(sheets: [Sheet; SHEETS]) {
+    io::write_all(1, b", tallies");
+    print_tally(sheets, 0);
+    print_tally(sheets, 1);
+    print_tally(sheets, 2);
+    print_tally(sheets, 3);
+    print_tally(sheets, 4);
+    print_tally(sheets, 5);
+    print_tally(sheets, 6);
+    print_tally(sheets, 7);
+}
+
 fn print_played(played: Played) {
     let bench = played.bench;
     let sheets = bench.sheets;
     let sums = sums_of(sheets);
     print_number(b"turns ", played.turns as u64);
-    print_number(b", tally ", bench.tally);
+    print_number(b", earlier ", bench.earlier);
+    print_tallies(sheets);
     print_number(b", sums ", sums.low);
     print_number(b" ", sums.high);
     io::write_all(1, b"\n");

@@ -1,5 +1,2 @@
 pub mod Examples
-pub mod Copies
-pub mod Littles
-pub mod Steps
 pub mod Images

@@ -1,3 +1,2 @@
-pub mod Copies
 pub mod Image
-pub mod InnerSteps
+pub mod InnerSheets

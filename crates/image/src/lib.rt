@@ -1,33 +1,34 @@
-// A bench as 5,137 bytes, its image: eight maps of 64 bytes, the bench's n, the tally with its lowest byte first; then for each sheet how many points it
-// holds, and its eight places, a name and a map each. Benches of older kinds have no points: one of the second kind has 521 bytes, one of the first,
-// whose tally is shorter, 517.
+// A bench as 5,201 bytes, its image: eight maps of 64 bytes, the bench's n, the tallies of the sheets, what was lost earlier; then for each sheet how many
+// points it holds, and its eight places, a name and a map each. Benches of older kinds have one tally where today's have nine numbers: one of the third kind
+// has 5,137 bytes; one of the second, which has no points, 521; one of the first, whose tally is shorter, 517.
 ghost use mathlib.Core.Path.{_≡_};
 ghost use mathlib.Core.List.{map};
-ghost use Prim.Native.Nat.{_+_, _*_, _≤_, _<_, _^_};
+ghost use Prim.Native.Nat.{_+_, _≤_, _<_};
 ghost use lib.ListN.{length};
 ghost use Rattle.equivalence.specs.Lists.{upTo, concat};
-ghost use Rattle.image.specs.Image.{part, little, littleIn, pointBytes, pointsBytes, mapsOf, mapsV1Of};
-ghost use Rattle.image.specs.Image.{imageOf, imageV2Of, mapIn, placeIn, placesIn, sheetIn, sheetV1In, benchIn, benchV2In, benchV1In};
-ghost use Rattle.image.specs.Copies.{copied};
-ghost use Rattle.image.specs.InnerSteps.{Laid};
+ghost use Rattle.imagepart.specs.InnerSteps.{Laid};
+ghost use Rattle.image.specs.Image.{mapsV3Of, mapsV1Of, talliesOf, pointsV3Of, imageOf, imageV3Of, imageV2Of};
+ghost use Rattle.image.specs.Image.{sheetV3In, tallied, sheetIn, sheetV1In, benchIn, benchV3In, benchV2In, benchV1In};
+ghost use Rattle.image.specs.InnerSheets.{withoutTally};
 use bench::Bench;
-use bench::BenchV1;
-use bench::BenchV2;
 use bench::SHEETS;
-use bench::SheetV1;
+use conversion::BenchV1;
+use conversion::BenchV2;
+use conversion::BenchV3;
+use conversion::SheetV1;
+use conversion::SheetV3;
 use sheet::MAP_BYTES;
-use sheet::NAME_BYTES;
-use sheet::PLACES;
-use sheet::Point;
 use sheet::Sheet;
 
-pub const LENGTH: usize = 5137;
+pub const LENGTH: usize = 5201;
+
+pub const LENGTH_V3: usize = 5137;
 
 pub const LENGTH_V2: usize = 521;
 
 pub const LENGTH_V1: usize = 517;
 
-// Where n and the tally begin, and how many bytes the tally has, and had in the first kind.
+// Where n begins, and behind it the tally, or the tallies; how many bytes a tally has, and had in the first kind.
 const SIZE_AT: usize = 512;
 
 const TALLY_AT: usize = 513;
@@ -36,135 +37,86 @@ const TALLY_BYTES: usize = 8;
 
 const TALLY_BYTES_V1: usize = 4;
 
-// Where the points of the first sheet begin, how many bytes the points of a sheet have, and how many each of them has.
-const POINTS_AT: usize = 521;
+// Where what was lost earlier begins.
+const EARLIER_AT: usize = 577;
+
+// Where the points of the first sheet begin, and began in the third kind; how many bytes the points of a sheet have.
+const POINTS_AT: usize = 585;
+
+const POINTS_AT_V3: usize = 521;
 
 const POINTS_BYTES: usize = 577;
 
-const POINT_BYTES: usize = 72;
-
-// Copies the part to the start of out, as far as it fits.
-pub fn copy_part(part: &[u8], out: &mut [u8])
-    ensures { λ _. ⌜ now (out .exit) ≡ copied (now (part .entry)) (now (out .entry)) ⌝ }
+// A sheet without its tally.
+fn without_tally(sheet: Sheet) -> SheetV3
+    ensures { λ r. ⌜ r ≡ withoutTally sheet ⌝ }
 {
-    let mut i = 0;
-    while i < out.len() {
-        if i >= part.len() {
-            return;
-        }
-        out[i] = part[i];
-        i += 1;
+    let map = sheet.map;
+    let points = sheet.points;
+    SheetV3 {
+        map,
+        count: sheet.count,
+        points,
     }
 }
 
-// A byte as a number of 64 bits.
-fn wide(x: u8) -> u64
-    ensures { λ r. ⌜ (r ≡ x) × (r < 256) ⌝ }
+// A sheet of the third kind with a tally.
+fn tallied(tally: u64, sheet: SheetV3) -> Sheet
+    ensures { λ r. ⌜ r ≡ tallied tally sheet ⌝ }
 {
-    x as u64
-}
-
-// The number that the k bytes from `from` on show.
-fn read_little(bytes: &[u8], from: usize, k: usize) -> u64
-    requires { ⌜ from + k ≤ length (now bytes) ⌝ }
-    requires { ⌜ k ≤ 8 ⌝ }
-    ensures { λ r. ⌜ (r ≡ littleIn (part from k (now (bytes .entry)))) × (r < 256 ^ k) ⌝ }
-{
-    let mut x: u64 = 0;
-    let mut i = k;
-    while i > 0 {
-        i -= 1;
-        x = x * 256 + wide(bytes[from + i]);
+    let map = sheet.map;
+    let points = sheet.points;
+    Sheet {
+        map,
+        tally,
+        count: sheet.count,
+        points,
     }
-    x
 }
 
-// The name gets the first 8 bytes.
-fn copy_name(bytes: &[u8], name: &mut [u8; NAME_BYTES])
-    ensures { λ _. ⌜ now (name .exit) ≡ copied (now (bytes .entry)) (now (name .entry)) ⌝ }
-{
-    copy_part(bytes, name);
-}
-
-// The 8 bytes from `from` on.
-pub fn read_name(bytes: &[u8], from: usize) -> [u8; NAME_BYTES]
-    requires { ⌜ from + 8 ≤ length (now bytes) ⌝ }
-    ensures { λ r. ⌜ r ≡ part from 8 (now (bytes .entry)) ⌝ }
-{
-    let mut name = [0u8; NAME_BYTES];
-    copy_name(&bytes[from..], &mut name);
-    name
-}
-
-// The map gets the first 64 bytes.
-fn copy_map(bytes: &[u8], map: &mut [u8; MAP_BYTES])
-    ensures { λ _. ⌜ now (map .exit) ≡ copied (now (bytes .entry)) (now (map .entry)) ⌝ }
-{
-    copy_part(bytes, map);
-}
-
-// The 64 bytes from `from` on.
-fn read_map(bytes: &[u8], from: usize) -> [u8; MAP_BYTES]
-    requires { ⌜ from + 64 ≤ length (now bytes) ⌝ }
-    ensures { λ r. ⌜ r ≡ part from 64 (now (bytes .entry)) ⌝ }
-{
-    let mut map = [0u8; MAP_BYTES];
-    copy_map(&bytes[from..], &mut map);
-    map
-}
-
-// The map of sheet s.
-fn read_map_of(bytes: &[u8], s: usize) -> [u8; MAP_BYTES]
-    requires { ⌜ 512 ≤ length (now bytes) ⌝ }
+// Sheet s without its tally, where the points of the sheets begin at `from`.
+fn read_sheet_v3(bytes: &[u8], from: usize, s: usize) -> SheetV3
+    requires { ⌜ 512 ≤ from ⌝ }
+    requires { ⌜ from + 4616 ≤ length (now bytes) ⌝ }
     requires { ⌜ s < 8 ⌝ }
-    ensures { λ r. ⌜ r ≡ mapIn (now (bytes .entry)) s ⌝ }
+    ensures { λ r. ⌜ r ≡ sheetV3In from (now (bytes .entry)) s ⌝ }
 {
-    read_map(bytes, s * MAP_BYTES)
+    let map = imagepart::read_map_of(bytes, s);
+    let at = from + s * POINTS_BYTES;
+    let count = imagepart::read_little(bytes, at, 1) as usize;
+    let points = imagepart::read_places(bytes, at + 1);
+    SheetV3 { map, count, points }
 }
 
-// The point from `from` on.
-fn read_point(bytes: &[u8], from: usize) -> Point
-    requires { ⌜ from + 72 ≤ length (now bytes) ⌝ }
-    ensures { λ r. ⌜ r ≡ placeIn (now (bytes .entry)) from ⌝ }
+// The eight sheets of the third kind.
+fn read_sheets_v3(bytes: &[u8]) -> [SheetV3; SHEETS]
+    requires { ⌜ length (now bytes) ≡ 5137 ⌝ }
+    ensures { λ r. ⌜ r ≡ map (sheetV3In 521 (now (bytes .entry))) (upTo 8) ⌝ }
 {
-    let name = read_name(bytes, from);
-    let map = read_map(bytes, from + NAME_BYTES);
-    Point { name, map }
-}
-
-// The eight places from `from` on.
-fn read_places(bytes: &[u8], from: usize) -> [Point; PLACES]
-    requires { ⌜ from + 576 ≤ length (now bytes) ⌝ }
-    ensures { λ r. ⌜ r ≡ placesIn (now (bytes .entry)) from ⌝ }
-{
-    let mut places = [Point {
-        name: [0u8; NAME_BYTES],
-        map: [0u8; MAP_BYTES],
-    }; PLACES];
-    let mut i = 0;
-    while i < PLACES {
-        places[i] = read_point(bytes, from + i * POINT_BYTES);
-        i += 1;
+    let zero = sheet::zeros();
+    let mut sheets = [without_tally(zero); SHEETS];
+    let mut s = 0;
+    while s < SHEETS {
+        sheets[s] = read_sheet_v3(bytes, POINTS_AT_V3, s);
+        s += 1;
     }
-    places
+    sheets
 }
 
 // Sheet s.
 fn read_sheet(bytes: &[u8], s: usize) -> Sheet
-    requires { ⌜ length (now bytes) ≡ 5137 ⌝ }
+    requires { ⌜ length (now bytes) ≡ 5201 ⌝ }
     requires { ⌜ s < 8 ⌝ }
     ensures { λ r. ⌜ r ≡ sheetIn (now (bytes .entry)) s ⌝ }
 {
-    let map = read_map_of(bytes, s);
-    let from = POINTS_AT + s * POINTS_BYTES;
-    let count = read_little(bytes, from, 1) as usize;
-    let points = read_places(bytes, from + 1);
-    Sheet { map, count, points }
+    let tally = imagepart::read_little(bytes, TALLY_AT + s * TALLY_BYTES, TALLY_BYTES);
+    let sheet = read_sheet_v3(bytes, POINTS_AT, s);
+    tallied(tally, sheet)
 }
 
 // The eight sheets.
 fn read_sheets(bytes: &[u8]) -> [Sheet; SHEETS]
-    requires { ⌜ length (now bytes) ≡ 5137 ⌝ }
+    requires { ⌜ length (now bytes) ≡ 5201 ⌝ }
     ensures { λ r. ⌜ r ≡ map (sheetIn (now (bytes .entry))) (upTo 8) ⌝ }
 {
     let mut sheets = [sheet::zeros(); SHEETS];
@@ -176,7 +128,7 @@ fn read_sheets(bytes: &[u8]) -> [Sheet; SHEETS]
     sheets
 }
 
-// The eight sheets of an older kind.
+// The eight sheets of the first two kinds.
 fn read_sheets_v1(bytes: &[u8]) -> [SheetV1; SHEETS]
     requires { ⌜ 512 ≤ length (now bytes) ⌝ }
     ensures { λ r. ⌜ r ≡ map (sheetV1In (now (bytes .entry))) (upTo 8) ⌝ }
@@ -186,7 +138,7 @@ fn read_sheets_v1(bytes: &[u8]) -> [SheetV1; SHEETS]
     }; SHEETS];
     let mut s = 0;
     while s < SHEETS {
-        let map = read_map_of(bytes, s);
+        let map = imagepart::read_map_of(bytes, s);
         sheets[s] = SheetV1 { map };
         s += 1;
     }
@@ -195,13 +147,24 @@ fn read_sheets_v1(bytes: &[u8]) -> [SheetV1; SHEETS]
 
 // The bench that the image shows.
 pub fn read(bytes: &[u8]) -> Bench
-    requires { ⌜ length (now bytes) ≡ 5137 ⌝ }
+    requires { ⌜ length (now bytes) ≡ 5201 ⌝ }
     ensures { λ r. ⌜ r ≡ benchIn (now (bytes .entry)) ⌝ }
 {
     let sheets = read_sheets(bytes);
-    let n = read_little(bytes, SIZE_AT, 1) as usize;
-    let tally = read_little(bytes, TALLY_AT, TALLY_BYTES);
-    Bench { n, tally, sheets }
+    let n = imagepart::read_little(bytes, SIZE_AT, 1) as usize;
+    let earlier = imagepart::read_little(bytes, EARLIER_AT, TALLY_BYTES);
+    Bench { n, earlier, sheets }
+}
+
+// The bench of the third kind that the image shows.
+pub fn read_v3(bytes: &[u8]) -> BenchV3
+    requires { ⌜ length (now bytes) ≡ 5137 ⌝ }
+    ensures { λ r. ⌜ r ≡ benchV3In (now (bytes .entry)) ⌝ }
+{
+    let sheets = read_sheets_v3(bytes);
+    let n = imagepart::read_little(bytes, SIZE_AT, 1) as usize;
+    let tally = imagepart::read_little(bytes, TALLY_AT, TALLY_BYTES);
+    BenchV3 { n, tally, sheets }
 }
 
 // The bench of the second kind that the image shows.
@@ -210,8 +173,8 @@ pub fn read_v2(bytes: &[u8]) -> BenchV2
     ensures { λ r. ⌜ r ≡ benchV2In (now (bytes .entry)) ⌝ }
 {
     let sheets = read_sheets_v1(bytes);
-    let n = read_little(bytes, SIZE_AT, 1) as usize;
-    let tally = read_little(bytes, TALLY_AT, TALLY_BYTES);
+    let n = imagepart::read_little(bytes, SIZE_AT, 1) as usize;
+    let tally = imagepart::read_little(bytes, TALLY_AT, TALLY_BYTES);
     BenchV2 { n, tally, sheets }
 }
 
@@ -221,112 +184,68 @@ pub fn read_v1(bytes: &[u8]) -> BenchV1
     ensures { λ r. ⌜ r ≡ benchV1In (now (bytes .entry)) ⌝ }
 {
     let sheets = read_sheets_v1(bytes);
-    let n = read_little(bytes, SIZE_AT, 1) as usize;
-    let tally = read_little(bytes, TALLY_AT, TALLY_BYTES_V1) as u32;
+    let n = imagepart::read_little(bytes, SIZE_AT, 1) as usize;
+    let tally = imagepart::read_little(bytes, TALLY_AT, TALLY_BYTES_V1) as u32;
     BenchV1 { n, tally, sheets }
 }
 
-// Writes a number into the k bytes from `to` on, the lowest byte first.
-fn write_little(x: u64, k: usize, bytes: &mut [u8], to: usize)
-    requires { ⌜ to + k ≤ length (now bytes) ⌝ }
-    ensures { λ _. ⌜ Laid k (little k x) to (now (bytes .entry)) (now (bytes .exit)) ⌝ }
+// The sheets without their tallies.
+fn without_tallies(sheets: [Sheet; SHEETS]) -> [SheetV3; SHEETS]
+    ensures { λ r. ⌜ r ≡ map withoutTally sheets ⌝ }
 {
-    let mut rest = x;
-    let mut i = 0;
-    while i < k {
-        bytes[to + i] = (rest % 256) as u8;
-        rest = rest / 256;
-        i += 1;
+    let zero = sheet::zeros();
+    let mut made = [without_tally(zero); SHEETS];
+    let mut k: usize = 0;
+    while k < SHEETS {
+        let sheet = sheets[k];
+        made[k] = without_tally(sheet);
+        k += 1;
     }
+    made
 }
 
-// Writes the 8 bytes of a name from `to` on.
-fn lay_name(name: &[u8; NAME_BYTES], bytes: &mut [u8], to: usize)
-    requires { ⌜ to + 8 ≤ length (now bytes) ⌝ }
-    ensures { λ _. ⌜ Laid 8 (now (name .entry)) to (now (bytes .entry)) (now (bytes .exit)) ⌝ }
-{
-    copy_part(name, &mut bytes[to..]);
-}
-
-// Writes the 64 bytes of a map from `to` on.
-fn lay_map(map: &[u8; MAP_BYTES], bytes: &mut [u8], to: usize)
-    requires { ⌜ to + 64 ≤ length (now bytes) ⌝ }
-    ensures { λ _. ⌜ Laid 64 (now (map .entry)) to (now (bytes .entry)) (now (bytes .exit)) ⌝ }
-{
-    copy_part(map, &mut bytes[to..]);
-}
-
-// Writes the map of sheet s.
-fn lay_map_of(map: &[u8; MAP_BYTES], bytes: &mut [u8], s: usize)
-    requires { ⌜ 512 ≤ length (now bytes) ⌝ }
-    requires { ⌜ s < 8 ⌝ }
-    ensures { λ _. ⌜ Laid 64 (now (map .entry)) (s * 64) (now (bytes .entry)) (now (bytes .exit)) ⌝ }
-{
-    lay_map(map, bytes, s * MAP_BYTES);
-}
-
-// Writes a point from `to` on.
-fn lay_point(point: Point, bytes: &mut [u8], to: usize)
-    requires { ⌜ to + 72 ≤ length (now bytes) ⌝ }
-    ensures { λ _. ⌜ Laid 72 (pointBytes point) to (now (bytes .entry)) (now (bytes .exit)) ⌝ }
-{
-    let name = point.name;
-    lay_name(&name, bytes, to);
-    let map = point.map;
-    lay_map(&map, bytes, to + NAME_BYTES);
-}
-
-// Writes eight places from `to` on.
-fn lay_places(places: [Point; PLACES], bytes: &mut [u8], to: usize)
-    requires { ⌜ to + 576 ≤ length (now bytes) ⌝ }
-    ensures { λ _. ⌜ Laid 576 (concat (map pointBytes places)) to (now (bytes .entry)) (now (bytes .exit)) ⌝ }
-{
-    let mut i = 0;
-    while i < PLACES {
-        let point = places[i];
-        lay_point(point, bytes, to + i * POINT_BYTES);
-        i += 1;
-    }
-}
-
-// Writes the points of a sheet from `to` on.
-fn lay_points(sheet: Sheet, bytes: &mut [u8], to: usize)
-    requires { ⌜ to + 577 ≤ length (now bytes) ⌝ }
-    ensures { λ _. ⌜ Laid 577 (pointsBytes sheet) to (now (bytes .entry)) (now (bytes .exit)) ⌝ }
-{
-    write_little(sheet.count as u64, 1, bytes, to);
-    let places = sheet.points;
-    lay_places(places, bytes, to + 1);
-}
-
-// Writes the points of eight sheets.
-fn write_points(sheets: [Sheet; SHEETS], bytes: &mut [u8])
-    requires { ⌜ length (now bytes) ≡ 5137 ⌝ }
-    ensures { λ _. ⌜ Laid 4616 (concat (map pointsBytes sheets)) 521 (now (bytes .entry)) (now (bytes .exit)) ⌝ }
+// Writes the tallies of eight sheets.
+fn write_tallies(sheets: [Sheet; SHEETS], bytes: &mut [u8])
+    requires { ⌜ 577 ≤ length (now bytes) ⌝ }
+    ensures { λ _. ⌜ Laid 64 (talliesOf sheets) 513 (now (bytes .entry)) (now (bytes .exit)) ⌝ }
 {
     let mut s = 0;
     while s < SHEETS {
         let sheet = sheets[s];
-        lay_points(sheet, bytes, POINTS_AT + s * POINTS_BYTES);
+        imagepart::write_little(sheet.tally, TALLY_BYTES, bytes, TALLY_AT + s * TALLY_BYTES);
+        s += 1;
+    }
+}
+
+// Writes the points of eight sheets from `from` on.
+fn write_points(sheets: [SheetV3; SHEETS], bytes: &mut [u8], from: usize)
+    requires { ⌜ from + 4616 ≤ length (now bytes) ⌝ }
+    ensures { λ _. ⌜ Laid 4616 (pointsV3Of sheets) from (now (bytes .entry)) (now (bytes .exit)) ⌝ }
+{
+    let mut s = 0;
+    while s < SHEETS {
+        let sheet = sheets[s];
+        let places = sheet.points;
+        imagepart::lay_points(sheet.count, places, bytes, from + s * POINTS_BYTES);
         s += 1;
     }
 }
 
 // Writes the maps of eight sheets.
-fn write_maps(sheets: [Sheet; SHEETS], bytes: &mut [u8])
+fn write_maps_v3(sheets: [SheetV3; SHEETS], bytes: &mut [u8])
     requires { ⌜ 512 ≤ length (now bytes) ⌝ }
-    ensures { λ _. ⌜ Laid 512 (concat (mapsOf sheets)) 0 (now (bytes .entry)) (now (bytes .exit)) ⌝ }
+    ensures { λ _. ⌜ Laid 512 (concat (mapsV3Of sheets)) 0 (now (bytes .entry)) (now (bytes .exit)) ⌝ }
 {
     let mut s = 0;
     while s < SHEETS {
         let sheet = sheets[s];
         let map = sheet.map;
-        lay_map_of(&map, bytes, s);
+        imagepart::lay_map_of(&map, bytes, s);
         s += 1;
     }
 }
 
-// Writes the maps of eight sheets of an older kind.
+// Writes the maps of eight sheets of the first two kinds.
 fn write_maps_v1(sheets: [SheetV1; SHEETS], bytes: &mut [u8])
     requires { ⌜ 512 ≤ length (now bytes) ⌝ }
     ensures { λ _. ⌜ Laid 512 (concat (mapsV1Of sheets)) 0 (now (bytes .entry)) (now (bytes .exit)) ⌝ }
@@ -335,21 +254,35 @@ fn write_maps_v1(sheets: [SheetV1; SHEETS], bytes: &mut [u8])
     while s < SHEETS {
         let sheet = sheets[s];
         let map = sheet.map;
-        lay_map_of(&map, bytes, s);
+        imagepart::lay_map_of(&map, bytes, s);
         s += 1;
     }
 }
 
 // Writes the image of a bench.
 pub fn write(bench: Bench, bytes: &mut [u8])
-    requires { ⌜ length (now bytes) ≡ 5137 ⌝ }
+    requires { ⌜ length (now bytes) ≡ 5201 ⌝ }
     ensures { λ _. ⌜ now (bytes .exit) ≡ imageOf bench ⌝ }
 {
     let sheets = bench.sheets;
-    write_maps(sheets, bytes);
-    write_little(bench.n as u64, 1, bytes, SIZE_AT);
-    write_little(bench.tally, TALLY_BYTES, bytes, TALLY_AT);
-    write_points(sheets, bytes);
+    let untold = without_tallies(sheets);
+    write_maps_v3(untold, bytes);
+    imagepart::write_little(bench.n as u64, 1, bytes, SIZE_AT);
+    write_tallies(sheets, bytes);
+    imagepart::write_little(bench.earlier, TALLY_BYTES, bytes, EARLIER_AT);
+    write_points(untold, bytes, POINTS_AT);
+}
+
+// Writes the image of a bench of the third kind.
+pub fn write_v3(bench: BenchV3, bytes: &mut [u8])
+    requires { ⌜ length (now bytes) ≡ 5137 ⌝ }
+    ensures { λ _. ⌜ now (bytes .exit) ≡ imageV3Of bench ⌝ }
+{
+    let sheets = bench.sheets;
+    write_maps_v3(sheets, bytes);
+    imagepart::write_little(bench.n as u64, 1, bytes, SIZE_AT);
+    imagepart::write_little(bench.tally, TALLY_BYTES, bytes, TALLY_AT);
+    write_points(sheets, bytes, POINTS_AT_V3);
 }
 
 // Writes the image of a bench of the second kind.
@@ -359,6 +292,6 @@ pub fn write_v2(bench: BenchV2, bytes: &mut [u8])
 {
     let sheets = bench.sheets;
     write_maps_v1(sheets, bytes);
-    write_little(bench.n as u64, 1, bytes, SIZE_AT);
-    write_little(bench.tally, TALLY_BYTES, bytes, TALLY_AT);
+    imagepart::write_little(bench.n as u64, 1, bytes, SIZE_AT);
+    imagepart::write_little(bench.tally, TALLY_BYTES, bytes, TALLY_AT);
 }

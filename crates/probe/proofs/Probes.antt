@@ -9,13 +9,15 @@ use lib.Dec.{eqb, eqb→eq}
 use lib.ListN.{length}
 use lib.Seq.{take-all}
 use denote.Ref.{RefT, now}
-use Rattle.bench.specs.Conversion.{convertV1Call, convertV2Call}
 use Rattle.bench.specs.Outcome.{answerOutcome}
 use Rattle.bench.specs.declared.Bench.{Bench}
-use Rattle.bench.specs.declared.conversion.BenchV1.{BenchV1}
-use Rattle.bench.specs.declared.conversion.BenchV2.{BenchV2}
-use Rattle.bench.specs.declared.conversion.BenchedV2.{BenchedV2}
 use Rattle.bench.specs.declared.Benched.{Benched}
+use Rattle.conversion.specs.Conversion.{convertV1Call, convertV2Call, convertV3Call}
+use Rattle.conversion.specs.declared.BenchV1.{BenchV1}
+use Rattle.conversion.specs.declared.BenchV2.{BenchV2}
+use Rattle.conversion.specs.declared.BenchV3.{BenchV3}
+use Rattle.conversion.specs.declared.BenchedV2.{BenchedV2}
+use Rattle.conversion.specs.declared.BenchedV3.{BenchedV3}
 use Rattle.equivalence.specs.Outcome.{Outcome, packed}
 use Rattle.equivalence.specs.Calls.{preferCheck, earlierOf, Preferred}
 use Rattle.equivalence.specs.Lists.{upTo, keep, concat}
@@ -26,8 +28,10 @@ use Rattle.equivalence.specs.declared.Check.the-variants.{Passed, Failed}
 use Rattle.equivalence.specs.declared.Place.the-variants.{At}
 use Rattle.equivalence.proofs.Places.{place-index}
 use Rattle.equivalence.proofs.Tests.{eq→eqb, pick, pick-yes, pick-no}
-use Rattle.image.specs.Image.{part, imageOf, imageV2Of, benchIn, benchV2In, benchV1In}
-use Rattle.probe.specs.Calls.{preferred, ofLength, benchShown, imageCall, namedCall, benchV2Shown, firstImageCall, oldImageCall}
+use Rattle.imagepart.specs.Parts.{part}
+use Rattle.image.specs.Image.{imageOf, imageV3Of, imageV2Of, benchIn, benchV3In, benchV2In, benchV1In}
+use Rattle.probe.specs.Calls.{preferred, ofLength, benchShown, imageCall, namedCall}
+use Rattle.probe.specs.Calls.{benchV2Shown, benchV3Shown, firstImageCall, secondImageCall, thirdImageCall, oldImageCall}
 
 -- ---- places
 
@@ -74,6 +78,12 @@ module _ {A : Type 0} (k : ℕ) (bytes : List ℕ) (right other : A) where
   unfolding ofLength
   other-length h = pick-no (eqb (length bytes) k) right other (λ t. h (eqb→eq (length bytes) k t))
 
+-- a call by its steps: what the bytes show read, the call made, what it gave shown
+steps-called : {A B : Type 0} (k : ℕ) (image : List ℕ) (call : A → B) (shown : B → ℕ × List ℕ) (given before : A) (r : B) (after : ℕ × List ℕ)
+    → length image ≡ k → before ≡ given → r ≡ call before → after ≡ shown r → after ≡ ofLength k image (shown (call given)) (255, image)
+steps-called k image call shown given before r after e f g h =
+    h ∙ ap shown (g ∙ ap call f) ∙ sym (right-length k image (shown (call given)) (255, image) e)
+
 -- ---- a call over an image
 
 pub bench-shown : (r : Benched) (number : ℕ) (after : List ℕ) → after ≡ imageOf (r .bench) → number ≡ packed (answerOutcome (r .answer))
@@ -82,18 +92,17 @@ unfolding benchShown
 bench-shown r number after e f = rw (e, f)
 
 module _ (call : Bench → Benched) (image : List ℕ) where
-  pub image-other : ¬ (length image ≡ 5137) → (255, image) ≡ imageCall call image
+  pub image-other : ¬ (length image ≡ 5201) → (255, image) ≡ imageCall call image
   unfolding imageCall
-  image-other h = sym (other-length 5137 image _ _ h)
+  image-other h = sym (other-length 5201 image _ _ h)
 
-  -- by its steps: the bench read, the call made, what it gave shown
-  pub image-called : length image ≡ 5137 → (before : Bench) → before ≡ benchIn image → (r : Benched) → r ≡ call before → (after : ℕ × List ℕ)
+  pub image-called : length image ≡ 5201 → (before : Bench) → before ≡ benchIn image → (r : Benched) → r ≡ call before → (after : ℕ × List ℕ)
       → after ≡ benchShown r → after ≡ imageCall call image
   unfolding imageCall
-  image-called e before f r g after h = rw (h, g, f) (sym (right-length 5137 image _ _ e))
+  image-called e before f r g after h = steps-called 5201 image call benchShown (benchIn image) before r after e f g h
 
 -- a call that looks at no bench
-pub image-given : (given : Benched) (image : List ℕ) → length image ≡ 5137 → (r : Benched) → r ≡ given → (after : ℕ × List ℕ) → after ≡ benchShown r
+pub image-given : (given : Benched) (image : List ℕ) → length image ≡ 5201 → (r : Benched) → r ≡ given → (after : ℕ × List ℕ) → after ≡ benchShown r
     → after ≡ imageCall (λ b. given) image
 image-given given image e r f after g = image-called (λ b. given) image e (benchIn image) refl r f after g
 
@@ -108,10 +117,10 @@ module _ (call : Bench → List ℕ → Benched) (image name : List ℕ) where
     unfolding namedCall
     named-read = sym (right-length 8 name _ _ e)
 
-    pub named-other : ¬ (length image ≡ 5137) → (255, image) ≡ namedCall call image name
+    pub named-other : ¬ (length image ≡ 5201) → (255, image) ≡ namedCall call image name
     named-other h = image-other _ image h ∙ named-read
 
-    pub named-called : length image ≡ 5137 → (before : Bench) → before ≡ benchIn image → (point : List ℕ) → point ≡ part 0 8 name → (r : Benched) → r ≡ call before point
+    pub named-called : length image ≡ 5201 → (before : Bench) → before ≡ benchIn image → (point : List ℕ) → point ≡ part 0 8 name → (r : Benched) → r ≡ call before point
         → (after : ℕ × List ℕ) → after ≡ benchShown r → after ≡ namedCall call image name
     unfolding part
     named-called f before g point i r h after k =
@@ -125,6 +134,11 @@ pub second-shown : (r : BenchedV2) (number : ℕ) (after : List ℕ) → after �
 unfolding benchV2Shown
 second-shown r number after e f = rw (e, f)
 
+pub third-shown : (r : BenchedV3) (number : ℕ) (after : List ℕ) → after ≡ imageV3Of (r .bench) → number ≡ packed (answerOutcome (r .answer))
+    → (number, after) ≡ benchV3Shown r
+unfolding benchV3Shown
+third-shown r number after e f = rw (e, f)
+
 module _ (old image : List ℕ) where
   pub first-other : ¬ (length image ≡ 521) → (255, image) ≡ firstImageCall old image
   unfolding firstImageCall
@@ -133,25 +147,39 @@ module _ (old image : List ℕ) where
   pub first-called : length image ≡ 521 → (before : BenchV1) → before ≡ benchV1In old → (r : BenchedV2) → r ≡ convertV1Call before → (after : ℕ × List ℕ)
       → after ≡ benchV2Shown r → after ≡ firstImageCall old image
   unfolding firstImageCall
-  first-called e before f r g after h = rw (h, g, f) (sym (right-length 521 image _ _ e))
+  first-called e before f r g after h = steps-called 521 image convertV1Call benchV2Shown (benchV1In old) before r after e f g h
+
+  pub second-other : ¬ (length image ≡ 5137) → (255, image) ≡ secondImageCall old image
+  unfolding secondImageCall
+  second-other h = sym (other-length 5137 image _ _ h)
+
+  pub second-called : length image ≡ 5137 → (before : BenchV2) → before ≡ benchV2In old → (r : BenchedV3) → r ≡ convertV2Call before → (after : ℕ × List ℕ)
+      → after ≡ benchV3Shown r → after ≡ secondImageCall old image
+  unfolding secondImageCall
+  second-called e before f r g after h = steps-called 5137 image convertV2Call benchV3Shown (benchV2In old) before r after e f g h
 
   pub old-first : length old ≡ 517 → {after : ℕ × List ℕ} → after ≡ firstImageCall old image → after ≡ oldImageCall old image
   unfolding oldImageCall
   old-first e f = f ∙ sym (right-length 517 old _ _ e)
 
   module _ (h : ¬ (length old ≡ 517)) where
-    pub old-other : ¬ (length old ≡ 521) → (255, image) ≡ oldImageCall old image
+    pub old-second : length old ≡ 521 → {after : ℕ × List ℕ} → after ≡ secondImageCall old image → after ≡ oldImageCall old image
     unfolding oldImageCall
-    old-other i = sym (other-length 517 old _ _ h ∙ other-length 521 old _ _ i)
+    old-second e f = f ∙ sym (other-length 517 old _ _ h ∙ right-length 521 old _ _ e)
 
-    module _ (e : length old ≡ 521) where
-      old-second : imageCall (λ b. convertV2Call (benchV2In old)) image ≡ oldImageCall old image
+    module _ (i : ¬ (length old ≡ 521)) where
+      pub old-other : ¬ (length old ≡ 5137) → (255, image) ≡ oldImageCall old image
       unfolding oldImageCall
-      old-second = sym (other-length 517 old _ _ h ∙ right-length 521 old _ _ e)
+      old-other j = sym (other-length 517 old _ _ h ∙ other-length 521 old _ _ i ∙ other-length 5137 old _ _ j)
 
-      pub new-other : ¬ (length image ≡ 5137) → (255, image) ≡ oldImageCall old image
-      new-other i = image-other _ image i ∙ old-second
+      module _ (e : length old ≡ 5137) where
+        old-third : imageCall (λ b. convertV3Call (benchV3In old)) image ≡ oldImageCall old image
+        unfolding oldImageCall thirdImageCall
+        old-third = sym (other-length 517 old _ _ h ∙ other-length 521 old _ _ i ∙ right-length 5137 old _ _ e)
 
-      pub old-called : length image ≡ 5137 → (before : BenchV2) → before ≡ benchV2In old → (r : Benched) → r ≡ convertV2Call before → (after : ℕ × List ℕ)
-          → after ≡ benchShown r → after ≡ oldImageCall old image
-      old-called f before g r i after k = image-given _ image f r (i ∙ ap convertV2Call g) after k ∙ old-second
+        pub new-other : ¬ (length image ≡ 5201) → (255, image) ≡ oldImageCall old image
+        new-other j = image-other _ image j ∙ old-third
+
+        pub old-called : length image ≡ 5201 → (before : BenchV3) → before ≡ benchV3In old → (r : Benched) → r ≡ convertV3Call before → (after : ℕ × List ℕ)
+            → after ≡ benchShown r → after ≡ oldImageCall old image
+        old-called f before g r j after k = image-given _ image f r (j ∙ ap convertV3Call g) after k ∙ old-third

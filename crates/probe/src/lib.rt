@@ -8,15 +8,18 @@ ghost use Rattle.congruence.specs.Calls.{quotientCall, certifyCall};
 ghost use Rattle.equivalence.specs.Outcome.{packed, writtenOutcome};
 ghost use Rattle.congruence.specs.Outcome.{dividedOutcome, certifiedOutcome};
 ghost use Rattle.bench.specs.Calls.{startCall, addCall, clearCall, setCall, returnCall, forgetCall};
-ghost use Rattle.probe.specs.Calls.{placeNumber, preferCopy, benchShown, imageCall, namedCall, benchV2Shown, firstImageCall, oldImageCall, headCall};
+ghost use Rattle.probe.specs.Calls.{placeNumber, preferCopy, benchShown, imageCall, namedCall, headCall};
+ghost use Rattle.probe.specs.Calls.{benchV2Shown, benchV3Shown, firstImageCall, secondImageCall, oldImageCall};
 ghost use Rattle.head.specs.Head.{textNumber};
 ghost use Rattle.algebratext.specs.Calls.{writeCall};
 use bench::Benched;
-use bench::BenchedV2;
+use conversion::BenchedV2;
+use conversion::BenchedV3;
 use head::HEAD_LENGTH;
 use image::LENGTH as IMAGE_LENGTH;
 use image::LENGTH_V1 as IMAGE_V1_LENGTH;
 use image::LENGTH_V2 as IMAGE_V2_LENGTH;
+use image::LENGTH_V3 as IMAGE_V3_LENGTH;
 use sheet::NAME_BYTES;
 
 mod numbers;
@@ -48,7 +51,7 @@ pub extern "C" fn probe_prefer<'a>(n: usize, a: &'a [u8], b: &'a [u8], out: &mut
     ensures { λ r. ⌜ (r, now (out .exit)) ≡ preferCopy n (now (a .entry)) (now (b .entry)) (now (out .entry)) ⌝ }
 {
     let part = equivalence::prefer(n, a, b);
-    image::copy_part(part, out);
+    imagepart::copy_part(part, out);
     part.len()
 }
 
@@ -85,7 +88,7 @@ pub extern "C" fn probe_certify(n: usize, arities: &[u8], cells: &[u8], maps: &[
 
 // Writes the image of the bench that a call gave, and gives the number of its answer.
 fn show(done: Benched, bytes: &mut [u8]) -> u32
-    requires { ⌜ length (now bytes) ≡ 5137 ⌝ }
+    requires { ⌜ length (now bytes) ≡ 5201 ⌝ }
     ensures { λ r. ⌜ (r, now (bytes .exit)) ≡ benchShown done ⌝ }
 {
     let after = done.bench;
@@ -152,7 +155,7 @@ pub extern "C" fn probe_bench_set(bytes: &mut [u8], sheet: usize, name: &[u8]) -
         return OTHER_LENGTH;
     }
     let before = image::read(bytes);
-    let point = image::read_name(name, 0);
+    let point = imagepart::read_name(name, 0);
     let done = bench::set_point(before, sheet, point);
     show(done, bytes)
 }
@@ -169,7 +172,7 @@ pub extern "C" fn probe_bench_return(bytes: &mut [u8], sheet: usize, name: &[u8]
         return OTHER_LENGTH;
     }
     let before = image::read(bytes);
-    let point = image::read_name(name, 0);
+    let point = imagepart::read_name(name, 0);
     let done = bench::return_to(before, sheet, point);
     show(done, bytes)
 }
@@ -186,7 +189,7 @@ pub extern "C" fn probe_bench_forget(bytes: &mut [u8], sheet: usize, name: &[u8]
         return OTHER_LENGTH;
     }
     let before = image::read(bytes);
-    let point = image::read_name(name, 0);
+    let point = imagepart::read_name(name, 0);
     let done = bench::forget(before, sheet, point);
     show(done, bytes)
 }
@@ -202,6 +205,17 @@ fn show_v2(done: BenchedV2, bytes: &mut [u8]) -> u32
     numbers::answer_number(answer)
 }
 
+// Writes the image of the bench that the conversion into the third kind gave, and gives the number of its answer.
+fn show_v3(done: BenchedV3, bytes: &mut [u8]) -> u32
+    requires { ⌜ length (now bytes) ≡ 5137 ⌝ }
+    ensures { λ r. ⌜ (r, now (bytes .exit)) ≡ benchV3Shown done ⌝ }
+{
+    let after = done.bench;
+    image::write_v3(after, bytes);
+    let answer = done.answer;
+    numbers::answer_number(answer)
+}
+
 // The conversion of a bench of the first kind.
 fn convert_first(old: &[u8], bytes: &mut [u8]) -> u32
     requires { ⌜ length (now old) ≡ 517 ⌝ }
@@ -211,8 +225,21 @@ fn convert_first(old: &[u8], bytes: &mut [u8]) -> u32
         return OTHER_LENGTH;
     }
     let before = image::read_v1(old);
-    let done = bench::convert_v1(before);
+    let done = conversion::convert_v1(before);
     show_v2(done, bytes)
+}
+
+// The conversion of a bench of the second kind.
+fn convert_second(old: &[u8], bytes: &mut [u8]) -> u32
+    requires { ⌜ length (now old) ≡ 521 ⌝ }
+    ensures { λ r. ⌜ (r, now (bytes .exit)) ≡ secondImageCall (now (old .entry)) (now (bytes .entry)) ⌝ }
+{
+    if bytes.len() != IMAGE_V3_LENGTH {
+        return OTHER_LENGTH;
+    }
+    let before = image::read_v2(old);
+    let done = conversion::convert_v2(before);
+    show_v3(done, bytes)
 }
 
 // The conversion of an old bench, whose image's length tells its kind, over that and an image of the next kind: the reason, or 255 where either has
@@ -224,14 +251,17 @@ pub extern "C" fn probe_bench_convert(old: &[u8], bytes: &mut [u8]) -> u32
     if old.len() == IMAGE_V1_LENGTH {
         return convert_first(old, bytes);
     }
-    if old.len() != IMAGE_V2_LENGTH {
+    if old.len() == IMAGE_V2_LENGTH {
+        return convert_second(old, bytes);
+    }
+    if old.len() != IMAGE_V3_LENGTH {
         return OTHER_LENGTH;
     }
     if bytes.len() != IMAGE_LENGTH {
         return OTHER_LENGTH;
     }
-    let before = image::read_v2(old);
-    let done = bench::convert_v2(before);
+    let before = image::read_v3(old);
+    let done = conversion::convert_v3(before);
     show(done, bytes)
 }
 

@@ -40,7 +40,7 @@ module _ (name : List ℕ) (s : Sheet) where
 
   -- the place that with_point fills, and how many are then held
   pub stored-in : (place : ℕ) → place ≡ placeNamed name s → (count : ℕ) → (place < s .count → count ≡ s .count) → (s .count ≤ place → count ≡ suc (s .count))
-      → record { map = s .map; count = count; points = set (s .points) place (record { name = name; map = s .map }) } ≡ withPoint name s
+      → record { map = s .map; tally = s .tally; count = count; points = set (s .points) place (record { name = name; map = s .map }) } ≡ withPoint name s
   unfolding withPoint
   stored-in place e count old new =
       elim (T? (isHeld name s)) [
@@ -105,6 +105,10 @@ same-test false false f g = refl
 pub point-map : (name : List ℕ) (s : Sheet) → withPoint name s .map ≡ s .map
 unfolding withPoint
 point-map name s = refl
+
+pub point-tally : (name : List ℕ) (s : Sheet) → withPoint name s .tally ≡ s .tally
+unfolding withPoint
+point-tally name s = refl
 
 pub point-places : (name : List ℕ) (s : Sheet) → length (withPoint name s .points) ≡ length (s .points)
 unfolding withPoint
@@ -212,6 +216,10 @@ module _ (name : List ℕ) (s : Sheet) (eight : length (s .points) ≡ 8) (room 
 pub pointless-map : (name : List ℕ) (s : Sheet) → withoutPoint name s .map ≡ s .map
 unfolding withoutPoint
 pointless-map name s = refl
+
+pub pointless-tally : (name : List ℕ) (s : Sheet) → withoutPoint name s .tally ≡ s .tally
+unfolding withoutPoint
+pointless-tally name s = refl
 
 pub pointless-places : (name : List ℕ) (s : Sheet) → length (withoutPoint name s .points) ≡ length (s .points)
 unfolding withoutPoint

@@ -62,6 +62,7 @@ unfoldable pub withPoint : List ℕ → Sheet → Sheet
 withPoint name s =
     record {
       map = s .map;
+      tally = s .tally;
       count = elim (isHeld name s) [ true ↦ s .count | false ↦ suc (s .count) ];
       points = set (s .points) (placeNamed name s) (record { name = name; map = s .map });
     }
@@ -71,6 +72,7 @@ unfoldable pub withoutPoint : List ℕ → Sheet → Sheet
 withoutPoint name s =
     record {
       map = s .map;
+      tally = s .tally;
       count = s .count - 1;
       points = set (s .points) (placeNamed name s) (pointIn (s .points) (s .count - 1));
     }

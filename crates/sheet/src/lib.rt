@@ -1,4 +1,4 @@
-// A sheet of the bench: a map, and up to eight points to go back to, each a map under a name. A sheet is a value. Any sheet is legal, also one that no
+// A sheet of the bench: a map, a tally of the blocks that it lost, and up to eight points to go back to, each a map under a name. A sheet is a value. Any sheet is legal, also one that no
 // call gave: its count may be too large, and what stands in its places may be no map.
 ghost use mathlib.Core.Path.{_≡_};
 ghost use Prim.Native.Nat.{_≤_};
@@ -29,6 +29,7 @@ pub struct Point {
 // A map in the first n bytes, and points in the first `count` places. Bytes past n and the other places are never read.
 pub struct Sheet {
     pub map: [u8; MAP_BYTES],
+    pub tally: u64,
     pub count: usize,
     pub points: [Point; PLACES],
 }
@@ -44,6 +45,7 @@ pub fn zeros() -> Sheet
     };
     Sheet {
         map,
+        tally: 0,
         count: 0,
         points: [point; PLACES],
     }

@@ -1,6 +1,6 @@
 -- `image::read` meets its contract.
 use borrow.Author.Needs.{needs}
-use Rattle.image.specs.Image.{sizeIn, tallyIn, benchIn}
+use Rattle.image.specs.Image.{sizeIn, earlierIn, benchIn}
 use Rattle.image.proofs.read.Statement.{statement}
 use Rattle.image.proofs.read.Tie as tie
 
@@ -14,7 +14,7 @@ read-little-requires-2 : tie.Need-read-little-requires-2
 read-little-requires-2 c κs = search needs
 
 returns : tie.Need-returns
-unfolding benchIn sizeIn tallyIn
+unfolding benchIn sizeIn earlierIn
 returns c = rw (c .before .before .read-sheets .ensures, c .before .read-little .ensures .0, c .read-little2 .ensures .0)
 
 pub read-spec : {M : Type 1} → statement M

@@ -3,7 +3,7 @@ use Prim.Native.Nat.{_-_}
 use native.Mathlib.Omega.{arith}
 use borrow.Author.Needs.{needs}
 use Rattle.image.specs.Image.{sheetIn}
-use Rattle.image.proofs.Copies.{Tabling, tabling-none, tabling-more, tabling-all}
+use Rattle.imagepart.proofs.Copies.{Tabling, tabling-none, tabling-more, tabling-all}
 use Rattle.image.proofs.read_sheets.Statement.{statement}
 use Rattle.image.proofs.read_sheets.Tie as tie
 

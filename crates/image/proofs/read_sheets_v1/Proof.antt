@@ -4,7 +4,7 @@ use mathlib.Core.Path.{refl}
 use native.Mathlib.Omega.{arith}
 use borrow.Author.Needs.{needs}
 use Rattle.image.specs.Image.{sheetV1In}
-use Rattle.image.proofs.Copies.{Tabling, tabling-none, tabling-more, tabling-all}
+use Rattle.imagepart.proofs.Copies.{Tabling, tabling-none, tabling-more, tabling-all}
 use Rattle.image.proofs.read_sheets_v1.Statement.{statement}
 use Rattle.image.proofs.read_sheets_v1.Tie as tie
 

@@ -4,11 +4,17 @@ use Rattle.image.proofs.Images.{image-written}
 use Rattle.image.proofs.write.Statement.{statement}
 use Rattle.image.proofs.write.Tie as tie
 
-write-maps-requires : tie.Need-write-maps-requires
-write-maps-requires c κs = search needs
+without-tallies-requires : tie.Need-without-tallies-requires
+without-tallies-requires c κs = search needs
+
+write-maps-v3-requires : tie.Need-write-maps-v3-requires
+write-maps-v3-requires c κs = search needs
 
 write-little-requires : tie.Need-write-little-requires
 write-little-requires c κs = search needs
+
+write-tallies-requires : tie.Need-write-tallies-requires
+write-tallies-requires c κs = search needs
 
 write-little-requires-2 : tie.Need-write-little-requires-2
 write-little-requires-2 c κs = search needs
@@ -26,8 +32,10 @@ pub write-spec : {M : Type 1} → statement M
 write-spec =
     tie.close
     (tie.spec
-    write-maps-requires
+    without-tallies-requires
+    write-maps-v3-requires
     write-little-requires
+    write-tallies-requires
     write-little-requires-2
     write-points-requires
     same-length

@@ -1,9 +1,9 @@
 -- `image::write_maps_v1` meets its contract.
 use Prim.Native.Nat.{_-_}
-use mathlib.Core.List.{[]}
 use native.Mathlib.Omega.{arith}
 use borrow.Author.Needs.{needs}
-use Rattle.image.proofs.Steps.{Laying, laying-none, laying-more, laying-all}
+use Rattle.conversion.specs.Conversion.{noSheetV1}
+use Rattle.imagepart.proofs.Steps.{Laying, laying-none, laying-more, laying-all}
 use Rattle.image.proofs.write_maps_v1.Statement.{statement}
 use Rattle.image.proofs.write_maps_v1.Tie as tie
 
@@ -36,7 +36,7 @@ loop-again c =
     let k = c .before .before .before .before .before .before .before .before .loop in
     let h = c .before .before .before .before .before .before .before .loop-test .taken in
     let room = c .before .before .before .before .before .before .before .before .before .before .pre in
-    laying-more (λ t. t .map) _ 64 0 _ _ _ (record { map = [] }) _ _ (k .inv) h room (omega arith) (c .before .before .lay-map-of .ensures)
+    laying-more (λ t. t .map) _ 64 0 _ _ _ noSheetV1 _ _ (k .inv) h room (omega arith) (c .before .before .lay-map-of .ensures)
 
 same-length : tie.Need-same-length Inv-loop μ-loop
 same-length c = search needs

@@ -2,17 +2,16 @@
 use Prim.Native.Nat.{_-_}
 use native.Mathlib.Omega.{arith}
 use borrow.Author.Needs.{needs}
-use Rattle.sheet.specs.Sheet.{noSheet}
-use Rattle.image.specs.Image.{pointsBytes}
-use Rattle.image.proofs.Steps.{Laying, laying-none, laying-more, laying-all}
+use Rattle.imagepart.specs.Parts.{pointsBytes}
+use Rattle.imagepart.proofs.Steps.{Laying, laying-none, laying-more, laying-all}
 use Rattle.image.proofs.write_points.Statement.{statement}
 use Rattle.image.proofs.write_points.Tie as tie
 
 abbrev Inv-loop : tie.InvT-loop
-Inv-loop bytes₀ sheets s₀ bytes s = Laying pointsBytes sheets 577 521 bytes₀ s bytes
+Inv-loop bytes₀ from sheets s₀ bytes s = Laying (λ t. pointsBytes (t .count) (t .points)) sheets 577 from bytes₀ s bytes
 
 abbrev μ-loop : tie.MeasureT-loop
-μ-loop bytes₀ sheets s₀ bytes s = 8 - s
+μ-loop bytes₀ from sheets s₀ bytes s = 8 - s
 
 loop-holds : tie.Need-loop-holds Inv-loop μ-loop
 loop-holds c = laying-none _ _ _ _ _ (search needs)
@@ -39,10 +38,7 @@ loop-less : tie.Need-loop-less Inv-loop μ-loop
 loop-less c = omega arith
 
 loop-again : tie.Need-loop-again Inv-loop μ-loop
-loop-again c =
-    let k = c .before .before .before .before .before .before .loop in
-    let h = c .before .before .before .before .before .loop-test .taken in
-    laying-more _ _ 577 521 _ _ _ noSheet _ _ (k .inv) h (omega (arith, c .before .before .before .before .before .before .before .before .pre)) (omega arith) (c .before .before .lay-points .ensures)
+loop-again c = search laying-more
 
 same-length : tie.Need-same-length Inv-loop μ-loop
 same-length c = search needs

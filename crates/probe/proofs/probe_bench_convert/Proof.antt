@@ -1,6 +1,6 @@
 -- `probe::probe_bench_convert` meets its contract.
 use native.Mathlib.Omega.{arith}
-use Rattle.probe.proofs.Probes.{old-first, old-other, new-other, old-called}
+use Rattle.probe.proofs.Probes.{old-first, old-second, old-other, new-other, old-called}
 use borrow.Author.Needs.{needs}
 use Rattle.probe.proofs.probe_bench_convert.Statement.{statement}
 use Rattle.probe.proofs.probe_bench_convert.Tie as tie
@@ -14,26 +14,35 @@ same-length c = search needs
 returns : tie.Need-returns
 returns c = search (old-first, arith)
 
-returns-2 : tie.Need-returns-2
-returns-2 c = search (old-other, arith)
-
-returns-3 : tie.Need-returns-3
-returns-3 c = search (new-other, arith)
-
-read-v2-requires : tie.Need-read-v2-requires
-read-v2-requires c κs = search needs
-
-convert-v2-requires : tie.Need-convert-v2-requires
-convert-v2-requires c κs = search needs
-
-show-requires : tie.Need-show-requires
-show-requires c κs = search needs
+convert-second-requires : tie.Need-convert-second-requires
+convert-second-requires c κs = search needs
 
 same-length-2 : tie.Need-same-length-2
 same-length-2 c = search needs
 
+returns-2 : tie.Need-returns-2
+returns-2 c = search (old-second, arith)
+
+returns-3 : tie.Need-returns-3
+returns-3 c = search (old-other, arith)
+
 returns-4 : tie.Need-returns-4
-returns-4 c = search (old-called, arith)
+returns-4 c = search (new-other, arith)
+
+read-v3-requires : tie.Need-read-v3-requires
+read-v3-requires c κs = search needs
+
+convert-v3-requires : tie.Need-convert-v3-requires
+convert-v3-requires c κs = search needs
+
+show-requires : tie.Need-show-requires
+show-requires c κs = search needs
+
+same-length-3 : tie.Need-same-length-3
+same-length-3 c = search needs
+
+returns-5 : tie.Need-returns-5
+returns-5 c = search (old-called, arith)
 
 pub probe-bench-convert-spec : {M : Type 1} → statement M
 probe-bench-convert-spec =
@@ -42,10 +51,13 @@ probe-bench-convert-spec =
     convert-first-requires
     same-length
     returns
+    convert-second-requires
+    same-length-2
     returns-2
     returns-3
-    read-v2-requires
-    convert-v2-requires
+    returns-4
+    read-v3-requires
+    convert-v3-requires
     show-requires
-    same-length-2
-    returns-4)
+    same-length-3
+    returns-5)

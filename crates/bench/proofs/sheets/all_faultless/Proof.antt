@@ -10,15 +10,15 @@ use borrow.Author.Tests.{not-true, not-false}
 use Rattle.equivalence.proofs.Tests.{T-of, not-T-of, true-is, false-is}
 use Rattle.sheet.specs.Points.{isFaultless}
 use Rattle.sheet.specs.Sheet.{noSheet}
-use Rattle.bench.proofs.BenchSheets.{every-at, of-every-at}
+use Rattle.bench.proofs.BenchSheets.{mapped-length, every-at, of-every-at}
 use Rattle.bench.proofs.sheets.all_faultless.Statement.{statement}
 use Rattle.bench.proofs.sheets.all_faultless.Tie as tie
 
 abbrev Inv-loop : tie.InvT-loop
-Inv-loop n sheets k₀ k = (k ≤ 8) × ((j : ℕ) → j < k → T (isFaultless n (getD sheets j noSheet)))
+Inv-loop n bench k₀ k = (k ≤ 8) × ((j : ℕ) → j < k → T (isFaultless n (getD (bench .sheets) j noSheet)))
 
 abbrev μ-loop : tie.MeasureT-loop
-μ-loop n sheets k₀ k = 8 - k
+μ-loop n bench k₀ k = 8 - k
 
 loop-holds : tie.Need-loop-holds Inv-loop μ-loop
 loop-holds c = (omega arith, below-none _)
@@ -26,16 +26,16 @@ loop-holds c = (omega arith, below-none _)
 mul-sheet : tie.Need-mul-sheet Inv-loop μ-loop
 mul-sheet c = search needs
 
-array-copy-out-sheet : tie.Need-array-copy-out-sheet Inv-loop μ-loop
-array-copy-out-sheet c = search needs
+element-copy-out-sheet : tie.Need-element-copy-out-sheet Inv-loop μ-loop
+element-copy-out-sheet c = search needs
 
 is-faultless-requires : tie.Need-is-faultless-requires Inv-loop μ-loop
 is-faultless-requires c κs = search needs
 
 returns : tie.Need-returns Inv-loop μ-loop
 returns c =
-    let l = c .before .before .before .before .before .args .t2 in
-    let e : length l ≡ 8 = search needs in
+    let l = c .before .before .before .before .before .args .t1 .sheets in
+    let e : length l ≡ 8 = search mapped-length in
     false-is _ (λ t. not-T-of (sym (c .before .is-faultless .ensures) ∙ not-true _ (c .if1 .taken)) (of-every-at _ l noSheet t _ (omega (arith, c .before .before .before .loop-test .taken))))
 
 add-k : tie.Need-add-k Inv-loop μ-loop
@@ -49,8 +49,8 @@ loop-again c = (search needs, below-more _ _ (c .before .before .before .before 
 
 returns-2 : tie.Need-returns-2 Inv-loop μ-loop
 returns-2 c =
-    let l = c .before .before .args .t2 in
-    let e : length l ≡ 8 = search needs in
+    let l = c .before .before .args .t1 .sheets in
+    let e : length l ≡ 8 = search mapped-length in
     true-is _ (every-at _ l noSheet (λ j h. c .before .loop .inv .1 j (omega arith)))
 
 pub all-faultless-spec : {M : Type 1} → statement M
@@ -61,7 +61,7 @@ all-faultless-spec =
     μ-loop
     loop-holds
     mul-sheet
-    array-copy-out-sheet
+    element-copy-out-sheet
     is-faultless-requires
     returns
     add-k

@@ -8,7 +8,7 @@ use Rattle.bench.proofs.sheets.extended.Statement.{statement}
 use Rattle.bench.proofs.sheets.extended.Tie as tie
 
 abbrev sheetOn : Sheet → List ℕ → Sheet
-sheetOn s m = record { map = m; count = s .count; points = s .points }
+sheetOn s m = record { map = m; tally = s .tally; count = s .count; points = s .points }
 
 extend-map-requires : tie.Need-extend-map-requires
 unfolding mapOn

@@ -6,16 +6,16 @@ use Rattle.bench.proofs.sheets.returned.Statement.{statement}
 use Rattle.bench.proofs.sheets.returned.Tie as tie
 
 nth-requires : tie.Need-nth-requires
-nth-requires c κs = known-passed _ _ _ (c .before .pre) .0 .sheet
+nth-requires c κs = known-passed _ _ _ (c .pre) .0 .sheet
 
 returned-requires : tie.Need-returned-requires
 unfolding sheetOf
 returned-requires c κs =
-    let p = known-passed _ _ _ (c .before .before .pre) in
+    let p = known-passed _ _ _ (c .before .pre) in
     rw (c .nth .ensures .0) (p .0 .most, (p .0 .faultless .sheets _ (c .nth .ensures .1) .few, p .1))
 
 with-sheet-requires : tie.Need-with-sheet-requires
-with-sheet-requires c κs = omega (arith, known-passed _ _ _ (c .before .before .before .pre) .0 .sheet)
+with-sheet-requires c κs = omega (arith, known-passed _ _ _ (c .before .before .pre) .0 .sheet)
 
 returns : tie.Need-returns
 unfolding withMap sheetOf

@@ -1,0 +1,5 @@
+pub mod Reasons
+pub mod Promises
+pub mod Histories
+pub mod Sums
+pub mod Independence

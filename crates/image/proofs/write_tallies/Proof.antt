@@ -1,0 +1,65 @@
+-- `image::write_tallies` meets its contract.
+use Prim.Native.Nat.{_-_}
+use native.Mathlib.Omega.{arith}
+use borrow.Author.Needs.{needs}
+use Rattle.imagepart.specs.Parts.{little}
+use Rattle.imagepart.proofs.Steps.{Laying, laying-none, laying-more, laying-all}
+use Rattle.image.proofs.write_tallies.Statement.{statement}
+use Rattle.image.proofs.write_tallies.Tie as tie
+
+abbrev Inv-loop : tie.InvT-loop
+Inv-loop bytes₀ sheets s₀ bytes s = Laying (λ t. little 8 (t .tally)) sheets 8 513 bytes₀ s bytes
+
+abbrev μ-loop : tie.MeasureT-loop
+μ-loop bytes₀ sheets s₀ bytes s = 8 - s
+
+loop-holds : tie.Need-loop-holds Inv-loop μ-loop
+loop-holds c = laying-none _ _ _ _ _ (search needs)
+
+mul-sheet : tie.Need-mul-sheet Inv-loop μ-loop
+mul-sheet c = search needs
+
+array-copy-out-sheet : tie.Need-array-copy-out-sheet Inv-loop μ-loop
+array-copy-out-sheet c = search needs
+
+mul-write-little : tie.Need-mul-write-little Inv-loop μ-loop
+mul-write-little c = search needs
+
+add-write-little : tie.Need-add-write-little Inv-loop μ-loop
+add-write-little c = search needs
+
+write-little-requires : tie.Need-write-little-requires Inv-loop μ-loop
+write-little-requires c κs = search needs
+
+add-s : tie.Need-add-s Inv-loop μ-loop
+add-s c = search needs
+
+loop-less : tie.Need-loop-less Inv-loop μ-loop
+loop-less c = omega arith
+
+loop-again : tie.Need-loop-again Inv-loop μ-loop
+loop-again c = search laying-more
+
+same-length : tie.Need-same-length Inv-loop μ-loop
+same-length c = search needs
+
+returns : tie.Need-returns Inv-loop μ-loop
+returns c = laying-all _ _ 8 513 _ _ _ (c .before .loop .inv) (omega arith)
+
+pub write-tallies-spec : {M : Type 1} → statement M
+write-tallies-spec =
+    tie.close
+    (tie.spec
+    Inv-loop
+    μ-loop
+    loop-holds
+    mul-sheet
+    array-copy-out-sheet
+    mul-write-little
+    add-write-little
+    write-little-requires
+    add-s
+    loop-less
+    loop-again
+    same-length
+    returns)

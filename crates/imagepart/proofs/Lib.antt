@@ -1,0 +1,5 @@
+pub mod Examples
+pub mod Copies
+pub mod Littles
+pub mod Steps
+pub mod Shown
