@@ -53,10 +53,18 @@ static const char *const faults[] = {
     "place-same",           /* two equal elements have a place */
     "place-turned",         /* pairs come in either order */
     "place-beyond",         /* 64 is an element too */
-    "start",                /* the tally does not begin at 0 */
+    "start",                /* the last tally does not begin at 0 */
+    "start-tallies",        /* the tallies keep what was lent */
+    "start-earlier",        /* `earlier` keeps what was lent */
+    "start-unwritten",      /* refused, nothing is written */
     "other-sheet",          /* add writes another sheet */
-    "clear-tally",          /* clear lowers the tally */
+    "add-joins",            /* add joins what the next sheet's map joins */
+    "add-forgets",          /* add drops the next sheet's last point */
+    "add-stays",            /* add changes nothing where the next sheet is full of points */
+    "clear-tally",          /* clear lowers the sheet's tally */
     "clear-high",           /* clear drops the tally's four high bytes */
+    "clear-earlier",        /* clear drops what was earlier */
+    "clear-settles",        /* clear moves the sheet's tally to `earlier` */
     "start-points",         /* the points keep what was lent */
     "add-points",           /* add gives the sheet's first point the new map */
     "clear-points",         /* clear drops the sheet's points */
@@ -67,7 +75,11 @@ static const char *const faults[] = {
     "set-again",            /* a name that is held gets a second place */
     "set-last",             /* a name that is held goes to the last place */
     "set-sheet",            /* set writes another sheet's point */
+    "set-tally",            /* set drops the sheet's tally */
+    "set-earlier",          /* set drops what was earlier */
     "return-tally",         /* return raises the tally by the blocks lost */
+    "return-drops",         /* return drops the sheet's tally */
+    "return-earlier",       /* return drops what was earlier */
     "return-bytes",         /* return copies 64 bytes */
     "return-first",         /* return takes the first point, whatever its name */
     "return-forgets",       /* return drops the point if it is the last */
@@ -77,6 +89,8 @@ static const char *const faults[] = {
     "forget-zeros",         /* the place that was the last is set to zeros */
     "forget-name",          /* the last point's name moves and its map does not */
     "forget-stays",         /* the point is dropped only where it is the last */
+    "forget-tally",         /* forget drops the sheet's tally */
+    "forget-earlier",       /* forget drops what was earlier */
     "point-map",            /* 8 does not look at the points' maps */
     "point-eighth",         /* 8 does not look at the map in the eighth place */
     "point-free",           /* 8 looks at the maps in free places too */
@@ -108,6 +122,22 @@ static const char *const faults[] = {
     "tally-wraps",          /* 13 only where the sum has wrapped to 0 */
     "tally-stays",          /* the tally stops at the top, and 0 is said */
     "tally-four",           /* only four bytes of the tally are written */
+    "tally-neighbour",      /* another sheet's tally is raised */
+    "tally-both",           /* another sheet's tally is raised too */
+    "tally-all",            /* all eight are raised */
+    "tally-one",            /* the first sheet's is raised, whichever the sheet */
+    "tally-earlier",        /* `earlier` is raised */
+    "tally-earlier-too",    /* `earlier` is raised too */
+    "tally-sum-eight",      /* 13 by the sum of the eight */
+    "tally-sum-nine",       /* 13 by the sum of the nine */
+    "tally-looks-first",    /* 13 looks at the first sheet's */
+    "tally-looks-next",     /* 13 looks at another sheet's too */
+    "tally-looks-all",      /* 13 looks at all eight */
+    "tally-looks-earlier",  /* 13 looks at `earlier` too */
+    "tally-refused",        /* with 13 the tally goes to the top */
+    "tally-turned",         /* the last sheet's tally comes first */
+    "tally-high-first",     /* a tally's highest byte comes first */
+    "tally-behind",         /* `earlier` comes before the tallies */
     "convert-high",         /* the two high bytes of the old tally are dropped */
     "convert-signed",       /* the old tally's highest bit is a sign */
     "convert-behind",       /* the four high bytes of the tally keep what was lent */
@@ -130,6 +160,33 @@ static const char *const faults[] = {
     "convert-copy",         /* the second kind is converted to itself */
     "convert-point",        /* each sheet gets a point */
     "convert-points",       /* the points keep what was lent */
+    /* The same of the third kind alone. */
+    "third-high", "third-signed", "third-behind", "third-sheet", "third-past", "third-all-bytes",
+    "third-one-sheet", "third-seven-sheets", "third-last", "third-rising", "third-eight-first", "third-untested",
+    "third-old", "third-unwritten", "third-input", "third-after", "third-length", "third-new-length",
+    "third-across",         /* the second kind is converted to the fourth */
+    "third-copy",           /* the third kind is converted to itself */
+    "third-today",          /* the fourth kind is converted to itself */
+    "third-back",           /* the fourth kind is converted to the third */
+    "third-spread",         /* the total is spread over the sheets */
+    "third-first",          /* the total goes to the first sheet */
+    "third-too",            /* the last sheet's tally is the total too */
+    "third-drops",          /* the total is dropped */
+    "third-tallies",        /* the tallies keep what was lent */
+    "third-short",          /* refused, only as many zeros as the old image has are written */
+    "third-behind-all",     /* the tallies come behind the points */
+    "third-points",         /* the points are dropped */
+    "third-last-points",    /* the last sheet's points are dropped */
+    "third-free",           /* free places become zeros */
+    "third-point-past",     /* a point's bytes past n become 0 */
+    "third-point-names",    /* the points' last name byte is dropped */
+    "third-untested-points",/* 8 does not look at the points */
+    "third-one-points",     /* 8 looks at the first sheet's points only */
+    "third-seven-points",   /* 8 does not look at the last sheet's points */
+    "third-free-tested",    /* 8 looks at the maps in free places too */
+    "third-past-tested",    /* 8 looks at bytes past n of a point */
+    "third-count",          /* a count above eight is taken for eight */
+    "third-twins",          /* two points of one name are no fault */
     "write-length",         /* the length is one too high */
     "write-nine-early",     /* a byte more is wanted than the text has */
     "write-nine-late",      /* a byte less is enough */
@@ -664,17 +721,22 @@ uint32_t probe_certify(size_t n, const uint8_t *arities, size_t arities_len,
 /* ---- the bench, as an image ----------------------------------------------- */
 
 /* The sheets' maps, n and the tally, of which the first kind of bench has four bytes; from the third
- * kind on the points of each sheet, which are a count and eight places of a name and a map. */
+ * kind on the points of each sheet, which are a count and eight places of a name and a map. The fourth
+ * has a tally for each sheet, and behind them `earlier`. */
 enum {
     SIZE_AT = SHEETS * STRIDE,
     TALLY_AT,
-    IMAGE_V1 = TALLY_AT + 4,
-    IMAGE_V2 = TALLY_AT + 8,
+    TALLY = 8,
+    EARLIER_AT = TALLY_AT + SHEETS * TALLY,
+    POINTS_AT = EARLIER_AT + TALLY,
     PLACES = 8,
     NAME = 8,
     PLACE = NAME + STRIDE,
     POINTS = 1 + PLACES * PLACE,
-    IMAGE = IMAGE_V2 + SHEETS * POINTS,
+    IMAGE_V1 = TALLY_AT + 4,
+    IMAGE_V2 = TALLY_AT + TALLY,
+    IMAGE_V3 = IMAGE_V2 + SHEETS * POINTS,
+    IMAGE = POINTS_AT + SHEETS * POINTS,
     NO_IMAGE = 255
 };
 
@@ -700,6 +762,52 @@ static void put_little(uint8_t *bytes, size_t count, uint64_t number)
     }
 }
 
+static size_t tally_at(size_t sheet)
+{
+    if (fault("tally-turned")) {
+        sheet = SHEETS - 1 - sheet;
+    }
+    return TALLY_AT + (fault("tally-behind") ? sheet + 1 : sheet) * TALLY;
+}
+
+static size_t earlier_at(void)
+{
+    return fault("tally-behind") ? TALLY_AT : EARLIER_AT;
+}
+
+static uint64_t turned(uint64_t number)
+{
+    uint8_t bytes[TALLY];
+    put_little(bytes, TALLY, number);
+    uint64_t other = 0;
+    for (size_t i = 0; i < TALLY; i++) {
+        other = other << 8 | bytes[i];
+    }
+    return other;
+}
+
+static uint64_t tally_of(const uint8_t *image, size_t sheet)
+{
+    const uint64_t tally = number_in(image + tally_at(sheet), TALLY);
+    return fault("tally-high-first") ? turned(tally) : tally;
+}
+
+static void put_tally(uint8_t *image, size_t sheet, uint64_t tally)
+{
+    const uint64_t number = fault("tally-high-first") ? turned(tally) : tally;
+    put_little(image + tally_at(sheet), fault("tally-four") ? 4 : TALLY, number);
+}
+
+static uint64_t earlier(const uint8_t *image)
+{
+    return number_in(image + earlier_at(), TALLY);
+}
+
+static void put_earlier(uint8_t *image, uint64_t total)
+{
+    put_little(image + earlier_at(), TALLY, total);
+}
+
 static void put_identity(uint8_t *map, size_t n)
 {
     for (size_t x = 0; x < n; x++) {
@@ -712,7 +820,7 @@ static void put_identity(uint8_t *map, size_t n)
 /* Where a sheet's points are in the image, and a place among them. */
 static size_t points_at(size_t sheet)
 {
-    return IMAGE_V2 + sheet * POINTS;
+    return POINTS_AT + sheet * POINTS;
 }
 
 static size_t place_at(size_t place)
@@ -822,7 +930,15 @@ uint32_t probe_bench_start(size_t n, uint8_t *image, size_t image_len)
     if (!is_image(image_len)) {
         return NO_IMAGE;
     }
-    memset(image, 0, fault("start-points") ? IMAGE_V2 : IMAGE);
+    uint8_t lent[IMAGE];
+    memcpy(lent, image, IMAGE);
+    if (is_size(n) || !fault("start-unwritten")) {
+        memset(image, 0, fault("start-points") ? POINTS_AT : IMAGE);
+    }
+    if (fault("start-tallies") || fault("start-earlier")) {
+        const size_t kept = fault("start-tallies") ? TALLY_AT : EARLIER_AT;
+        memcpy(image + kept, lent + kept, (fault("start-tallies") ? SHEETS : 1) * TALLY);
+    }
     if (!is_size(n)) {
         return 1;
     }
@@ -830,7 +946,7 @@ uint32_t probe_bench_start(size_t n, uint8_t *image, size_t image_len)
     for (size_t i = 0; i < SHEETS; i++) {
         put_identity(image + i * STRIDE, n);
     }
-    image[IMAGE_V2 - 1] = (uint8_t)fault("start");
+    image[EARLIER_AT - 1] = (uint8_t)fault("start");
     return 0;
 }
 
@@ -862,6 +978,69 @@ static uint64_t raised(uint64_t tally, uint64_t lost)
     return fault("tally-stays") && lost > UINT64_MAX - tally ? UINT64_MAX : tally + lost;
 }
 
+/* The sum of so many tallies from the first on, which stops at the top. */
+static uint64_t sum_of(const uint8_t *image, size_t count)
+{
+    if (count == 0) {
+        return 0;
+    }
+    const uint64_t before = sum_of(image, count - 1), tally = tally_of(image, count - 1);
+    return tally > UINT64_MAX - before ? UINT64_MAX : before + tally;
+}
+
+static int any_full(const uint8_t *image)
+{
+    size_t i = 0;
+    while (i < SHEETS && tally_of(image, i) < UINT64_MAX) {
+        i++;
+    }
+    return i < SHEETS;
+}
+
+/* What 13 looks at. */
+static uint64_t tally_meant(const uint8_t *image, size_t sheet)
+{
+    const uint64_t tally = tally_of(image, sheet), next = tally_of(image, sheet ^ 1);
+    if (fault("tally-looks-first")) {
+        return tally_of(image, 0);
+    }
+    if (fault("tally-looks-next")) {
+        return tally > next ? tally : next;
+    }
+    if (fault("tally-looks-all")) {
+        return any_full(image) ? UINT64_MAX : tally;
+    }
+    if (fault("tally-looks-earlier")) {
+        return tally > earlier(image) ? tally : earlier(image);
+    }
+    if (fault("tally-sum-eight") || fault("tally-sum-nine")) {
+        const uint64_t sum = sum_of(image, SHEETS), more = fault("tally-sum-nine") ? earlier(image) : 0;
+        return more > UINT64_MAX - sum ? UINT64_MAX : sum + more;
+    }
+    return tally;
+}
+
+static void raise_tally(uint8_t *image, size_t sheet, uint64_t lost)
+{
+    const size_t meant = fault("tally-neighbour") ? sheet ^ 1 : fault("tally-one") ? 0 : sheet;
+    if (fault("tally-earlier") || fault("tally-earlier-too")) {
+        put_earlier(image, earlier(image) + lost);
+    }
+    for (size_t i = 0; i < SHEETS && !fault("tally-earlier"); i++) {
+        if (i == meant || fault("tally-all") || (i == (sheet ^ 1) && fault("tally-both"))) {
+            put_tally(image, i, raised(tally_of(image, i), lost));
+        }
+    }
+}
+
+/* Joins what another map joins. */
+static void join_map(size_t n, uint8_t *m, const uint8_t *other)
+{
+    for (size_t x = 0; x < n; x++) {
+        join_pair(n, m, (uint8_t)x, other[x]);
+    }
+}
+
 uint32_t probe_bench_add(uint8_t *image, size_t image_len, size_t n,
                          const uint8_t *arities, size_t arities_len,
                          const uint8_t *cells, size_t cells_len, size_t sheet, size_t x, size_t y)
@@ -879,17 +1058,28 @@ uint32_t probe_bench_add(uint8_t *image, size_t image_len, size_t n,
     if (image[SIZE_AT] != n || !is_faultless(n, image)) {
         return 8;
     }
-    uint8_t m[STRIDE];
+    uint8_t m[STRIDE], *next_points = image + points_at(sheet ^ 1);
     memcpy(m, image + sheet * STRIDE, n);
     join_pair(n, m, (uint8_t)x, (uint8_t)y);
+    if (fault("add-joins")) {
+        join_map(n, m, image + (sheet ^ 1) * STRIDE);
+    }
     while (pass(n, arities, arities_len, cells, m, 1, 3)) {
     }
-    const uint64_t tally = number_in(image + TALLY_AT, 8);
     const uint64_t lost = blocks(n, image + sheet * STRIDE) - blocks(n, m);
-    if (passes_top(tally, lost)) {
+    if (passes_top(tally_meant(image, sheet), lost)) {
+        if (fault("tally-refused")) {
+            put_tally(image, sheet, UINT64_MAX);
+        }
         return 13;
     }
-    put_little(image + TALLY_AT, fault("tally-four") ? 4 : 8, raised(tally, lost));
+    if (fault("add-stays") && held(next_points) == PLACES) {
+        return 0;
+    }
+    if (fault("add-forgets") && held(next_points) > 0) {
+        next_points[0]--;
+    }
+    raise_tally(image, sheet, lost);
     memcpy(image + (fault("other-sheet") ? sheet ^ 1 : sheet) * STRIDE, m, n);
     if (fault("add-points")) {
         memcpy(image + points_at(sheet) + place_at(0) + NAME, m, n);
@@ -920,11 +1110,17 @@ uint32_t probe_bench_clear(uint8_t *image, size_t image_len, size_t sheet)
         return reason;
     }
     put_identity(image + sheet * STRIDE, image[SIZE_AT]);
-    if (fault("clear-tally")) {
-        image[TALLY_AT] = 0;
+    if (fault("clear-settles")) {
+        put_earlier(image, earlier(image) + tally_of(image, sheet));
+    }
+    if (fault("clear-tally") || fault("clear-settles")) {
+        put_tally(image, sheet, 0);
     }
     if (fault("clear-high")) {
-        memset(image + TALLY_AT + 4, 0, 4);
+        memset(image + tally_at(sheet) + 4, 0, 4);
+    }
+    if (fault("clear-earlier")) {
+        put_earlier(image, 0);
     }
     if (fault("clear-points")) {
         image[points_at(sheet)] = 0;
@@ -944,10 +1140,21 @@ static uint32_t point_reason(const uint8_t *image, size_t image_len, size_t shee
     if (reason == 8 && fault("point-fifteen-first") && !is_known(image + points_at(sheet), name)) {
         return 15;
     }
-    if (reason == 0 && fault("point-top") && number_in(image + TALLY_AT, 8) == UINT64_MAX) {
+    if (reason == 0 && fault("point-top") && tally_of(image, sheet) == UINT64_MAX) {
         return 13;
     }
     return reason;
+}
+
+/* What a call of points that is accepted does to the numbers, by its faults. */
+static void drop_numbers(uint8_t *image, size_t sheet, int tally_too, int earlier_too)
+{
+    if (tally_too) {
+        put_tally(image, sheet, 0);
+    }
+    if (earlier_too) {
+        put_earlier(image, 0);
+    }
 }
 
 static size_t sheet_meant(size_t sheet)
@@ -998,6 +1205,7 @@ uint32_t probe_bench_set(uint8_t *image, size_t image_len, size_t sheet, const u
     if (fault("set-identity")) {
         put_identity(point + NAME, image[SIZE_AT]);
     }
+    drop_numbers(image, sheet, fault("set-tally"), fault("set-earlier"));
     return 0;
 }
 
@@ -1010,8 +1218,9 @@ static void go_back(uint8_t *image, size_t sheet, const uint8_t *map)
     }
     memcpy(image + sheet * STRIDE, map, fault("return-bytes") ? STRIDE : n);
     if (before > after && fault("return-tally")) {
-        put_little(image + TALLY_AT, 8, number_in(image + TALLY_AT, 8) + before - after);
+        put_tally(image, sheet, tally_of(image, sheet) + before - after);
     }
+    drop_numbers(image, sheet, fault("return-drops"), fault("return-earlier"));
 }
 
 uint32_t probe_bench_return(uint8_t *image, size_t image_len, size_t sheet, const uint8_t *name, size_t name_len)
@@ -1064,15 +1273,19 @@ uint32_t probe_bench_forget(uint8_t *image, size_t image_len, size_t sheet, cons
         return fault("point-exchanged") ? 16 : 15;
     }
     free_place(points, place_of(points, name));
+    drop_numbers(image, sheet, fault("forget-tally"), fault("forget-earlier"));
     return 0;
 }
 
 /* ---- an old bench's conversion ---------------------------------------------- */
 
+/* Whether the conversion that makes so many bytes has the fault; the third kind's has its own. */
+#define SLIPS(made, name) fault((made) == IMAGE ? "third-" name : "convert-" name)
+
 /* Whether 8 passes the sheet. */
-static int sheet_passes(size_t n, const uint8_t *sheet)
+static int sheet_passes(size_t made, size_t n, const uint8_t *sheet)
 {
-    if (fault("convert-rising")) {
+    if (SLIPS(made, "rising")) {
         size_t x = 0;
         while (x < n && sheet[x] <= x) {
             x++;
@@ -1082,81 +1295,207 @@ static int sheet_passes(size_t n, const uint8_t *sheet)
     return is_map(n, sheet, n);
 }
 
-static int sheets_pass(size_t n, const uint8_t *old)
+static int sheets_pass(size_t made, size_t n, const uint8_t *old)
 {
-    size_t looked_at = fault("convert-all-bytes") || n > STRIDE ? STRIDE : n, count = SHEETS;
-    if (fault("convert-last")) {
+    size_t looked_at = SLIPS(made, "all-bytes") || n > STRIDE ? STRIDE : n, count = SHEETS;
+    if (SLIPS(made, "last")) {
         looked_at--;
     }
-    if (fault("convert-one-sheet") || fault("convert-seven-sheets")) {
-        count = fault("convert-one-sheet") ? 1 : SHEETS - 1;
+    if (SLIPS(made, "one-sheet") || SLIPS(made, "seven-sheets")) {
+        count = SLIPS(made, "one-sheet") ? 1 : SHEETS - 1;
     }
     for (size_t i = 0; i < count; i++) {
-        if (!sheet_passes(looked_at, old + i * STRIDE)) {
+        if (!sheet_passes(made, looked_at, old + i * STRIDE)) {
             return 0;
         }
     }
     return 1;
 }
 
-static uint32_t old_reason(const uint8_t *old)
+/* Whether 8 passes a sheet's points in a bench of the third kind. */
+static int old_points_pass(size_t n, const uint8_t *points)
+{
+    const size_t count = fault("third-free-tested") ? PLACES : held(points);
+    if (fault("third-past-tested")) {
+        n = STRIDE;
+    }
+    if (fault("third-count") || fault("third-twins") || fault("third-free-tested")) {
+        return (points[0] <= PLACES || fault("third-count")) && points_have_maps(n, points, count) &&
+               (names_differ(points, held(points)) || fault("third-twins"));
+    }
+    return points_pass(n, points);
+}
+
+static int all_points_pass(size_t n, const uint8_t *points)
+{
+    const size_t most = fault("third-seven-points") ? SHEETS - 1 : SHEETS;
+    const size_t count = fault("third-untested-points") ? 0 : fault("third-one-points") ? 1 : most;
+    for (size_t i = 0; i < count; i++) {
+        if (!old_points_pass(n > STRIDE ? STRIDE : n, points + i * POINTS)) {
+            return 0;
+        }
+    }
+    return 1;
+}
+
+static int has_points(size_t old_len)
+{
+    return old_len >= IMAGE_V3;
+}
+
+static uint32_t old_reason(size_t made, const uint8_t *old, size_t old_len)
 {
     const size_t n = old[SIZE_AT];
-    const int sized = is_size(n) || fault("convert-untested");
-    if (!sized && !fault("convert-eight-first")) {
+    const int sized = is_size(n) || SLIPS(made, "untested");
+    if (!sized && !SLIPS(made, "eight-first")) {
         return 1;
     }
-    if (!sheets_pass(n, old)) {
+    if (!sheets_pass(made, n, old) || (has_points(old_len) && !all_points_pass(n, old + IMAGE_V2))) {
         return 8;
     }
     return sized ? 0 : 1;
 }
 
-/* Into an image of zeros, whose tally has eight bytes; `width` is that of the old one. */
-static void carry_over(const uint8_t *old, size_t width, uint8_t *image)
+static uint64_t total_of(size_t made, const uint8_t *old, size_t old_len)
 {
-    uint64_t tally = number_in(old + TALLY_AT, fault("convert-high") ? width - 2 : width);
-    if (tally > UINT32_MAX / 2 && fault("convert-signed")) {
-        tally += UINT64_MAX - UINT32_MAX;
-    }
-    memcpy(image, old, fault("convert-sheet") ? SIZE_AT - STRIDE : SIZE_AT);
+    const size_t width = old_len < IMAGE_V2 ? 4 : TALLY;
+    const uint64_t total = number_in(old + TALLY_AT, SLIPS(made, "high") ? width - 2 : width);
+    return total > UINT32_MAX / 2 && SLIPS(made, "signed") ? total + UINT64_MAX - UINT32_MAX : total;
+}
+
+static void carry_maps(size_t made, const uint8_t *old, uint8_t *image)
+{
+    memcpy(image, old, SLIPS(made, "sheet") ? SIZE_AT - STRIDE : SIZE_AT);
     image[SIZE_AT] = old[SIZE_AT];
-    for (size_t i = 0; i < SHEETS && fault("convert-past"); i++) {
+    for (size_t i = 0; i < SHEETS && SLIPS(made, "past"); i++) {
         memset(image + i * STRIDE + old[SIZE_AT], 0, (size_t)(STRIDE - old[SIZE_AT]));
     }
-    put_little(image + TALLY_AT, fault("convert-behind") ? 4 : 8, tally);
 }
 
 /* A point without a name for each sheet's map. */
 static void add_points(uint8_t *image)
 {
     for (size_t i = 0; i < SHEETS; i++) {
-        uint8_t *points = image + points_at(i);
+        uint8_t *points = image + IMAGE_V2 + i * POINTS;
         points[0] = 1;
         memcpy(points + place_at(0) + NAME, image + i * STRIDE, STRIDE);
+    }
+}
+
+/* The nine numbers of a bench that was of the third kind. */
+static void place_total(uint8_t *image, uint64_t total)
+{
+    uint64_t left = fault("third-drops") ? 0 : total;
+    for (size_t i = 0; i < SHEETS && fault("third-spread"); i++) {
+        put_tally(image, i, total / SHEETS);
+        left = total % SHEETS;
+    }
+    if (fault("third-first") || fault("third-too")) {
+        put_tally(image, fault("third-first") ? 0 : SHEETS - 1, total);
+        left = fault("third-first") ? 0 : total;
+    }
+    put_little(image + earlier_at(), fault("third-behind") ? 4 : TALLY, left);
+}
+
+/* What the faults of a conversion make of a sheet's points that were carried over. */
+static void spoil_points(size_t n, uint8_t *points, int last)
+{
+    if (fault("third-points") || (last && fault("third-last-points"))) {
+        memset(points, 0, POINTS);
+    }
+    for (size_t i = 0; i < PLACES; i++) {
+        uint8_t *place = points + place_at(i);
+        if (i >= held(points) && fault("third-free")) {
+            memset(place, 0, PLACE);
+        }
+        if (fault("third-point-past")) {
+            memset(place + NAME + n, 0, STRIDE - n);
+        }
+        if (fault("third-point-names")) {
+            place[NAME - 1] = 0;
+        }
+    }
+}
+
+static void carry_points(const uint8_t *old, uint8_t *image)
+{
+    memcpy(image + POINTS_AT, old + IMAGE_V2, SHEETS * POINTS);
+    for (size_t i = 0; i < SHEETS && is_size(old[SIZE_AT]); i++) {
+        spoil_points(old[SIZE_AT], image + points_at(i), i + 1 == SHEETS);
+    }
+}
+
+/* Into an image of zeros. */
+static void carry_over(size_t made, const uint8_t *old, size_t old_len, uint8_t *image)
+{
+    const uint64_t total = total_of(made, old, old_len);
+    carry_maps(made, old, image);
+    if (made < IMAGE) {
+        put_little(image + TALLY_AT, fault("convert-behind") ? 4 : TALLY, total);
+        return;
+    }
+    place_total(image, total);
+    if (has_points(old_len)) {
+        carry_points(old, image);
+    }
+    if (fault("third-behind-all")) {
+        memmove(image + TALLY_AT, old + TALLY_AT, IMAGE_V3 - TALLY_AT);
+        memset(image + IMAGE_V3, 0, IMAGE - IMAGE_V3);
     }
 }
 
 /* Whether images of these lengths are an old bench and one of the kind behind it. */
 static int are_kinds(size_t old_len, size_t image_len, size_t old_wanted, size_t wanted)
 {
-    return (old_len == old_wanted || (old_len > old_wanted && fault("convert-length"))) &&
-           (image_len == wanted || (image_len > wanted && fault("convert-new-length")));
+    return (old_len == old_wanted || (old_len > old_wanted && SLIPS(wanted, "length"))) &&
+           (image_len == wanted || (image_len > wanted && SLIPS(wanted, "new-length")));
 }
 
 /* The bytes of the image that is made; 0 if it is none. */
 static size_t kind_made(size_t old_len, size_t image_len)
 {
-    if (are_kinds(old_len, image_len, IMAGE_V2, IMAGE)) {
-        return IMAGE;
+    static const struct {
+        size_t old, made;
+        const char *fault;
+    } kinds[] = {
+        {IMAGE_V3, IMAGE, NULL},
+        {IMAGE_V2, IMAGE_V3, NULL},
+        {IMAGE_V1, IMAGE_V2, NULL},
+        {IMAGE_V1, IMAGE_V3, "convert-across"},
+        {IMAGE_V2, IMAGE_V2, "convert-copy"},
+        {IMAGE_V2, IMAGE, "third-across"},
+        {IMAGE_V3, IMAGE_V3, "third-copy"},
+        {IMAGE, IMAGE, "third-today"},
+        {IMAGE, IMAGE_V3, "third-back"},
+    };
+    for (size_t i = 0; i < sizeof kinds / sizeof *kinds; i++) {
+        if ((!kinds[i].fault || fault(kinds[i].fault)) && are_kinds(old_len, image_len, kinds[i].old, kinds[i].made)) {
+            return kinds[i].made;
+        }
     }
-    if (are_kinds(old_len, image_len, IMAGE_V1, IMAGE_V2)) {
-        return IMAGE_V2;
+    return 0;
+}
+
+/* How many bytes of what was lent become zeros before anything is carried over. */
+static size_t wiped(size_t made, uint32_t reason)
+{
+    if (made == IMAGE) {
+        return reason && fault("third-short") ? IMAGE_V3 : IMAGE;
     }
-    if (are_kinds(old_len, image_len, IMAGE_V1, IMAGE) && fault("convert-across")) {
-        return IMAGE;
+    return fault("convert-behind") ? IMAGE_V1 : fault("convert-points") ? IMAGE_V2 : made;
+}
+
+static void wipe(size_t made, uint32_t reason, uint8_t *image)
+{
+    uint8_t lent[IMAGE];
+    memcpy(lent, image, made);
+    memset(image, 0, wiped(made, reason));
+    if (made == IMAGE && fault("third-tallies")) {
+        memcpy(image + TALLY_AT, lent + TALLY_AT, SHEETS * TALLY);
     }
-    return are_kinds(old_len, image_len, IMAGE_V2, IMAGE_V2) && fault("convert-copy") ? IMAGE_V2 : 0;
+    if (made == IMAGE && fault("third-behind")) {
+        memcpy(image + EARLIER_AT + 4, lent + EARLIER_AT + 4, 4);
+    }
 }
 
 uint32_t probe_bench_convert(const uint8_t *old, size_t old_len, uint8_t *image, size_t image_len)
@@ -1165,20 +1504,20 @@ uint32_t probe_bench_convert(const uint8_t *old, size_t old_len, uint8_t *image,
     if (made == 0) {
         return NO_IMAGE;
     }
-    const uint32_t reason = old_reason(old);
-    if (reason == 0 || !fault("convert-unwritten")) {
-        memset(image, 0, fault("convert-behind") ? IMAGE_V1 : fault("convert-points") ? IMAGE_V2 : made);
+    const uint32_t reason = old_reason(made, old, old_len);
+    if (reason == 0 || !SLIPS(made, "unwritten")) {
+        wipe(made, reason, image);
     }
-    if (reason == 0 || fault("convert-old")) {
-        carry_over(old, old_len < IMAGE_V2 ? 4 : 8, image);
+    if (reason == 0 || SLIPS(made, "old")) {
+        carry_over(made, old, old_len, image);
     }
-    if (reason == 0 && made == IMAGE && fault("convert-point")) {
+    if (reason == 0 && made == IMAGE_V3 && fault("convert-point")) {
         add_points(image);
     }
-    if (fault("convert-input")) {
+    if (SLIPS(made, "input")) {
         ((uint8_t *)old)[TALLY_AT] ^= 1;
     }
-    if (fault("convert-after")) {
+    if (SLIPS(made, "after")) {
         image[made]++;
     }
     return reason;

@@ -4,7 +4,7 @@
 use outside_tests::algebras;
 use outside_tests::random::Rng;
 use outside_tests::reference::algebra::Algebra;
-use outside_tests::reference::bench::{self, Bench, BenchV1, BenchV2, Name, Sheet};
+use outside_tests::reference::bench::{self, Bench, BenchV1, BenchV2, BenchV3, Name, Point, SheetV3};
 use outside_tests::reference::brute::{self, Brute};
 use outside_tests::reference::desk::transcript;
 use outside_tests::reference::map;
@@ -121,9 +121,10 @@ fn longer_tally<E: Engine>(s: &mut Suite) {
     let r = &mut Reference::<E>::default();
     let mut raised = |tally: u64, n: usize, cells: &[u8], x: usize, y: usize| {
         let arities: &[u8] = if cells.is_empty() { &[] } else { &[1] };
-        let bench = Bench { tally, ..bench::start(n).1 };
+        let mut bench = bench::start(n).1;
+        bench.sheets[3].tally = tally;
         let (number, after) = bench::add(r, &bench, n, arities, cells, 3, x, y);
-        (number, after.tally, after == bench)
+        (number, after.sheets[3].tally, after == bench)
     };
     let top = 18_446_744_073_709_551_615;
     s.same("at the top", raised(top, 2, &[], 0, 1), (13, top, true));
@@ -137,9 +138,40 @@ fn longer_tally<E: Engine>(s: &mut Suite) {
     s.same("at the old top", raised(4_294_967_295, 2, &[], 0, 1), (0, 4_294_967_296, false));
     s.same("across the old top", raised(4_294_967_294, 3, turning, 0, 1), (0, 4_294_967_296, false));
     s.same("far from both", raised(7, 3, turning, 0, 1), (0, 9, false));
-    let joined = bench::add(r, &Bench { tally: top - 1, ..bench::start(2).1 }, 2, &[], &[], 3, 0, 1).1;
+    let mut below = bench::start(2).1;
+    below.sheets[3].tally = top - 1;
+    let joined = bench::add(r, &below, 2, &[], &[], 3, 0, 1).1;
     s.same("the sheet at the top", joined.sheets[3].map[..2].to_vec(), vec![0, 0]);
-    s.same("clear keeps the tally", bench::clear(&joined, 3).1.tally, top);
+    s.same("clear keeps the tally", bench::clear(&joined, 3).1.sheets[3].tally, top);
+}
+
+/// Document 02's sixth request, for one engine: two lecturers over U, of whom one
+/// has a sheet at the top, on a bench whose total was at the top.
+fn shared_bench<E: Engine>(s: &mut Suite) {
+    let r = &mut Reference::<E>::default();
+    let mut bench = bench::start(4).1;
+    let nine = |bench: &Bench| (bench.sheets.map(|sheet| sheet.tally), bench.earlier);
+    s.same("Start gives nine zeros", nine(&bench), ([0; 8], 0));
+    let top = 18_446_744_073_709_551_615;
+    (bench.sheets[1].tally, bench.earlier) = (top, top);
+    let mut step = |what: &str, (number, after): (u32, Bench), due: (u32, u64, u64)| -> Bench {
+        let tallies = [due.1, top, 0, 0, 0, 0, 0, due.2];
+        s.same(what, (number, nine(&after)), (due.0, (tallies, top)));
+        after
+    };
+    let mut add =
+        |bench: &Bench, k: usize, x: usize, y: usize| bench::add(r, bench, 4, &[1], &[1, 0, 3, 2], k, x, y);
+    bench = step("0 2 on the first, so 1 3", add(&bench, 0, 0, 2), (0, 2, 0));
+    bench = step("the same on the last", add(&bench, 7, 0, 2), (0, 2, 2));
+    bench = step("the one at the top", add(&bench, 1, 0, 2), (13, 2, 2));
+    bench = step("nothing to lose there", add(&bench, 1, 2, 2), (0, 2, 2));
+    bench = step("0 1 on the last", add(&bench, 7, 0, 1), (0, 2, 3));
+    bench = step("cleared", bench::clear(&bench, 7), (0, 2, 3));
+    bench = step("a point", bench::set_point(&bench, 1, [7; 8]), (0, 2, 3));
+    bench = step("and back", bench::return_to(&bench, 1, [7; 8]), (0, 2, 3));
+    bench = step("forgotten", bench::forget(&bench, 1, [7; 8]), (0, 2, 3));
+    step("0 1 on the first", add(&bench, 0, 0, 1), (0, 3, 3));
+    s.same("nine zeros again", nine(&bench::start(3).1), ([0; 8], 0));
 }
 
 /// What an old bench becomes: 4,294,967,295 is a number like others, U's factors
@@ -150,19 +182,26 @@ fn conversions(s: &mut Suite) {
     maps[7][..4].copy_from_slice(&[0, 0, 2, 2]);
     let first = BenchV1 { n: 4, maps, tally: 4_294_967_295 };
     let second = BenchV2 { n: 4, maps, tally: 4_294_967_295 };
-    let whole = Bench { n: 4, sheets: maps.map(Sheet::bare), tally: 4_294_967_295 };
+    let third = BenchV3 { n: 4, sheets: maps.map(SheetV3::bare), tally: 4_294_967_295 };
     s.same("the first kind", bench::convert_v1(&first), (0, second.clone()));
-    s.same("the second kind", bench::convert_v2(&second), (0, whole.clone()));
+    s.same("the second kind", bench::convert_v2(&second), (0, third.clone()));
+    let (number, whole) = bench::convert_v3(&third);
+    let tallies = whole.sheets.map(|sheet| sheet.tally);
+    s.same("the third kind", (number, whole.earlier, tallies), (0, 4_294_967_295, [0; 8]));
+    s.same("its maps", whole.maps(), maps);
     let r = &mut Reference::<Plain>::default();
     let (number, after) = bench::add(r, &whole, 4, &[1], &[1, 0, 3, 2], 0, 0, 1);
-    s.same("an Add after it", (number, after.tally, after.sheets[0].map[4]), (0, 4_294_967_296, 200));
+    s.same("an Add after it", (number, after.sheets[0].tally, after.sheets[0].map[4]), (0, 1, 200));
     s.same("no point after it", bench::return_to(&whole, 0, [0; 8]).0, 15);
     let refused = |what: &str, s: &mut Suite, number: u32, change: &dyn Fn(&mut BenchV2)| {
         let mut changed = second.clone();
         change(&mut changed);
         let first = BenchV1 { n: changed.n, maps: changed.maps, tally: 0 };
         s.same(what, bench::convert_v1(&first), (number, BenchV2::zeros()));
-        s.same(what, bench::convert_v2(&changed), (number, Bench::zeros()));
+        let sheets = changed.maps.map(SheetV3::bare);
+        let third = BenchV3 { n: changed.n, sheets, tally: 7 };
+        s.same(what, bench::convert_v2(&changed), (number, BenchV3::zeros()));
+        s.same(what, bench::convert_v3(&third), (number, Bench::zeros()));
     };
     refused("no elements", s, 1, &|b| b.n = 0);
     refused("65 elements", s, 1, &|b| b.n = 65);
@@ -174,7 +213,7 @@ fn conversions(s: &mut Suite) {
 }
 
 /// A class hour over U, for one engine, with all that its sheet shows after each
-/// call: the number, sheet 2's map, the tally and how many points are held.
+/// call: the number, sheet 2's map, its tally and how many points are held.
 fn class_hour<E: Engine>(s: &mut Suite) {
     let r = &mut Reference::<E>::default();
     let mut bench = bench::start(4).1;
@@ -182,7 +221,7 @@ fn class_hour<E: Engine>(s: &mut Suite) {
         let sheet = &after.sheets[2];
         s.same(
             what,
-            (number, sheet.map[..4].to_vec(), after.tally, sheet.count),
+            (number, sheet.map[..4].to_vec(), sheet.tally, sheet.count),
             (due.0, due.1.to_vec(), due.2, due.3),
         );
         after
@@ -247,6 +286,39 @@ fn faulty_points(s: &mut Suite) {
     drawn("one of them on another sheet", [0, 0, 15, 7], &|b| b.sheets[5] = b.sheets[6]);
     drawn("no elements, and nine points", [1, 1, 1, 1], &|b| (b.n, b.sheets[0].count) = (0, 9));
     drawn("zeros", [1, 1, 1, 1], &|b| *b = Bench::zeros());
+}
+
+/// What becomes of points, and which of them are reason 8, in a bench of the third
+/// kind.
+fn converted_points(s: &mut Suite) {
+    let identity: [u8; 64] = std::array::from_fn(|x| x as u8);
+    let mut old = BenchV3 { n: 3, sheets: [SheetV3::bare(identity); 8], tally: 18_446_744_073_709_551_615 };
+    let sheet = &mut old.sheets[6];
+    sheet.points = std::array::from_fn(|k| Point { name: [k as u8; 8], map: [0; 64] });
+    sheet.count = 2;
+    let (number, made) = bench::convert_v3(&old);
+    s.same("accepted", (number, made.n, made.earlier, made.maps()), (0, 3, old.tally, old.maps()));
+    s.same("no tallies yet", made.sheets.map(|sheet| sheet.tally), [0; 8]);
+    s.same("the points", made.sheets.map(|sheet| sheet.points), old.sheets.map(|sheet| sheet.points));
+    s.same("their counts", made.sheets.map(|sheet| sheet.count), [0, 0, 0, 0, 0, 0, 2, 0]);
+    s.same(
+        "back to one of them",
+        bench::return_to(&made, 6, [1; 8]).1.sheets[6].map[..3].to_vec(),
+        vec![0; 3],
+    );
+    let mut drawn = |what: &str, number: u32, change: &dyn Fn(&mut BenchV3)| {
+        let mut changed = old.clone();
+        change(&mut changed);
+        let (found, bench) = bench::convert_v3(&changed);
+        s.same(what, (found, bench == Bench::zeros()), (number, number != 0));
+    };
+    drawn("nine points", 8, &|b| b.sheets[0].count = 9);
+    drawn("0 2 2 under a name", 8, &|b| b.sheets[6].points[1].map[..3].copy_from_slice(&[0, 2, 2]));
+    drawn("the same in a free place", 0, &|b| b.sheets[6].points[2].map[1] = 2);
+    drawn("and past n", 0, &|b| b.sheets[6].points[1].map[3] = 9);
+    drawn("two of one name", 8, &|b| b.sheets[6].points[0].name = [1; 8]);
+    drawn("one of them free", 0, &|b| b.sheets[6].points[2].name = [1; 8]);
+    drawn("no elements, and nine points", 1, &|b| (b.n, b.sheets[0].count) = (0, 9));
 }
 
 /// Whether both engines agree on everything about one algebra.
@@ -323,10 +395,13 @@ pub fn suites(run: &mut Run) {
     run.suite("reference: document 02's space for factors, plain", factor_space::<Plain>);
     run.suite("reference: document 02's longer tally, by brute force", longer_tally::<Brute>);
     run.suite("reference: document 02's longer tally, plain", longer_tally::<Plain>);
+    run.suite("reference: a bench with a tally for each sheet, by brute force", shared_bench::<Brute>);
+    run.suite("reference: a bench with a tally for each sheet, plain", shared_bench::<Plain>);
     run.suite("reference: document 02's conversions of a bench", conversions);
     run.suite("reference: a class hour with points, by brute force", class_hour::<Brute>);
     run.suite("reference: a class hour with points, plain", class_hour::<Plain>);
     run.suite("reference: faulty points", faulty_points);
+    run.suite("reference: points in an old bench", converted_points);
     run.suite("reference: brute force and plain agree, n to 5", |s| many(s, 5, 300, 6000));
     run.suite("reference: brute force and plain agree, n to 6", |s| many(s, 6, 250, 1000));
     run.suite("reference: pair places", |s| {

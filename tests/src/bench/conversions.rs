@@ -1,44 +1,79 @@
-//! Old benches of both kinds converted: good ones whole, faulty ones to a bench
-//! of zeros, and what the other calls say of the bench that came out.
+//! Old benches of every kind converted: good ones whole, faulty ones to a bench
+//! of zeros, and what the other calls say of the bench that came out. The points,
+//! which the third kind has, are looked at in `third_kind`.
 
 use outside_tests::algebras::bare;
+use outside_tests::random::Rng;
 use outside_tests::reference::algebra::Algebra;
-use outside_tests::reference::bench::{Bench, BenchV1, BenchV2, Maps, Sheet, OLD_TOP};
+use outside_tests::reference::bench::{Bench, BenchV1, BenchV2, BenchV3, Maps, SheetV3, OLD_TOP};
 use outside_tests::reference::map::{all, identity};
 use outside_tests::report::{Run, Suite};
 
 use super::calls::{ask_add, ask_clear, ask_convert, Pair, PointCall, POINT_CALLS};
-use super::images::{Image, IMAGE, IMAGE_V1, IMAGE_V2};
-use super::material::{faults, put_fault, scribble, some_maps, some_name, some_old_tally, some_tally, SIZES};
+use super::images::{changed, Image, IMAGE, IMAGE_V1, IMAGE_V2, IMAGE_V3};
+use super::material::{
+    before_tallies, faults, put_fault, scribble, some_bench_v3, some_maps, some_name, some_old_tally,
+    some_tally, SIZES,
+};
 use super::sequences::some_call;
 use super::Comparison;
 
-/// Benches of either kind with these maps, which must draw the number.
-fn convert_both(comparison: &mut Comparison, n: usize, maps: Maps, number: u32) -> (BenchV2, Bench) {
-    let first = BenchV1 { n, maps, tally: some_old_tally(comparison.rng()) };
-    let second = BenchV2 { n, maps, tally: some_tally(n.min(64), comparison.rng()) };
-    let (drawn, made) = comparison.convert_v1(&first);
-    comparison.suite.check(drawn == number, || format!("  the reference draws {drawn}: {first:?}"));
-    let (drawn, bench) = comparison.convert_v2(&second);
-    comparison.suite.check(drawn == number, || format!("  the reference draws {drawn}: {second:?}"));
-    (made, bench)
+/// Benches of each kind with these maps.
+struct Old {
+    first: BenchV1,
+    second: BenchV2,
+    third: BenchV3,
 }
 
-/// The same, the first kind also in two steps, of which the second finds no
-/// other fault than zeros; then the other calls.
-fn try_one(comparison: &mut Comparison, n: usize, maps: Maps, number: u32) {
-    let (made, bench) = convert_both(comparison, n, maps, number);
-    let (drawn, twice) = comparison.convert_v2(&made);
-    comparison.suite.same("the second step", drawn, (number != 0) as u32);
-    for bench in [bench, twice] {
-        let (sheet, name) = (comparison.rng().below(8), some_name(comparison.rng()));
-        let n = if bench.n == 0 { 2 } else { bench.n };
-        let (x, y) = (comparison.rng().below(n), comparison.rng().below(n));
-        comparison.clear(&bench, sheet);
-        comparison.add(&bench, &Pair { algebra: bare(n), sheet, x, y });
-        for call in POINT_CALLS {
-            comparison.point(call, &bench, sheet, name);
+impl Old {
+    fn with(n: usize, maps: Maps, rng: &mut Rng) -> Old {
+        let size = n.clamp(1, 64);
+        let mut third = BenchV3 { n, ..some_bench_v3(size, rng) };
+        for (sheet, map) in third.sheets.iter_mut().zip(maps) {
+            sheet.map = map;
         }
+        Old {
+            first: BenchV1 { n, maps, tally: some_old_tally(rng) },
+            second: BenchV2 { n, maps, tally: some_tally(size, rng) },
+            third,
+        }
+    }
+}
+
+/// The numbers that benches of the three kinds draw, and what comes of each.
+fn convert_all(comparison: &mut Comparison, old: &Old) -> ([u32; 3], (BenchV2, BenchV3, Bench)) {
+    let (first, second) = comparison.convert_v1(&old.first);
+    let (next, third) = comparison.convert_v2(&old.second);
+    let (last, bench) = comparison.convert_v3(&old.third);
+    ([first, next, last], (second, third, bench))
+}
+
+/// Benches of each kind with these maps, which must draw the number; then the
+/// steps that are left, of which each finds no other fault than zeros, and the
+/// other calls.
+fn try_one(comparison: &mut Comparison, n: usize, maps: Maps, number: u32) {
+    let old = Old::with(n, maps, comparison.rng());
+    let (drawn, (second, third, bench)) = convert_all(comparison, &old);
+    comparison
+        .suite
+        .check(drawn == [number; 3], || format!("  the reference draws {drawn:?}: {n}, {maps:?}"));
+    let (drawn, once_more) = comparison.convert_v2(&second);
+    let left = [comparison.convert_v3(&third), comparison.convert_v3(&once_more)];
+    let due = [(number != 0) as u32; 3];
+    comparison.suite.same("the steps that are left", [drawn, left[0].0, left[1].0], due);
+    for bench in [&bench, &left[0].1, &left[1].1] {
+        try_calls(comparison, bench);
+    }
+}
+
+fn try_calls(comparison: &mut Comparison, bench: &Bench) {
+    let (sheet, name) = (comparison.rng().below(8), some_name(comparison.rng()));
+    let n = if bench.n == 0 { 2 } else { bench.n };
+    let (x, y) = (comparison.rng().below(n), comparison.rng().below(n));
+    comparison.clear(bench, sheet);
+    comparison.add(bench, &Pair { algebra: bare(n), sheet, x, y });
+    for call in POINT_CALLS {
+        comparison.point(call, bench, sheet, name);
     }
 }
 
@@ -60,13 +95,23 @@ fn with(changes: &[(usize, u8)]) -> Vec<u8> {
 }
 
 /// The same with four bytes of the tally more: an image of the second kind.
-fn longer(changes: &[(usize, u8)], more: [u8; 4]) -> Vec<u8> {
+pub fn longer(changes: &[(usize, u8)], more: [u8; 4]) -> Vec<u8> {
     [&with(changes)[..], &more].concat()
 }
 
-/// And with no points behind it.
+/// And with no points behind it: one of the third kind.
+fn pointless(changes: &[(usize, u8)], more: [u8; 4]) -> Vec<u8> {
+    [&longer(changes, more)[..], &[0; IMAGE_V3 - IMAGE_V2]].concat()
+}
+
+/// And with eight tallies of 0 before the old one, which is earlier.
 fn whole(changes: &[(usize, u8)], more: [u8; 4]) -> Vec<u8> {
-    [&longer(changes, more)[..], &[0; IMAGE - IMAGE_V2]].concat()
+    begun(&pointless(changes, more))
+}
+
+/// What comes of an image of the third kind.
+pub fn begun(third: &[u8]) -> Vec<u8> {
+    [&third[..513], &[0; 64], &third[513..]].concat()
 }
 
 fn by_hand(s: &mut Suite) {
@@ -87,17 +132,19 @@ fn by_hand(s: &mut Suite) {
         ("0 0 2 255 on the last sheet", &[(451, 255)], 8),
     ];
     for (what, changes, number) in rows {
-        let (first, second) = (longer(changes, [0; 4]), whole(changes, [1, 0, 0, 255]));
-        convert_by_hand(s, what, &with(changes), number, first);
-        convert_by_hand(s, what, &longer(changes, [1, 0, 0, 255]), number, second);
+        let more = [1, 0, 0, 255];
+        convert_by_hand(s, what, &with(changes), number, longer(changes, [0; 4]));
+        convert_by_hand(s, what, &longer(changes, more), number, pointless(changes, more));
+        convert_by_hand(s, what, &pointless(changes, more), number, whole(changes, more));
     }
     convert_by_hand(s, "nothing but zeros", &[0; IMAGE_V1], 1, vec![0; IMAGE_V2]);
-    convert_by_hand(s, "nothing but zeros", &[0; IMAGE_V2], 1, vec![0; IMAGE]);
+    convert_by_hand(s, "nothing but zeros", &[0; IMAGE_V2], 1, vec![0; IMAGE_V3]);
+    convert_by_hand(s, "nothing but zeros", &[0; IMAGE_V3], 1, vec![0; IMAGE]);
     on_it_goes(s);
 }
 
 /// What is due where the number is 0; else zeros are.
-fn convert_by_hand(s: &mut Suite, what: &str, old: &[u8], number: u32, due: Vec<u8>) {
+pub fn convert_by_hand(s: &mut Suite, what: &str, old: &[u8], number: u32, due: Vec<u8>) {
     let lent = s.rng.bytes(due.len());
     let found = ask_convert(old, &lent, &mut s.rng);
     let due = if number == 0 { due } else { vec![0; lent.len()] };
@@ -105,50 +152,45 @@ fn convert_by_hand(s: &mut Suite, what: &str, old: &[u8], number: u32, due: Vec<
     s.same(what, found.image, due);
 }
 
-/// A bench of the first kind, whose tally is at its top, is converted twice,
+/// A bench of the first kind, whose tally is at its top, is converted three times,
 /// loses a block, is cleared and gets a point; each call gets the image that the
 /// one before left.
 fn on_it_goes(s: &mut Suite) {
     let full = [(513, 255), (514, 255), (515, 255), (516, 255)];
-    let (lent, more) = (s.rng.bytes(IMAGE_V2), s.rng.bytes(IMAGE));
-    let first = ask_convert(&with(&full), &lent, &mut s.rng);
-    s.same("converted", first.image.clone(), longer(&full, [0; 4]));
-    let second = ask_convert(&first.image, &more, &mut s.rng);
-    s.same("converted again", second.image.clone(), whole(&full, [0; 4]));
+    let steps = [longer(&full, [0; 4]), pointless(&full, [0; 4]), whole(&full, [0; 4])];
+    let mut image = with(&full);
+    for due in steps {
+        let lent = s.rng.bytes(due.len());
+        image = ask_convert(&image, &lent, &mut s.rng).image;
+        s.same("converted", &image, &due);
+    }
     let u = Algebra { n: 4, arities: vec![1], cells: vec![1, 0, 3, 2] };
-    let added = ask_add(&second.image, &Pair { algebra: u, sheet: 0, x: 0, y: 1 }, &mut s.rng);
-    let raised = [(1, 0), (3, 0), (513, 0), (514, 0), (515, 0), (516, 0)];
-    s.same("added", (added.number, added.image.clone()), (0, whole(&raised, [1, 0, 0, 0])));
+    let added = ask_add(&image, &Pair { algebra: u, sheet: 0, x: 0, y: 1 }, &mut s.rng);
+    image = changed(&image, &[(1, &[0]), (3, &[0]), (513, &[1])]);
+    s.same("added", (added.number, &added.image), (0, &image));
     let cleared = ask_clear(&added.image, 7, &mut s.rng);
-    let identity = [&raised[..], &[(449, 1), (451, 3)]].concat();
-    s.same("cleared", (cleared.number, cleared.image.clone()), (0, whole(&identity, [1, 0, 0, 0])));
+    image = changed(&image, &[(449, &[1]), (451, &[3])]);
+    s.same("cleared", (cleared.number, &cleared.image), (0, &image));
     let set = PointCall::Set.ask(&cleared.image, 0, b"all     ", &mut s.rng);
-    let mut pointed = whole(&identity, [1, 0, 0, 0]);
-    let point = [&[1][..], b"all     ", &[0; 4], &[100; 60]].concat();
-    pointed[521..594].copy_from_slice(&point);
-    s.same("set", (set.number, set.image), (0, pointed));
+    image = changed(&image, &[(585, &[1]), (586, b"all     "), (594, &[0; 4]), (598, &[100; 60])]);
+    s.same("set", (set.number, &set.image), (0, &image));
 }
 
-/// After each call of a list the old benches with the same n, maps and tally
-/// become the bench that the calls gave, but for the points; the list goes on
-/// from the bench that has them.
+/// After each call of a list the old benches with the same n, maps, points and
+/// total become the bench that the calls gave, but for what each kind has not;
+/// the list goes on from the bench that has it.
 fn in_use(s: &mut Suite) {
     let mut comparison = Comparison::new(s);
     for round in 0..1500 {
         let limit = if round % 30 == 0 { 64 } else { 6 };
         let n = comparison.rng().within(1, limit);
         let (_, mut bench) = comparison.start(n);
-        bench.tally = u64::from(some_old_tally(comparison.rng()));
+        bench.earlier = match comparison.rng().below(2) {
+            0 => u64::from(some_old_tally(comparison.rng())),
+            _ => some_tally(n, comparison.rng()),
+        };
         for _ in 0..10 {
-            let maps = bench.maps();
-            let second = BenchV2 { n, maps, tally: bench.tally };
-            let pointless = Bench { sheets: maps.map(Sheet::bare), ..bench.clone() };
-            let made = comparison.convert_v2(&second);
-            comparison.suite.same("a bench in use", made, (0, pointless));
-            if bench.tally <= OLD_TOP {
-                let made = comparison.convert_v1(&BenchV1 { n, maps, tally: bench.tally as u32 });
-                comparison.suite.same("the first kind", made, (0, second));
-            }
+            convert_in_use(&mut comparison, &bench);
             bench = some_call(&mut comparison, &bench, n, limit).1;
         }
         if comparison.suite.is_over() {
@@ -156,6 +198,25 @@ fn in_use(s: &mut Suite) {
         }
     }
     comparison.must_have_seen(&[0, 7, 8, 15]);
+}
+
+fn convert_in_use(comparison: &mut Comparison, bench: &Bench) {
+    let (n, maps, tally) = (bench.n, bench.maps(), bench.earlier);
+    let mut untallied = bench.clone();
+    untallied.sheets.iter_mut().for_each(|sheet| sheet.tally = 0);
+    let made = comparison.convert_v3(&before_tallies(bench));
+    comparison.suite.same("the third kind", made, (0, untallied));
+    let second = BenchV2 { n, maps, tally };
+    let made = comparison.convert_v2(&second);
+    comparison.suite.same(
+        "the second kind",
+        made,
+        (0, BenchV3 { n, sheets: maps.map(SheetV3::bare), tally }),
+    );
+    if tally <= OLD_TOP {
+        let made = comparison.convert_v1(&BenchV1 { n, maps, tally: tally as u32 });
+        comparison.suite.same("the first kind", made, (0, second));
+    }
 }
 
 /// Every byte for n: on maps over any size, on damaged ones and on any bytes. 1
@@ -210,7 +271,8 @@ fn past_n(s: &mut Suite) {
 }
 
 /// Each byte of the old tally with every value, over zeros, ones and any bits:
-/// the new tally is the same number, and the image the old one and zeros.
+/// the new image has the same bytes, and zeros behind them, of the third kind
+/// before them.
 fn tallies(s: &mut Suite) {
     let mut comparison = Comparison::new(s);
     for k in 0..8 {
@@ -220,12 +282,14 @@ fn tallies(s: &mut Suite) {
                 bytes[k] = byte;
                 let n = comparison.rng().within(1, 64);
                 let maps = some_maps(n, comparison.rng());
-                let second = BenchV2 { n, maps, tally: u64::from_le_bytes(bytes) };
-                let (_, bench) = comparison.convert_v2(&second);
-                carried(&mut comparison, &second, &bench);
-                let first = BenchV1 { n, maps, tally: second.tally as u32 };
-                let (_, made) = comparison.convert_v1(&first);
-                carried(&mut comparison, &first, &made);
+                let mut old = Old::with(n, maps, comparison.rng());
+                old.third.tally = u64::from_le_bytes(bytes);
+                old.second.tally = old.third.tally;
+                old.first.tally = old.third.tally as u32;
+                let (_, (second, third, bench)) = convert_all(&mut comparison, &old);
+                carried(&mut comparison, &old.first, &second);
+                carried(&mut comparison, &old.second, &third);
+                comparison.suite.same("the image", bench.image(), begun(&old.third.image()));
             }
         }
     }
@@ -246,8 +310,8 @@ fn every_byte(s: &mut Suite) {
             for byte in [0, 1, place.max(1) - 1, place, place + 1, n - 1, n, 63, 64, 255] {
                 let mut maps = good;
                 maps[sheet][place] = byte as u8;
-                comparison.convert_v1(&BenchV1 { n, maps, tally: 1 });
-                comparison.convert_v2(&BenchV2 { n, maps, tally: 1 });
+                let old = Old::with(n, maps, comparison.rng());
+                convert_all(&mut comparison, &old);
             }
         }
     }
@@ -270,9 +334,8 @@ fn any_bytes(s: &mut Suite) {
         if round % 4 == 0 {
             maps.iter_mut().for_each(|map| scribble(0, map, comparison.rng()));
         }
-        let (tally, old_tally) = (comparison.rng().next(), some_old_tally(comparison.rng()));
-        comparison.convert_v1(&BenchV1 { n, maps, tally: old_tally });
-        let (_, bench) = comparison.convert_v2(&BenchV2 { n, maps, tally });
+        let old = Old::with(n, maps, comparison.rng());
+        let (_, (_, _, bench)) = convert_all(&mut comparison, &old);
         let sheet = comparison.rng().below(8);
         comparison.clear(&bench, sheet);
         if comparison.suite.is_over() {

@@ -1,6 +1,7 @@
 //! Benches whose points are faulty, on each sheet and in each place, and benches
 //! where only a free place or a byte past n would be: every call of the bench
-//! must tell them apart.
+//! must tell them apart, and so must the conversion of a bench from before the
+//! tallies.
 
 use outside_tests::algebras::bare;
 use outside_tests::random::Rng;
@@ -8,15 +9,26 @@ use outside_tests::reference::bench::Bench;
 use outside_tests::report::{Run, Suite};
 
 use super::calls::{Pair, POINT_CALLS};
-use super::material::{faults, put_fault, scribble, sheet_with, some_bench, some_name, NAMES, SIZES};
+use super::material::{
+    before_tallies, faults, put_fault, scribble, sheet_with, some_bench, some_name, NAMES, SIZES,
+};
 use super::Comparison;
+
+/// A count above eight, often the least one.
+fn some_large_count(rng: &mut Rng) -> usize {
+    if rng.once_in(3) {
+        9
+    } else {
+        rng.within(9, 255)
+    }
+}
 
 /// Points that no call gave.
 pub fn spoil_points(bench: &mut Bench, rng: &mut Rng) {
     let (n, place, other) = (bench.n.clamp(1, 64), rng.below(8), rng.below(8));
     let sheet = &mut bench.sheets[rng.below(8)];
     match rng.below(6) {
-        0 => sheet.count = rng.within(9, 255),
+        0 => sheet.count = some_large_count(rng),
         1 => sheet.count = rng.below(9),
         2 => sheet.points[place].name = sheet.points[other].name,
         3 => sheet.points[place].map[rng.below(n)] = rng.byte(),
@@ -26,13 +38,14 @@ pub fn spoil_points(bench: &mut Bench, rng: &mut Rng) {
 }
 
 /// Every call of the bench on a random sheet, with names that are held there or
-/// not: all must draw 8, or none. Behind the last sheet it is 7.
+/// not, and a conversion: all must draw 8, or none. Behind the last sheet it is 7.
 fn try_calls(comparison: &mut Comparison, bench: &Bench, faulty: bool) {
     let n = bench.n;
     let (sheet, x, y) = (comparison.rng().below(8), comparison.rng().below(n), comparison.rng().below(n));
     let mut drawn = vec![
         comparison.clear(bench, sheet).0,
         comparison.add(bench, &Pair { algebra: bare(n), sheet, x, y }).0,
+        comparison.convert_v3(&before_tallies(bench)).0,
     ];
     let mut name = some_name(comparison.rng());
     for call in POINT_CALLS {
@@ -141,7 +154,7 @@ fn spoil_surely(bench: &mut Bench, sheet: usize, rng: &mut Rng) {
     let fault = rng.pick(&faults(n)).clone();
     let sheet = &mut bench.sheets[sheet];
     match rng.below(4) {
-        0 => sheet.count = rng.within(9, 255),
+        0 => sheet.count = some_large_count(rng),
         1 => put_fault(n, &mut sheet.points[place].map, &fault),
         2 => put_fault(n, &mut sheet.map, &fault),
         _ => {
@@ -165,7 +178,8 @@ fn two_at_once(comparison: &mut Comparison, n: usize, sheet: usize) {
         for sheet in [sheet, 8] {
             let mut drawn = POINT_CALLS.map(|call| comparison.point(call, &bench, sheet, name).0).to_vec();
             drawn.push(comparison.clear(&bench, sheet).0);
-            comparison.suite.same("1 goes before 7 and 8", drawn, vec![1; 4]);
+            drawn.push(comparison.convert_v3(&before_tallies(&bench)).0);
+            comparison.suite.same("1 goes before 7 and 8", drawn, vec![1; 5]);
         }
     }
 }

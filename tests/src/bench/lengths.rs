@@ -6,12 +6,15 @@ use outside_tests::algebras::bare;
 use outside_tests::report::{Run, Suite};
 
 use super::calls::{ask_add, ask_clear, ask_convert, ask_start, Found, Pair, PointCall, POINT_CALLS};
-use super::images::{Image, IMAGE, IMAGE_V1, IMAGE_V2};
-use super::material::{some_bench, some_bench_v2, some_name};
+use super::images::{Image, IMAGE, IMAGE_V1, IMAGE_V2, IMAGE_V3};
+use super::material::{some_bench, some_bench_v3, some_name};
 use crate::ffi::probe;
 
-const LENGTHS: [usize; 20] =
-    [0, 1, 512, 513, 516, 517, 518, 519, 520, 521, 522, 525, 529, 1042, 4560, 5136, 5137, 5138, 5201, 10274];
+/// The kinds' own lengths, those next to them, and those of parts.
+const LENGTHS: [usize; 29] = [
+    0, 1, 512, 513, 516, 517, 518, 519, 520, 521, 522, 525, 529, 577, 585, 1042, 4560, 4616, 5129, 5136,
+    5137, 5138, 5145, 5200, 5201, 5202, 5209, 10274, 10402,
+];
 
 const NAME_LENGTHS: [usize; 10] = [0, 1, 4, 7, 8, 9, 15, 16, 64, 72];
 
@@ -82,18 +85,21 @@ fn names(s: &mut Suite) {
     }
 }
 
+/// The lengths of an old bench and of what it becomes.
+const KINDS: [(usize, usize); 3] = [(IMAGE_V1, IMAGE_V2), (IMAGE_V2, IMAGE_V3), (IMAGE_V3, IMAGE)];
+
 /// The lengths of the two images say which conversion is meant, and go before 1
 /// and 8.
 fn conversions(s: &mut Suite) {
     for old_length in LENGTHS {
         for length in LENGTHS {
-            if [(IMAGE_V1, IMAGE_V2), (IMAGE_V2, IMAGE)].contains(&(old_length, length)) {
+            if KINDS.contains(&(old_length, length)) {
                 continue;
             }
             for n in [0, 1, 4, 64, 65] {
-                let mut old = some_bench_v2(n.clamp(1, 64), &mut s.rng);
+                let mut old = some_bench_v3(n.clamp(1, 64), &mut s.rng);
                 old.n = n;
-                old.maps[3][0] = s.rng.below(2) as u8;
+                old.sheets[3].map[0] = s.rng.below(2) as u8;
                 let given = of_length(&old.image(), old_length, s);
                 let lent = s.rng.bytes(length);
                 let found = ask_convert(&given, &lent, &mut s.rng);
@@ -101,19 +107,21 @@ fn conversions(s: &mut Suite) {
             }
         }
     }
-    // Where an image is none, the other one may be right.
-    let given = some_bench_v2(4, &mut s.rng).image();
+    one_image(s);
+}
+
+/// Where an image is none, the other one may be right.
+fn one_image(s: &mut Suite) {
+    let given = some_bench_v3(4, &mut s.rng).image();
     let lent = s.rng.bytes(IMAGE);
     let mut out = lent.clone();
-    let (old, image) = (given.as_ptr(), out.as_mut_ptr());
-    for (what, number) in [
-        ("neither image", unsafe { probe::probe_bench_convert(null(), 0, null_mut(), 0) }),
-        ("no old image", unsafe { probe::probe_bench_convert(null(), 0, image, IMAGE) }),
-        ("no old image", unsafe { probe::probe_bench_convert(null(), 0, image, IMAGE_V2) }),
-        ("no new image", unsafe { probe::probe_bench_convert(old, IMAGE_V2, null_mut(), 0) }),
-        ("no new image", unsafe { probe::probe_bench_convert(old, IMAGE_V1, null_mut(), 0) }),
-    ] {
-        s.same(what, number, 255);
+    let convert = |old, old_length, image, length| unsafe {
+        probe::probe_bench_convert(old, old_length, image, length)
+    };
+    s.same("neither image", convert(null(), 0, null_mut(), 0), 255);
+    for (old_length, length) in KINDS {
+        s.same("no old image", convert(null(), 0, out.as_mut_ptr(), length), 255);
+        s.same("no new image", convert(given.as_ptr(), old_length, null_mut(), 0), 255);
     }
     s.same("nothing is written", out, lent);
 }

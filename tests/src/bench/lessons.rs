@@ -1,6 +1,6 @@
 //! Document 02's promise for lists of calls that begin with a Start and in which
 //! every Start is accepted: which map each sheet has, which points with which
-//! maps, and the tally, follow from the calls and from which of them were
+//! maps, and which tally, follow from the calls and from which of them were
 //! accepted. Here they are looked for backwards through the list, with no bench
 //! at hand, and compared with the image after every call.
 
@@ -95,15 +95,15 @@ impl<E: Engine> Lesson<E> {
         }
     }
 
-    /// The blocks lost in accepted Adds since Start.
-    fn lost_after(&self, made: &Made) -> u64 {
+    /// The blocks that a sheet lost in accepted Adds since Start.
+    fn lost_after(&self, k: usize, made: &Made) -> u64 {
         match latest(made) {
             ((Start(_), _), _) => 0,
-            ((Add { sheet, .. }, true), before) => {
-                let lost = blocks(&self.map_after(*sheet, before)) - blocks(&self.map_after(*sheet, made));
-                self.lost_after(before) + lost as u64
+            ((Add { sheet, .. }, true), before) if *sheet == k => {
+                let lost = blocks(&self.map_after(k, before)) - blocks(&self.map_after(k, made));
+                self.lost_after(k, before) + lost as u64
             }
-            (_, before) => self.lost_after(before),
+            (_, before) => self.lost_after(k, before),
         }
     }
 
@@ -166,10 +166,11 @@ impl<E: Engine> Lesson<E> {
             let points: BTreeMap<Name, Map> =
                 known(k, made).into_iter().map(|name| (name, self.set_after(k, name, made))).collect();
             sheet.map[..n] == self.map_after(k, made)
+                && sheet.tally == self.lost_after(k, made)
                 && sheet.count == points.len()
                 && points_of(sheet, n) == points
         };
-        bench.n == n && bench.tally == self.lost_after(made) && bench.sheets.iter().enumerate().all(right)
+        bench.n == n && bench.earlier == 0 && bench.sheets.iter().enumerate().all(right)
     }
 
     /// Makes the call on the image and gives what it left; none if the answer is

@@ -2,7 +2,7 @@
 
 use outside_tests::random::Rng;
 use outside_tests::reference::bench::{
-    Bench, BenchV1, BenchV2, Maps, Name, Point, Sheet, Stored, OLD_TOP, TOP,
+    Bench, BenchV1, BenchV2, BenchV3, Maps, Name, Point, Sheet, SheetV3, Stored, OLD_TOP, TOP,
 };
 
 /// Sizes at which every kind of sheet and point is tried.
@@ -63,9 +63,9 @@ fn some_free_place(held: &[Point], rng: &mut Rng) -> Point {
     }
 }
 
-/// A sheet with so many points, whose names are among `NAMES`.
+/// A sheet with so many points, whose names are among `NAMES`, and any tally.
 pub fn sheet_with(n: usize, map: Stored, count: usize, rng: &mut Rng) -> Sheet {
-    let mut sheet = Sheet { count, ..Sheet::bare(map) };
+    let mut sheet = Sheet { count, tally: some_tally(n, rng), ..Sheet::bare(map) };
     let (names, scribbled) = (rng.permutation(NAMES.len()), rng.once_in(2));
     for place in 0..8 {
         sheet.points[place] = if place < count {
@@ -106,7 +106,18 @@ pub fn some_bench(n: usize, rng: &mut Rng) -> Bench {
         let count = some_count(rng);
         sheet_with(n, map, count, rng)
     });
-    Bench { n, sheets, tally: some_tally(n, rng) }
+    Bench { n, sheets, earlier: some_tally(n, rng) }
+}
+
+/// The bench of the third kind with the same maps and points, whose one tally is
+/// what is `earlier` here.
+pub fn before_tallies(bench: &Bench) -> BenchV3 {
+    let sheets = bench.sheets.map(|Sheet { map, count, points, .. }| SheetV3 { map, count, points });
+    BenchV3 { n: bench.n, sheets, tally: bench.earlier }
+}
+
+pub fn some_bench_v3(n: usize, rng: &mut Rng) -> BenchV3 {
+    before_tallies(&some_bench(n, rng))
 }
 
 /// A tally of the first kind of bench, with any number of bits; often near its

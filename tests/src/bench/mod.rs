@@ -7,21 +7,24 @@ mod conversions;
 mod edges;
 mod faults;
 mod images;
+mod independence;
 mod lengths;
 mod lessons;
 mod material;
 mod points;
 mod sequences;
+mod sums;
+mod third_kind;
 
 use outside_tests::random::Rng;
 use outside_tests::reference::algebra::Algebra;
-use outside_tests::reference::bench::{self, Bench, BenchV1, BenchV2, Name};
+use outside_tests::reference::bench::{self, Bench, BenchV1, BenchV2, BenchV3, Name};
 use outside_tests::reference::plain::Plain;
 use outside_tests::reference::service::Reference;
 use outside_tests::report::{Run, Suite};
 
 use calls::{ask_add, ask_clear, ask_convert, ask_start, Found, Pair, PointCall};
-use images::{Image, IMAGE, IMAGE_V2};
+use images::{Image, IMAGE, IMAGE_V2, IMAGE_V3};
 
 struct Comparison<'a> {
     suite: &'a mut Suite,
@@ -67,10 +70,16 @@ impl<'a> Comparison<'a> {
         self.compare(found, bench::convert_v1(old), || format!("convert {old:?}, lent {lent:?}"))
     }
 
-    fn convert_v2(&mut self, old: &BenchV2) -> (u32, Bench) {
-        let lent = self.rng().bytes(IMAGE);
+    fn convert_v2(&mut self, old: &BenchV2) -> (u32, BenchV3) {
+        let lent = self.rng().bytes(IMAGE_V3);
         let found = ask_convert(&old.image(), &lent, self.rng());
         self.compare(found, bench::convert_v2(old), || format!("convert {old:?}, lent {lent:?}"))
+    }
+
+    fn convert_v3(&mut self, old: &BenchV3) -> (u32, Bench) {
+        let lent = self.rng().bytes(IMAGE);
+        let found = ask_convert(&old.image(), &lent, self.rng());
+        self.compare(found, bench::convert_v3(old), || format!("convert {old:?}, lent {lent:?}"))
     }
 
     fn add(&mut self, bench: &Bench, pair: &Pair) -> (u32, Bench) {
@@ -114,10 +123,13 @@ fn starts(s: &mut Suite) {
 pub fn suites(run: &mut Run) {
     run.suite("probe: bench start", starts);
     edges::suites(run);
+    sums::suites(run);
+    independence::suites(run);
     points::suites(run);
     faults::suites(run);
     sequences::suites(run);
     lessons::suites(run);
     conversions::suites(run);
+    third_kind::suites(run);
     lengths::suites(run);
 }

@@ -6,7 +6,7 @@ use outside_tests::reference::bench::{Bench, Name, Point, Sheet};
 use outside_tests::report::{Run, Suite};
 
 use super::calls::{ask_add, ask_clear, Found, Pair, PointCall, POINT_CALLS};
-use super::images::{Image, IMAGE};
+use super::images::{changed, Image, IMAGE};
 use super::material::some_tally;
 use super::Comparison;
 use PointCall::{Forget, Return, Set};
@@ -50,12 +50,14 @@ fn point(k: usize) -> Point {
     Point { name: NAMES[k], map: stored(MAPS[k], k as u8) }
 }
 
-/// Four elements. Every sheet has a map of its own, and its eight places filled
-/// in order; so many of them are held.
+/// Four elements. Every sheet has a map and a tally of its own, the first one's
+/// is the given one, and its eight places filled in order; so many of them are
+/// held.
 fn bench(count: usize, tally: u64) -> Bench {
     let points = std::array::from_fn(point);
-    let sheet = |k: usize| Sheet { map: stored(MAPS[7 - k], 100 + k as u8), count, points };
-    Bench { n: 4, sheets: std::array::from_fn(sheet), tally }
+    let sheet =
+        |k: usize| Sheet { map: stored(MAPS[7 - k], 100 + k as u8), tally: tally ^ k as u64, count, points };
+    Bench { n: 4, sheets: std::array::from_fn(sheet), earlier: !tally }
 }
 
 /// One call on each sheet, after which the bench must be what `change` makes of
@@ -277,7 +279,7 @@ fn other_calls(s: &mut Suite) {
         };
         on_each_sheet(c, "add", &start, 0, add, |bench, sheet| {
             bench.sheets[sheet].map[..4].copy_from_slice(&[0, 0, 2, 2]);
-            bench.tally = 21;
+            bench.sheets[sheet].tally += 1;
         });
     }
 }
@@ -306,8 +308,8 @@ fn smallest_and_largest(s: &mut Suite) {
     }
 }
 
-/// An image byte by byte: two points on sheet 2, whose count is byte 1,675 and
-/// whose places begin at 1,676 and 1,748; and eight on sheet 7, whose last place
+/// An image byte by byte: two points on sheet 2, whose count is byte 1,739 and
+/// whose places begin at 1,740 and 1,812; and eight on sheet 7, whose last place
 /// ends the image.
 fn by_bytes(s: &mut Suite) {
     let mut image = vec![0; IMAGE];
@@ -315,43 +317,39 @@ fn by_bytes(s: &mut Suite) {
         image[64 * sheet..][..4].copy_from_slice(&[0, 1, 2, 3]);
     }
     image[512] = 4;
-    image[513] = 6;
+    image[529] = 6;
+    image[577] = 9;
     image[128..133].copy_from_slice(&[0, 1, 0, 1, 77]);
-    let with = |image: &[u8], changes: &[(usize, &[u8])]| {
-        let mut changed = image.to_vec();
-        for (place, bytes) in changes {
-            changed[*place..][..bytes.len()].copy_from_slice(bytes);
-        }
-        changed
-    };
     let mut step =
         |what: &str, call: PointCall, before: &[u8], sheet: usize, name: &[u8], due: (u32, Vec<u8>)| {
             let found = call.ask(before, sheet, name, &mut s.rng);
             s.same(what, (found.number, found.image, found.untouched), (due.0, due.1, true));
         };
-    let one = with(&image, &[(1675, &[1]), (1676, b"one     "), (1684, &[0, 1, 0, 1, 77])]);
+    let one = changed(&image, &[(1739, &[1]), (1740, b"one     "), (1748, &[0, 1, 0, 1, 77])]);
     step("the first point", Set, &image, 2, b"one     ", (0, one.clone()));
-    let joined = with(&one, &[(128, &[0, 0, 0, 0, 88])]);
-    let two = with(&joined, &[(1675, &[2]), (1748, b"two     "), (1756, &[0, 0, 0, 0, 88])]);
+    let joined = changed(&one, &[(128, &[0, 0, 0, 0, 88])]);
+    let two = changed(&joined, &[(1739, &[2]), (1812, b"two     "), (1820, &[0, 0, 0, 0, 88])]);
     step("the second point", Set, &joined, 2, b"two     ", (0, two.clone()));
-    let back = with(&two, &[(128, &[0, 1, 0, 1])]);
+    let back = changed(&two, &[(128, &[0, 1, 0, 1])]);
     step("back to the first", Return, &two, 2, b"one     ", (0, back.clone()));
     step("unknown", Return, &back, 3, b"one     ", (15, back.clone()));
-    let moved = with(&back, &[(1675, &[1]), (1676, b"two     "), (1684, &[0, 0, 0, 0, 88])]);
+    let moved = changed(&back, &[(1739, &[1]), (1740, b"two     "), (1748, &[0, 0, 0, 0, 88])]);
     step("the first is forgotten", Forget, &back, 2, b"one     ", (0, moved.clone()));
-    let none = with(&moved, &[(1675, &[0])]);
+    let none = changed(&moved, &[(1739, &[0])]);
     step("the second too", Forget, &moved, 2, b"two     ", (0, none.clone()));
     step("and once more", Forget, &none, 2, b"two     ", (15, none.clone()));
     // Eight points on the last sheet, the names of which are one byte each.
-    let mut full = with(&none, &[(4560, &[8])]);
+    let mut full = changed(&none, &[(4624, &[8])]);
     for place in 0..8 {
-        full =
-            with(&full, &[(4561 + 72 * place, &[place as u8 + 1]), (4569 + 72 * place, &[0, 0, 2, 2, 99])]);
+        full = changed(
+            &full,
+            &[(4625 + 72 * place, &[place as u8 + 1]), (4633 + 72 * place, &[0, 0, 2, 2, 99])],
+        );
     }
     step("nine", Set, &full, 7, &[9, 0, 0, 0, 0, 0, 0, 0], (16, full.clone()));
-    let last = with(&full, &[(5073, &[0, 1, 2, 3, 0])]);
+    let last = changed(&full, &[(5137, &[0, 1, 2, 3, 0])]);
     step("the last place", Set, &full, 7, &[8, 0, 0, 0, 0, 0, 0, 0], (0, last));
-    let fewer = with(&full, &[(4560, &[7]), (4561, &[8])]);
+    let fewer = changed(&full, &[(4624, &[7]), (4625, &[8])]);
     step("the first place", Forget, &full, 7, &[1, 0, 0, 0, 0, 0, 0, 0], (0, fewer));
 }
 

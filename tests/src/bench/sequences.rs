@@ -9,7 +9,7 @@ use outside_tests::report::{Run, Suite};
 use super::calls::{Pair, POINT_CALLS};
 use super::faults::spoil_points;
 use super::material::{
-    scribble, some_bench, some_bench_v1, some_bench_v2, some_name, some_sheet, some_tally,
+    before_tallies, scribble, some_bench, some_bench_v1, some_bench_v2, some_name, some_sheet, some_tally,
 };
 use super::Comparison;
 
@@ -50,19 +50,25 @@ fn old_bench(n: usize, rng: &mut Rng) -> BenchV1 {
     old
 }
 
-/// From the first kind in two steps, or from the second.
+/// From the first kind in three steps, from the second in two, or from the third,
+/// which has points and sometimes a fault.
 fn converted(comparison: &mut Comparison, n: usize) -> Bench {
     let old = old_bench(n, comparison.rng());
     let mut second = comparison.convert_v1(&old).1;
     if comparison.rng().once_in(3) {
         second = some_bench_v2(n, comparison.rng());
     }
-    comparison.convert_v2(&second).1
+    let mut third = comparison.convert_v2(&second).1;
+    if comparison.rng().once_in(2) {
+        third = before_tallies(&made_up(comparison, n));
+    }
+    comparison.convert_v3(&third).1
 }
 
 fn started(comparison: &mut Comparison, n: usize) -> Bench {
     let (_, mut bench) = comparison.start(n);
-    bench.tally = some_tally(n, comparison.rng());
+    bench.earlier = some_tally(n, comparison.rng());
+    bench.sheets.iter_mut().for_each(|sheet| sheet.tally = some_tally(n, comparison.rng()));
     bench
 }
 
@@ -83,7 +89,7 @@ fn some_element(n: usize, rng: &mut Rng) -> usize {
 }
 
 /// A pair to add, under an algebra over n, or sometimes under any.
-fn some_pair(n: usize, limit: usize, rng: &mut Rng) -> Pair {
+pub fn some_pair(n: usize, limit: usize, rng: &mut Rng) -> Pair {
     let (blocks, arities) = (rng.within(1, n), algebras::random_arities(n, 200, rng));
     let mut algebra = algebras::lifted(n, blocks, &arities, rng);
     if rng.once_in(15) {
@@ -119,7 +125,7 @@ pub fn some_call(comparison: &mut Comparison, bench: &Bench, n: usize, limit: us
 
 fn sequences(s: &mut Suite) {
     let mut comparison = Comparison::new(s);
-    // How often a call carried into each byte of the tally.
+    // How often a call carried into each byte of a tally.
     let mut carries = [0u32; 8];
     for round in 0..8_000 {
         let limit = if round % 30 == 0 { 64 } else { 6 };
@@ -129,7 +135,8 @@ fn sequences(s: &mut Suite) {
         for _ in 0..20 {
             let (_, after) = some_call(&mut comparison, &bench, n, limit);
             for (k, count) in carries.iter_mut().enumerate() {
-                *count += (bench.tally >> (8 * k) != after.tally >> (8 * k)) as u32;
+                let above = |bench: &Bench| bench.sheets.map(|sheet| sheet.tally >> (8 * k));
+                *count += (above(&bench) != above(&after)) as u32;
             }
             bench = after;
         }
@@ -139,7 +146,7 @@ fn sequences(s: &mut Suite) {
     }
     comparison.must_have_seen(&[0, 1, 2, 3, 4, 5, 6, 7, 8, 13, 15, 16]);
     let few = carries.iter().any(|&count| count < 20);
-    s.check(!few, || format!("  too few calls carried into a byte of the tally: {carries:?}"));
+    s.check(!few, || format!("  too few calls carried into a byte of a tally: {carries:?}"));
 }
 
 pub fn suites(run: &mut Run) {

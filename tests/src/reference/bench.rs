@@ -1,13 +1,14 @@
-//! The bench: eight sheets over one n, each with up to eight named points, and a
-//! tally. Document 02's third request has made the tally longer, its fifth has
-//! brought the points; a bench from before either is converted to the next kind.
+//! The bench: eight sheets over one n, each with a tally and up to eight named
+//! points. Document 02's third request has made the tally longer, its fifth has
+//! brought the points, its sixth a tally for each sheet; a bench from before any
+//! of them is converted to the next kind.
 
 use super::algebra::reason;
 use super::map::{blocks, identity, is_map};
 use super::service::Reference;
 use super::Engine;
 
-/// The largest tally of the first kind of bench and of the others.
+/// The largest tally of the first kind of bench and of the later ones.
 pub const OLD_TOP: u64 = 4_294_967_295;
 pub const TOP: u64 = 18_446_744_073_709_551_615;
 
@@ -31,14 +32,32 @@ pub struct Point {
 #[derive(Clone, Copy, Debug, PartialEq, Eq)]
 pub struct Sheet {
     pub map: Stored,
+    pub tally: u64,
     pub count: usize,
     pub points: [Point; 8],
 }
 
+/// `earlier` is the total from before the sheets had tallies.
 #[derive(Clone, Debug, PartialEq, Eq)]
 pub struct Bench {
     pub n: usize,
     pub sheets: [Sheet; 8],
+    pub earlier: u64,
+}
+
+/// A sheet as it was before it had a tally.
+#[derive(Clone, Copy, Debug, PartialEq, Eq)]
+pub struct SheetV3 {
+    pub map: Stored,
+    pub count: usize,
+    pub points: [Point; 8],
+}
+
+/// A bench as it was with one tally for its eight sheets: the third kind.
+#[derive(Clone, Debug, PartialEq, Eq)]
+pub struct BenchV3 {
+    pub n: usize,
+    pub sheets: [SheetV3; 8],
     pub tally: u64,
 }
 
@@ -65,7 +84,12 @@ impl Point {
 impl Sheet {
     /// A sheet without points, whose places are all zero.
     pub const fn bare(map: Stored) -> Sheet {
-        Sheet { map, count: 0, points: [Point::ZEROS; 8] }
+        Sheet::begun(SheetV3::bare(map))
+    }
+
+    /// The old sheet with a tally, which begins at 0.
+    pub const fn begun(old: SheetV3) -> Sheet {
+        Sheet { map: old.map, tally: 0, count: old.count, points: old.points }
     }
 
     /// The points, where there are not too many.
@@ -88,11 +112,27 @@ impl Sheet {
 
 impl Bench {
     pub fn zeros() -> Bench {
-        Bench { n: 0, sheets: [Sheet::bare([0; 64]); 8], tally: 0 }
+        Bench { n: 0, sheets: [Sheet::bare([0; 64]); 8], earlier: 0 }
     }
 
     fn is_faultless(&self) -> bool {
         self.sheets.iter().all(|sheet| sheet.is_faultless(self.n))
+    }
+
+    pub fn maps(&self) -> Maps {
+        self.sheets.map(|sheet| sheet.map)
+    }
+}
+
+impl SheetV3 {
+    pub const fn bare(map: Stored) -> SheetV3 {
+        SheetV3 { map, count: 0, points: [Point::ZEROS; 8] }
+    }
+}
+
+impl BenchV3 {
+    pub fn zeros() -> BenchV3 {
+        BenchV3 { n: 0, sheets: [SheetV3::bare([0; 64]); 8], tally: 0 }
     }
 
     pub fn maps(&self) -> Maps {
@@ -149,13 +189,13 @@ pub fn add<E: Engine>(
     let old = &bench.sheets[sheet].map[..n];
     let new = reference.least_above(n, arities, cells, old, x, y);
     let lost = blocks(old) - blocks(&new);
-    let tally = u128::from(bench.tally) + lost as u128;
+    let tally = u128::from(bench.sheets[sheet].tally) + lost as u128;
     if tally > u128::from(TOP) {
         return (13, bench.clone());
     }
     let mut after = bench.clone();
     after.sheets[sheet].map[..n].copy_from_slice(&new);
-    after.tally = tally as u64;
+    after.sheets[sheet].tally = tally as u64;
     (0, after)
 }
 
@@ -243,9 +283,22 @@ pub fn convert_v1(old: &BenchV1) -> (u32, BenchV2) {
 }
 
 /// The same for the second kind, and no points.
-pub fn convert_v2(old: &BenchV2) -> (u32, Bench) {
+pub fn convert_v2(old: &BenchV2) -> (u32, BenchV3) {
     match old_refused(old.n, &old.maps) {
-        Some(number) => (number, Bench::zeros()),
-        None => (0, Bench { n: old.n, sheets: old.maps.map(Sheet::bare), tally: old.tally }),
+        Some(number) => (number, BenchV3::zeros()),
+        None => (0, BenchV3 { n: old.n, sheets: old.maps.map(SheetV3::bare), tally: old.tally }),
+    }
+}
+
+/// The third kind: maps and points stay, and the total is what was tallied
+/// earlier.
+pub fn convert_v3(old: &BenchV3) -> (u32, Bench) {
+    let made = Bench { n: old.n, sheets: old.sheets.map(Sheet::begun), earlier: old.tally };
+    if !is_size(old.n) {
+        (1, Bench::zeros())
+    } else if !made.is_faultless() {
+        (8, Bench::zeros())
+    } else {
+        (0, made)
     }
 }

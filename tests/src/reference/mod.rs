@@ -7,7 +7,7 @@
 //! - `brute`: every notion by its definition, searching all maps over n
 //! - `plain`: the same notions in polynomial time, for n up to 64
 //! - `service`: the services with their refusals and lent bytes
-//! - `bench`: the eight sheets with their points, the tally, and old benches' conversions
+//! - `bench`: the eight sheets with their tallies and points, and old benches' conversions
 //! - `text`: algebra texts, their reader and their writer
 //! - `desk`: the text of the desk program
 
