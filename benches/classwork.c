@@ -15,7 +15,7 @@
 #include "median.h"
 #include "process.h"
 
-enum { FEW = 100, MANY = 4100, MAX_ANSWER = 256, MAX_ROUNDS = 999, BASELINE = 0, PROVED = 1 };
+enum { FEW = 100, MANY = 4100, MAX_ANSWER = 512, MAX_ROUNDS = 999, BASELINE = 0, PROVED = 1 };
 
 /* The calls of a turn, by the letter that the programs know them by. */
 static const struct workload {

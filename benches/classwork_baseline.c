@@ -141,13 +141,14 @@ uint32_t classwork_add(struct bench *b, size_t n, const uint8_t *arities, size_t
     if (!is_faultless(b, n)) {
         return 8;
     }
-    memcpy(map, b->sheets[sheet].map, SHEET_BYTES);
+    struct sheet *s = &b->sheets[sheet];
+    memcpy(map, s->map, SHEET_BYTES);
     const unsigned lost = baseline_extend(&al, map, (unsigned)x, (unsigned)y);
-    if (lost > UINT64_MAX - b->tally) {
+    if (lost > UINT64_MAX - s->tally) {
         return 13;
     }
-    b->tally += lost;
-    memcpy(b->sheets[sheet].map, map, SHEET_BYTES);
+    s->tally += lost;
+    memcpy(s->map, map, SHEET_BYTES);
     return 0;
 }
 

@@ -16,16 +16,20 @@ struct point {
     uint8_t map[SHEET_BYTES];
 };
 
-/* The first `count` places hold the points. */
+/* The tally counts the blocks that this sheet lost. The first `count` places hold
+ * the points. */
 struct sheet {
     uint8_t map[SHEET_BYTES];
+    uint64_t tally;
     size_t count;
     struct point points[PLACES];
 };
 
+/* `earlier` is the total of an older bench that this one was converted from: no call
+ * but Start alters it. */
 struct bench {
     size_t n;
-    uint64_t tally;
+    uint64_t earlier;
     struct sheet sheets[SHEETS];
 };
 

@@ -115,6 +115,7 @@ static struct sum sum_of(const struct bench *b)
     for (size_t k = 0; k < SHEETS; k++) {
         const struct sheet *sheet = &b->sheets[k];
         add_bytes(&s, sheet->map, SHEET_BYTES);
+        add_number(&s, sheet->tally);
         add_number(&s, sheet->count);
         for (size_t i = 0; i < PLACES; i++) {
             add_bytes(&s, &sheet->points[i].name, sizeof sheet->points[i].name);
@@ -122,6 +123,22 @@ static struct sum sum_of(const struct bench *b)
         }
     }
     return s;
+}
+
+static void print_tallies(const struct bench *b)
+{
+    printf(", earlier %" PRIu64 ", tallies", b->earlier);
+    for (size_t k = 0; k < SHEETS; k++) {
+        printf(" %" PRIu64, b->sheets[k].tally);
+    }
+}
+
+static void print_played(const struct bench *b, size_t turns)
+{
+    const struct sum s = sum_of(b);
+    printf("turns %zu", turns);
+    print_tallies(b);
+    printf(", sums %" PRIu64 " %" PRIu64 "\n", s.low, s.high);
 }
 
 int main(void)
@@ -134,8 +151,6 @@ int main(void)
     fill_cells();
     classwork_start(&b, N);
     put_points(&b);
-    const size_t played = play(&b, input[0], input[1] + 256u * input[2] + 65536u * input[3]);
-    const struct sum s = sum_of(&b);
-    printf("turns %zu, tally %" PRIu64 ", sums %" PRIu64 " %" PRIu64 "\n", played, b.tally, s.low, s.high);
+    print_played(&b, play(&b, input[0], input[1] + 256u * input[2] + 65536u * input[3]));
     return 0;
 }
