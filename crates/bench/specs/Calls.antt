@@ -99,7 +99,7 @@ setCall b k name = benched (setTests b k name) (withSheet b k (withPoint name (s
 unfoldable pub knownTests : Bench → ℕ → List ℕ → List Test
 knownTests b k name = clearTests b k ++ (unknownTest name (sheetOf b k) ∷ [])
 
--- Return (1, 7, 8, 15): the sheet gets the map that is stored under the name; the point and its tally stay
+-- Return (1, 7, 8, 15): the sheet gets the map that is stored under the name; the point and the sheet's tally stay
 unfoldable pub returnCall : Bench → ℕ → List ℕ → Benched
 returnCall b k name = benched (knownTests b k name) (withMap b k (mapUnder (b .n) name (sheetOf b k))) b
 

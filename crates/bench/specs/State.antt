@@ -6,7 +6,7 @@ use Rattle.sheet.specs.Sheet.{zeroSheet, sheetWith, noSheet}
 use Rattle.sheet.specs.declared.Sheet.{Sheet}
 use Rattle.bench.specs.declared.Bench.{Bench}
 
--- a bench over n with eight equal sheets, before which nothing was lost
+-- a bench over n with eight equal sheets, and nothing lost earlier
 unfoldable pub eightOf : ℕ → Sheet → Bench
 eightOf n s = record { n = n; earlier = 0; sheets = replicate 8 s }
 

@@ -155,7 +155,7 @@ pub fn set_point(bench: Bench, sheet: usize, name: [u8; NAME_BYTES]) -> Benched
     }
 }
 
-// The sheet gets the map that is stored under the name; the point and its tally stay.
+// The sheet gets the map that is stored under the name; the point and the sheet's tally stay.
 pub fn return_to(bench: Bench, sheet: usize, name: [u8; NAME_BYTES]) -> Benched
     ensures { λ r. ⌜ r ≡ returnCall bench sheet name ⌝ }
 {

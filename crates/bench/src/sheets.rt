@@ -20,7 +20,7 @@ use sheet::MAP_BYTES;
 use sheet::NAME_BYTES;
 use sheet::Sheet;
 
-// A bench over n with eight equal sheets, before which nothing was lost.
+// A bench over n with eight equal sheets, and nothing lost earlier.
 fn eight_of(n: usize, sheet: Sheet) -> Bench
     ensures { λ r. ⌜ r ≡ eightOf n sheet ⌝ }
 {

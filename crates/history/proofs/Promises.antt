@@ -10,7 +10,6 @@ use Rattle.equivalence.specs.Equivalence.{Map, byte, identity}
 use Rattle.equivalence.proofs.Maps.{identity-map}
 use Rattle.equivalence.proofs.Writing.{written-old}
 use Rattle.equivalence.specs.Refusal.{lowest, answered}
-use Rattle.equivalence.specs.Lent.{written}
 use Rattle.equivalence.specs.declared.Check.{Check}
 use Rattle.equivalence.specs.declared.Refusal.{Refusal}
 use Rattle.algebra.specs.Algebra.{Algebra}
@@ -53,27 +52,24 @@ module _ (k : ℕ) (b : Bench) where
   points-untouched = record { sheet = untouched; maps = λ j. refl; tallies = λ j. refl }
 
 module _ (b : Bench) (k : ℕ) where
-  abbrev remapped : Map → ℕ → Sheet
-  remapped m tally = record { map = written m (sheetOf b k .map); tally = tally; count = sheetOf b k .count; points = sheetOf b k .points }
-
   pub withSheet-only : (s : Sheet) → OnlySheet k b (withSheet b k s)
   unfolding withSheet
   withSheet-only s = record { size = refl; earlier = refl; count = withSheet-count b k s; others = λ j h. withSheet-other b k s j h }
 
-  -- a sheet with another map, and any tally
-  remapped-only : (m : Map) (tally : ℕ) → length m ≡ b .n → OnlyMap k b (withSheet b k (remapped m tally))
-  unfolding sheetWith
-  remapped-only m tally e =
+  -- a sheet with the bytes past n and the points of the one before it
+  map-only : (s : Sheet) → drop (b .n) (s .map) ≡ drop (b .n) (sheetOf b k .map) → s .count ≡ sheetOf b k .count → s .points ≡ sheetOf b k .points
+      → OnlyMap k b (withSheet b k s)
+  map-only s past held points =
       record {
-        sheet = withSheet-only _;
-        past = withSheet-keeps b k _ (λ (s : Sheet). drop (b .n) (s .map)) (past-sheetWith (b .n) m (sheetOf b k) e);
-        held = withSheet-keeps b k _ (λ (s : Sheet). s .count) refl;
-        points = withSheet-keeps b k _ (λ (s : Sheet). s .points) refl;
+        sheet = withSheet-only s;
+        past = withSheet-keeps b k s (λ (t : Sheet). drop (b .n) (t .map)) past;
+        held = withSheet-keeps b k s (λ (t : Sheet). t .count) held;
+        points = withSheet-keeps b k s (λ (t : Sheet). t .points) points;
       }
 
   withMap-only : (m : Map) → length m ≡ b .n → OnlyMap k b (withMap b k m)
   unfolding withMap sheetWith
-  withMap-only m e = remapped-only m (sheetOf b k .tally) e
+  withMap-only m e = map-only (sheetWith m (sheetOf b k)) (past-sheetWith (b .n) m (sheetOf b k) e) refl refl
 
   map-tally : (m : Map) → sheetOf (withMap b k m) k .tally ≡ sheetOf b k .tally
   unfolding withMap sheetWith
@@ -87,7 +83,8 @@ add-only : (b : Bench) (a : Algebra) (k x y : ℕ) → OnlyMap k b (addCall b a 
 unfolding sheetByAdd raisedBy sheetWith
 add-only b a k x y =
     elim (add-cases b a k x y) [
-      | inl p ↦ rw (p .1) (remapped-only b k (mapByAdd b a k x y) _ (added-length b a k x y (p .0) ∙ sym (p .0 .placed .faultless .size)))
+      | inl p ↦ let long : length (mapByAdd b a k x y) ≡ b .n = added-length b a k x y (p .0) ∙ sym (p .0 .placed .faultless .size) in
+          rw (p .1) (map-only b k (sheetByAdd b a k x y) (past-sheetWith (b .n) (mapByAdd b a k x y) (sheetOf b k) long) refl refl)
       | inr p ↦ rw (p .1) (map-untouched k b)
     ]
 
