@@ -17,6 +17,10 @@ pub record Canonical (n : ℕ) (f : ℕ → ℕ) : Type 0 where
 abbrev pub Within : ℕ → (ℕ → ℕ) → (ℕ → ℕ) → Type 0
 Within n f g = (x y : ℕ) → x < n → y < n → f x ≡ f y → g x ≡ g y
 
+-- from n on f′ is as f
+abbrev pub KeptPast : ℕ → (ℕ → ℕ) → (ℕ → ℕ) → Type 0
+KeptPast n f f′ = (x : ℕ) → n ≤ x → f′ x ≡ f x
+
 -- v, or `new` where v is `old`
 unfoldable pub relabel : ℕ → ℕ → ℕ → ℕ
 relabel old new v = elim (eqb v old) [ true ↦ new | false ↦ v ]
@@ -28,7 +32,7 @@ seenOr seen x = elim (ltb seen 64) [ true ↦ seen | false ↦ x ]
 -- the first n values are F's, and the rest are as they were
 pub record Filled (n : ℕ) (F : ℕ → ℕ) (f f′ : ℕ → ℕ) : Type 0 where
   pub first : (x : ℕ) → x < n → f′ x ≡ F x
-  pub rest : (x : ℕ) → n ≤ x → f′ x ≡ f x
+  pub rest : KeptPast n f f′
 
 -- 1 where a test holds, 0 where it does not
 abbrev pub bit : Bool → ℕ
@@ -47,7 +51,7 @@ pub record Merged (n a b : ℕ) (f f′ : ℕ → ℕ) : Type 0 where
   pub holds : f′ a ≡ f′ b
   pub least : (g : ℕ → ℕ) → Within n f g → g a ≡ g b → Within n f′ g
   pub blocks : names n f′ + 1 ≡ names n f
-  pub rest : (x : ℕ) → n ≤ x → f′ x ≡ f x
+  pub rest : KeptPast n f f′
 
 -- f′ is the least equivalence that joins what f joins, and a and b
 pub record United (n a b : ℕ) (f f′ : ℕ → ℕ) : Type 0 where
@@ -55,7 +59,7 @@ pub record United (n a b : ℕ) (f f′ : ℕ → ℕ) : Type 0 where
   pub within : Within n f f′
   pub holds : f′ a ≡ f′ b
   pub least : (g : ℕ → ℕ) → Within n f g → g a ≡ g b → Within n f′ g
-  pub rest : (x : ℕ) → n ≤ x → f′ x ≡ f x
+  pub rest : KeptPast n f f′
 
 -- f′ is the least equivalence that joins what f joins, and each element below i with its name in g
 pub record Joined (n i : ℕ) (g f f′ : ℕ → ℕ) : Type 0 where
@@ -63,7 +67,7 @@ pub record Joined (n i : ℕ) (g f f′ : ℕ → ℕ) : Type 0 where
   pub within : Within n f f′
   pub holds : (x : ℕ) → x < i → f′ x ≡ f′ (g x)
   pub least : (h : ℕ → ℕ) → Within n f h → ((x : ℕ) → x < i → h x ≡ h (g x)) → Within n f′ h
-  pub rest : (x : ℕ) → n ≤ x → f′ x ≡ f x
+  pub rest : KeptPast n f f′
 
 -- c is one of the first `count` elements of a list
 abbrev pub Listed : List ℕ → ℕ → ℕ → Type 0

@@ -1,1 +1,2 @@
 pub mod InnerTranslations
+pub mod InnerLines
