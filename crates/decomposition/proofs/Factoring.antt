@@ -18,7 +18,7 @@ use Rattle.algebra.proofs.Accepted.{WellFormed, accepted-wellFormed}
 use Rattle.theory.specs.Decompose.{gathered, pruned, listed, mostFactorSpace}
 use Rattle.maplist.specs.InnerMapLists.{mapList, MapsListed}
 use Rattle.theory.proofs.CommonPair.{commonPair-one}
-use Rattle.theory.proofs.Factors.{Gathered, gathered-law, listed-law, split}
+use Rattle.theory.proofs.Factors.{Gathered, gathered-law, listed-law, split, mostFactorSpace-most}
 use Rattle.maplist.proofs.MapLists.{mapList-at, mapList-concat, concat-length}
 use Rattle.equivalence.specs.declared.Element.{Element}
 use Rattle.decomposition.specs.InnerGathering.{GatheredRight}
@@ -83,12 +83,15 @@ module _ (a : Algebra) (accepted : Accepted a) where
     factors-left = ap (pruned (a .size) []) mapList-all
 
   -- storage for any algebra is enough for this one
-  module _ {maps suffixes met needed : List ℕ} (s : Storage maps suffixes met needed) where
+  module _ {maps suffixes table met needed : List ℕ} (s : Storage maps suffixes table met needed) where
+    pub storage-table : 4096 ≤ length table
+    storage-table = omega (arith, s .pairs)
+
     pub storage-meet : a .size ≤ length met
     storage-meet = omega (arith, s .meets, c .most)
 
     pub storage-maps : mostFactorSpace (a .size) ≤ length maps
-    storage-maps = let most : a .size - 1 ≤ 63 = omega (arith, c .most) in omega (arith, s .gathered, c .most, mul-le-mul-right (a .size) most)
+    storage-maps = omega (arith, s .gathered, mostFactorSpace-most (a .size) (c .most))
 
     module _ {r : Collected} {k : ℕ} (e : r ≡ All k) (after : List ℕ) (g : GatheredRight a r maps after) where
       all-gathered : GatheredRight a (All k) maps after

@@ -1,7 +1,7 @@
 -- Decompose's first loop: what holds when k congruences are gathered (`Gathering`), the laws that start it, keep it and end it, and why it
 -- may stop as soon as Separate gives the identity: the algebra is irreducible, and the pair is the one that 11 carries.
 use Prim.Native.Nat.{ℕ, suc, _+_, _-_, _*_, _≤_, _<_}
-use mathlib.Core.Bool.{Bool, true, false}
+use mathlib.Core.Bool.{Bool, true, false, not}
 use mathlib.Core.List.{List, [], _∷_, _++_, map, List·Memᴰ as Member, List·Memᴰ·head as here, List·Memᴰ·not-nil as not-nil, List·Memᴰ·eq-of-singleton as eq-of-singleton, Memᴰ·append-left as append-left, Memᴰ·append-right as append-right, List·Memᴰ·append-cases as append-cases, append-assoc, append-nil}
 use mathlib.Core.Logic.{inl, inr, _≢_}
 use mathlib.Core.Path.{_≡_, refl, sym, ap, subst, _∙_}
@@ -9,8 +9,9 @@ use native.Mathlib.Nat.{suc-mul, mul-le-mul-right}
 use native.Mathlib.Numerals.{add-one}
 use native.Mathlib.Omega.{arith}
 use lib.Dec.{T}
-use lib.ListN.{length, length-append}
-use Rattle.equivalence.proofs.Laying.{laid-from}
+use lib.ListN.{length, length-append, length-drop}
+use borrow.Author.Tests.{not-true, not-false}
+use Rattle.equivalence.proofs.Laying.{laid-from, rest-whole}
 use Rattle.equivalence.specs.Equivalence.{Map, byte, blocks, identity, whole, isIdentity, meet}
 use Rattle.kernel.specs.InnerKernel.{Canonical}
 use Rattle.equivalence.specs.Lists.{concat}
@@ -23,7 +24,8 @@ use Rattle.equivalence.proofs.Pairs.{of-pairs, firstHeld-law, firstHeld-first}
 use Rattle.equivalence.proofs.Tests.{T-of, not-T-of}
 use Rattle.equivalence.proofs.Writing.{written-length}
 use Rattle.algebra.specs.Algebra.{Algebra}
-use Rattle.algebra.proofs.Accepted.{WellFormed}
+use Rattle.algebra.specs.Accepted.{Accepted}
+use Rattle.algebra.proofs.Accepted.{WellFormed, accepted-wellFormed}
 use Rattle.algebra.proofs.Congruences.{IsCongruence}
 use Rattle.theory.specs.Decompose.{added, gathered, listed, mostFactorSpace, reducible, commonPair}
 use Rattle.theory.specs.Splitting.{Splitting}
@@ -45,32 +47,40 @@ added-is : (a : Algebra) (d : Map) (p : Pair) → p ≡ firstHeld (a .size) d �
 unfolding added
 added-is a d p e = ap (λ (q : Pair). separated a (q .0) (q .1)) e
 
--- what Separate gave for the first pair is the congruence that is added, and a map
-pub added-written : (a : Algebra) → WellFormed a → (d : Map) → ¬ T (isIdentity (a .size) d) → (v w : ℕ) (lent : List ℕ) {after : List ℕ} → _≡_ {A = Pair} (v, w) (firstHeld (a .size) d)
-    → after ≡ written (separated a v w) lent → (after ≡ written (added a d) lent) × IsMap (a .size) (added a d)
-added-written a c d t v w lent e f =
-    (f ∙ ap (λ (m : Map). written m lent) (added-is a d (v, w) e), added-law a c d (λ g. t (isIdentity-of (a .size) d g)) .5 .cong .map)
-
 pub begins-added : (a : Algebra) {b d : Map} → Begins (a .size) b d → added a b ≡ added a d
 unfolding added
 begins-added a g = ap (λ (q : Pair). separated a (q .0) (q .1)) (begins-firstHeld g)
 
--- a step, from the test of what was written
-module _ (a : Algebra) (met lent : List ℕ) {after : List ℕ} {r : Bool} (w : (after ≡ written (added a met) lent) × IsMap (a .size) (added a met)) (e : r ≡ isIdentity (a .size) after) where
-  begun : Begins (a .size) after (added a met)
-  begun = begins-written (added a met) lent (w .0) (w .1)
+-- a step: what Separate gave for the first pair is the congruence that is added
+module _ (a : Algebra) (accepted : Accepted a) (met : List ℕ) (more : isIdentity (a .size) met ≡ false) {v w : ℕ} (pair : _≡_ {A = Pair} (v, w) (firstHeld (a .size) met)) where
+  pub step-pair : (v < w) × (w < a .size)
+  step-pair = subst (λ (p : Pair). (p .0 < p .1) × (p .1 < a .size)) (sym pair) (first-below (a .size) met (not-T-of more))
 
-  pub step-stop : r ≡ true → AddStep a met lent true met after
-  step-stop t = record { identity = sym t ∙ e ∙ begins-isIdentity begun; new = w .0; stays = λ z. refl; meets = λ z. absurd (not-T-of z tt) }
+  module _ (lent : List ℕ) {after : List ℕ} (got : after ≡ written (separated a v w) lent) where
+    new : after ≡ written (added a met) lent
+    new = got ∙ ap (λ (m : Map). written m lent) (added-is a met (v, w) pair)
 
-  pub step-more : {met′ : List ℕ} → r ≡ false → met′ ≡ written (meet (a .size) met after) met → AddStep a met lent false met′ after
-  step-more t f =
-      record {
-        identity = sym t ∙ e ∙ begins-isIdentity begun;
-        new = w .0;
-        stays = λ z. absurd (T-of z);
-        meets = λ z. f ∙ ap (λ (m : Map). written m met) (begins-meet (begins-refl refl) begun);
-      }
+    is-map : IsMap (a .size) (added a met)
+    is-map = added-law a (accepted-wellFormed a accepted) met (λ g. not-T-of more (isIdentity-of (a .size) met g)) .5 .cong .map
+
+    begun : Begins (a .size) after (added a met)
+    begun = begins-written (added a met) lent new is-map
+
+    pub step-canonical : Canonical (a .size) (byte after)
+    step-canonical = begins-canonical begun is-map
+
+    module _ {r : Bool} (e : r ≡ isIdentity (a .size) after) where
+      pub step-stop : r ≡ true → AddStep a met lent true met after
+      step-stop t = record { identity = sym t ∙ e ∙ begins-isIdentity begun; new = new; stays = λ z. refl; meets = λ z. absurd (not-T-of z tt) }
+
+      pub step-more : {met′ : List ℕ} → r ≡ false → met′ ≡ written (meet (a .size) met after) met → AddStep a met lent false met′ after
+      step-more t f =
+          record {
+            identity = sym t ∙ e ∙ begins-isIdentity begun;
+            new = new;
+            stays = λ z. absurd (T-of z);
+            meets = λ z. f ∙ ap (λ (m : Map). written m met) (begins-meet (begins-refl refl) begun);
+          }
 
 pub record Gathering (a : Algebra) (lent : List ℕ) (k : ℕ) (d bytes : List ℕ) : Type 0 where
   pub found : List Map
@@ -192,64 +202,106 @@ module _ {a : Algebra} (c : WellFormed a) {lent : List ℕ} {k : ℕ} {d bytes :
 -- ---- the loop, over slices
 
 pub record Collecting (a : Algebra) (lent : List ℕ) (k at : ℕ) (met bytes : List ℕ) : Type 0 where
+  pub wellFormed : WellFormed a
+  pub two : 2 ≤ a .size
+  pub room : mostFactorSpace (a .size) ≤ length lent
+  pub enough : a .size ≤ length met
   pub meet : Map
   pub begins : Begins (a .size) met meet
   pub place : at ≡ k * a .size
   pub gathering : Gathering a lent k meet bytes
 
-pub collecting-start : {a : Algebra} → WellFormed a → (lent met : List ℕ) {met′ : List ℕ} → met′ ≡ written (whole (a .size)) met → Collecting a lent 0 0 met′ lent
-collecting-start {a} c lent met e =
-    record { meet = whole (a .size); begins = begins-written (whole (a .size)) met e (whole-map (a .size)); place = omega arith; gathering = gathering-start a c lent }
+pub collecting-start : {a : Algebra} → Accepted a → 2 ≤ a .size → (lent met : List ℕ) {met′ : List ℕ} → mostFactorSpace (a .size) ≤ length lent → a .size ≤ length met
+    → met′ ≡ written (whole (a .size)) met → Collecting a lent 0 0 met′ lent
+collecting-start {a} accepted two lent met room enough e =
+    record {
+      wellFormed = accepted-wellFormed a accepted;
+      two = two;
+      room = room;
+      enough = rw (e, written-length (whole (a .size)) met (omega (arith, whole-map (a .size) .long))) enough;
+      meet = whole (a .size);
+      begins = begins-written (whole (a .size)) met e (whole-map (a .size));
+      place = omega arith;
+      gathering = gathering-start a (accepted-wellFormed a accepted) lent;
+    }
 
-module _ {a : Algebra} (c : WellFormed a) {lent : List ℕ} {k at : ℕ} {met bytes : List ℕ} (room : mostFactorSpace (a .size) ≤ length lent) (s : Collecting a lent k at met bytes) where
+module _ {a : Algebra} {lent : List ℕ} {k at : ℕ} {met bytes : List ℕ} (s : Collecting a lent k at met bytes) where
   pub collecting-canonical : Canonical (a .size) (byte met)
   collecting-canonical = begins-canonical (s .begins) (s .gathering .map)
 
-  pub collecting-few : k < a .size
-  collecting-few = gathering-few c (s .gathering)
+  pub collecting-few : (k < a .size) × (a .size ≤ 64)
+  collecting-few = (gathering-few (s .wellFormed) (s .gathering), s .wellFormed .most)
 
   pub collecting-long : length bytes ≡ length lent
   collecting-long =
-      gathering-long c (s .gathering) (omega (arith, room, mul-le-mul-right (a .size) (let h : k ≤ a .size - 1 = omega (arith, gathering-few c (s .gathering)) in h)))
-
-  discrete : ¬ T (isIdentity (a .size) met) → ¬ Discrete (a .size) (s .meet)
-  discrete t f = t (rw (begins-isIdentity (s .begins)) (isIdentity-of (a .size) (s .meet) f))
-
-  pub collecting-fits : ¬ T (isIdentity (a .size) met) → at + a .size ≤ length bytes
-  collecting-fits t =
-      let r : k + 1 ≤ a .size - 1 = gathering-room c (s .gathering) (discrete t) in
-      omega (arith, s .place, room, collecting-long, mul-le-mul-right (a .size) r, suc-mul k (a .size), ap (λ (z : ℕ). z * a .size) (add-one k))
-
-  -- one step that does not stop
-  pub collecting-more : {stop : Bool} {met′ after : List ℕ} → ¬ T (isIdentity (a .size) met) → AddStep a met (onwards at bytes) stop met′ after → stop ≡ false
-      → Collecting a lent (k + 1) (at + a .size) met′ (putMid at (length bytes - at) bytes after)
-  collecting-more {stop} {met′} {after} t p e =
-      let whole-bytes : putMid at (length bytes - at) bytes after ≡ laid bytes at (added a met) =
-      ap (putMid at (length bytes - at) bytes) (p .new) ∙ laid-from at bytes (added a met) (omega (arith, collecting-fits t)) in
-      let new : added a met ≡ added a (s .meet) = begins-added a (s .begins) in
-      let r : k + 1 ≤ a .size - 1 = gathering-room c (s .gathering) (discrete t) in
-      let i : ¬ T (isIdentity (a .size) (added a met)) = not-T-of (sym (p .identity) ∙ e) in
-      record {
-        meet = meet (a .size) (s .meet) (added a (s .meet));
-        begins = begins-is (begins-written (meet (a .size) met (added a met)) met (p .meets e) (meet-map (a .size) met (added a met))) (begins-meet (s .begins) (begins-refl new));
-        place = omega (arith, s .place, suc-mul k (a .size), ap (λ (z : ℕ). z * a .size) (add-one k));
-        gathering = subst (λ (l : List ℕ). Gathering a lent (k + 1) (meet (a .size) (s .meet) (added a (s .meet))) l)
-            (sym (whole-bytes ∙ ap (λ (z : ℕ). laid bytes z (added a met)) (s .place) ∙ ap (laid bytes (k * a .size)) new))
-            (gathering-more c (s .gathering) (discrete t) (λ z. i (rw new (isIdentity-of (a .size) (added a (s .meet)) z)))
-            (omega (arith, room, mul-le-mul-right (a .size) r, suc-mul k (a .size), ap (λ (z : ℕ). z * a .size) (add-one k))));
-      }
+      gathering-long (s .wellFormed) (s .gathering) (omega (arith, s .room, mul-le-mul-right (a .size) (let h : k ≤ a .size - 1 = omega (arith, collecting-few) in h)))
 
   -- the meet is the identity
-  pub collecting-all : 2 ≤ a .size → T (isIdentity (a .size) met) → GatheredRight a (All k) lent bytes
-  collecting-all two t =
-      let f : Discrete (a .size) (s .meet) = of-isIdentity (a .size) (s .meet) (rw (begins-isIdentity (s .begins)) at t) in
-      let e = gathering-all c (s .gathering) f in
-      (gathering-reducible c (s .gathering) two f, sym (s .gathering .number) ∙ ap length e, s .gathering .laid ∙ ap (λ (l : List Map). written (concat l) lent) e)
+  pub collecting-all : {b : Bool} → b ≡ isIdentity (a .size) met → not b ≡ false → GatheredRight a (All k) lent bytes
+  collecting-all {b} same t =
+      let f : Discrete (a .size) (s .meet) = of-isIdentity (a .size) (s .meet) (rw (begins-isIdentity (s .begins)) at (T-of (sym same ∙ not-false b t))) in
+      let e = gathering-all (s .wellFormed) (s .gathering) f in
+      (gathering-reducible (s .wellFormed) (s .gathering) (s .two) f, sym (s .gathering .number) ∙ ap length e, s .gathering .laid ∙ ap (λ (l : List Map). written (concat l) lent) e)
 
-  -- one step that stops
-  pub collecting-stop : {stop : Bool} {met′ after : List ℕ} {r : Collected} (bytes′ : List ℕ) → 2 ≤ a .size → ¬ T (isIdentity (a .size) met) → AddStep a met (onwards at bytes) stop met′ after → stop ≡ true
-      → r ≡ pairFound (firstHeld (a .size) met′) → GatheredRight a r lent bytes′
-  collecting-stop bytes′ two t p e f =
-      let is : Discrete (a .size) (added a (s .meet)) = of-isIdentity (a .size) (added a (s .meet)) (rw (begins-added a (s .begins)) at (T-of (sym (p .identity) ∙ e))) in
-      rw (f, p .stays e)
-      (stop-irreducible c (s .gathering) two (discrete t) is, stop-pair c (s .gathering) two (discrete t) is ∙ sym (begins-firstHeld (s .begins)))
+  -- it is not yet
+  module _ {b : Bool} (same : b ≡ isIdentity (a .size) met) (t : not b ≡ true) where
+    pub collecting-going : isIdentity (a .size) met ≡ false
+    collecting-going = sym same ∙ not-true b t
+
+    discrete : ¬ Discrete (a .size) (s .meet)
+    discrete f = not-T-of collecting-going (rw (begins-isIdentity (s .begins)) (isIdentity-of (a .size) (s .meet) f))
+
+    -- there is room for one more
+    short : k + 1 ≤ a .size - 1
+    short = gathering-room (s .wellFormed) (s .gathering) discrete
+
+    pub collecting-fits : at + a .size ≤ length bytes
+    collecting-fits =
+        omega (arith, s .place, s .room, collecting-long, mul-le-mul-right (a .size) short, suc-mul k (a .size), ap (λ (z : ℕ). z * a .size) (add-one k))
+
+    pub collecting-small : at + a .size ≤ 4032
+    collecting-small =
+        let h : k + 1 ≤ 63 = omega (arith, short, s .wellFormed .most) in
+        omega (arith, s .place, mul-le-mul-right (a .size) h, suc-mul k (a .size), ap (λ (z : ℕ). z * a .size) (add-one k), s .wellFormed .most)
+
+    pub collecting-part : a .size ≤ length (onwards at bytes)
+    collecting-part = rw (rest-whole at bytes, length-drop at bytes) (omega (arith, collecting-fits))
+
+    module _ {stop : Bool} {met′ after : List ℕ} (p : AddStep a met (onwards at bytes) stop met′ after) where
+      -- one step that does not stop
+      pub collecting-more : stop ≡ false → Collecting a lent (k + 1) (at + a .size) met′ (putMid at (length bytes - at) bytes after)
+      collecting-more e =
+          let whole-bytes : putMid at (length bytes - at) bytes after ≡ laid bytes at (added a met) =
+          ap (putMid at (length bytes - at) bytes) (p .new) ∙ laid-from at bytes (added a met) (omega (arith, collecting-fits)) in
+          let new : added a met ≡ added a (s .meet) = begins-added a (s .begins) in
+          let i : ¬ T (isIdentity (a .size) (added a met)) = not-T-of (sym (p .identity) ∙ e) in
+          record {
+            wellFormed = s .wellFormed;
+            two = s .two;
+            room = s .room;
+            enough = rw (p .meets e, written-length (meet (a .size) met (added a met)) met (omega (arith, meet-map (a .size) met (added a met) .long, s .enough))) (s .enough);
+            meet = meet (a .size) (s .meet) (added a (s .meet));
+            begins = begins-is (begins-written (meet (a .size) met (added a met)) met (p .meets e) (meet-map (a .size) met (added a met))) (begins-meet (s .begins) (begins-refl new));
+            place = omega (arith, s .place, suc-mul k (a .size), ap (λ (z : ℕ). z * a .size) (add-one k));
+            gathering = subst (λ (l : List ℕ). Gathering a lent (k + 1) (meet (a .size) (s .meet) (added a (s .meet))) l)
+                (sym (whole-bytes ∙ ap (λ (z : ℕ). laid bytes z (added a met)) (s .place) ∙ ap (laid bytes (k * a .size)) new))
+                (gathering-more (s .wellFormed) (s .gathering) discrete (λ z. i (rw new (isIdentity-of (a .size) (added a (s .meet)) z)))
+                (omega (arith, s .room, mul-le-mul-right (a .size) short, suc-mul k (a .size), ap (λ (z : ℕ). z * a .size) (add-one k))));
+          }
+
+      -- one step that stops: the meet is as it was, and not the identity
+      module _ (e : stop ≡ true) where
+        pub stopped-enough : a .size ≤ length met′
+        stopped-enough = rw (p .stays e) (s .enough)
+
+        pub stopped-canonical : Canonical (a .size) (byte met′)
+        stopped-canonical = rw (p .stays e) collecting-canonical
+
+        pub stopped-going : isIdentity (a .size) met′ ≡ false
+        stopped-going = rw (p .stays e) collecting-going
+
+        pub collecting-stop : {r : Collected} (bytes′ : List ℕ) → r ≡ pairFound (firstHeld (a .size) met′) → GatheredRight a r lent bytes′
+        collecting-stop bytes′ f =
+            let is : Discrete (a .size) (added a (s .meet)) = of-isIdentity (a .size) (added a (s .meet)) (rw (begins-added a (s .begins)) at (T-of (sym (p .identity) ∙ e))) in
+            rw (f, p .stays e)
+            (stop-irreducible (s .wellFormed) (s .gathering) (s .two) discrete is, stop-pair (s .wellFormed) (s .gathering) (s .two) discrete is ∙ sym (begins-firstHeld (s .begins)))

@@ -14,10 +14,11 @@ use Rattle.theory.specs.Decompose.{listed, reducible, commonPair}
 use Rattle.decomposition.specs.declared.Found.{Found}
 use Rattle.decomposition.specs.declared.Found.the-variants.{Factors, Short, Irreducible}
 
--- working storage for any algebra: 63 maps, the meets of 64 suffixes, a meet, and a number for each map
-pub record Storage (maps suffixes met needed : List ℕ) : Type 0 where
+-- working storage for any algebra: 63 maps, the meets of 64 suffixes, the table for meets, a meet, and a number for each map
+pub record Storage (maps suffixes table met needed : List ℕ) : Type 0 where
   pub gathered : length maps ≡ 4032
   pub ends : length suffixes ≡ 4096
+  pub pairs : length table ≡ 4096
   pub meets : length met ≡ 64
   pub numbers : length needed ≡ 64
 

@@ -11,10 +11,10 @@ ghost use Rattle.theory.specs.Decompose.{mostFactorSpace};
 ghost use Rattle.equivalence.specs.Order.{firstHeld};
 ghost use Rattle.decomposition.specs.InnerGathering.{AddStep, pairFound, GatheredRight};
 use equivalence::Element;
+use equivalence::lattice::meet_with;
 use equivalence::map::is_identity;
 use equivalence::order::first_held;
 use extremal::separated_into;
-use maplist::meet_with;
 use maplist::whole_into;
 
 // What gathering found: so many congruences, none of them the identity, that meet in it; or a pair that all but the identity join.
@@ -24,8 +24,16 @@ pub enum Collected {
 }
 
 // One congruence more: the one that Separate gives for the first pair of `met` goes to `map`, and is met unless it is the identity. Whether it is.
-fn gather_next(n: usize, arities: &[u8], cells: &[u8], met: &mut [u8], map: &mut [u8]) -> bool
+fn gather_next(
+    n: usize,
+    arities: &[u8],
+    cells: &[u8],
+    table: &mut [u8],
+    met: &mut [u8],
+    map: &mut [u8],
+) -> bool
     requires { ⌜ Accepted (algebraIn n arities cells) ⌝ }
+    requires { ⌜ 4096 ≤ length (now table) ⌝ }
     requires { ⌜ n ≤ length (now met) ⌝ }
     requires { ⌜ Canonical n (byte (now met)) ⌝ }
     requires { ⌜ isIdentity n (now met) ≡ false ⌝ }
@@ -37,7 +45,7 @@ fn gather_next(n: usize, arities: &[u8], cells: &[u8], met: &mut [u8], map: &mut
     if is_identity(n, map) {
         return true;
     }
-    meet_with(n, map, met);
+    meet_with(n, map, table, met);
     false
 }
 
@@ -54,10 +62,19 @@ fn common(n: usize, met: &[u8]) -> Collected
     Collected::Joined(Element(pair.x as u8), Element(pair.y as u8))
 }
 
-// Gathers until the meet is the identity, in stretches of `maps`, or until Separate gives the identity. `met` is working storage.
-pub fn gather(n: usize, arities: &[u8], cells: &[u8], met: &mut [u8], maps: &mut [u8]) -> Collected
+// Gathers until the meet is the identity, in stretches of `maps`, or until Separate gives the identity. `table` and `met` are working
+// storage.
+pub fn gather(
+    n: usize,
+    arities: &[u8],
+    cells: &[u8],
+    table: &mut [u8],
+    met: &mut [u8],
+    maps: &mut [u8],
+) -> Collected
     requires { ⌜ Accepted (algebraIn n arities cells) ⌝ }
     requires { ⌜ 2 ≤ n ⌝ }
+    requires { ⌜ 4096 ≤ length (now table) ⌝ }
     requires { ⌜ n ≤ length (now met) ⌝ }
     requires { ⌜ mostFactorSpace n ≤ length (now maps) ⌝ }
     ensures { λ r. ⌜ GatheredRight (algebraIn n (arities .entry) (cells .entry)) r (now (maps .entry)) (now (maps .exit)) ⌝ }
@@ -66,7 +83,7 @@ pub fn gather(n: usize, arities: &[u8], cells: &[u8], met: &mut [u8], maps: &mut
     let mut count = 0;
     let mut at = 0;
     while !is_identity(n, met) {
-        if gather_next(n, arities, cells, met, &mut maps[at..]) {
+        if gather_next(n, arities, cells, table, met, &mut maps[at..]) {
             return common(n, met);
         }
         count += 1;

@@ -1,5 +1,5 @@
 // Decompose of an accepted algebra: congruences are gathered, those not needed are dropped, and what is left is written where it has room. Working
-// storage: 63 maps, the meets of 64 suffixes, one meet, and the numbers of the maps that are needed.
+// storage: 63 maps, the meets of 64 suffixes, the table for meets, one meet, and the numbers of the maps that are needed.
 ghost use mathlib.Core.List.{[]};
 ghost use mathlib.Core.Path.{_≡_};
 ghost use Prim.Native.Nat.{_+_, _*_, _≤_};
@@ -14,8 +14,9 @@ use crate::gather::gather;
 use crate::prune::mark_needed;
 use crate::write::write_if_room;
 use equivalence::Element;
+use equivalence::lattice::NAME_PAIRS;
 
-mod gather;
+pub mod gather;
 mod prune;
 mod write;
 
@@ -27,24 +28,26 @@ pub enum Found {
     Irreducible(Element, Element),
 }
 
-// Of the first `count` maps those that are needed: their numbers go to `needed`, and they are written where the list has room for them. `suffixes` and
-// `met` are working storage.
+// Of the first `count` maps those that are needed: their numbers go to `needed`, and they are written where the list has room for them. `suffixes`,
+// `table` and `met` are working storage.
 fn list_needed(
     n: usize,
     count: usize,
     maps: &[u8],
     suffixes: &mut [u8],
+    table: &mut [u8],
     met: &mut [u8],
     needed: &mut [u8],
     out: &mut [u8],
 ) -> Found
     requires { ⌜ MapsListed n count (now maps) ⌝ }
     requires { ⌜ count * n + n ≤ length (now suffixes) ⌝ }
+    requires { ⌜ 4096 ≤ length (now table) ⌝ }
     requires { ⌜ n ≤ length (now met) ⌝ }
     requires { ⌜ count ≤ length (now needed) ⌝ }
     ensures { λ r. ⌜ (r, now (out .exit)) ≡ listedIn n (pruned n [] (mapList n count (now (maps .entry)))) (now (out .entry)) ⌝ }
 {
-    let kept = mark_needed(n, count, maps, suffixes, met, needed);
+    let kept = mark_needed(n, count, maps, suffixes, table, met, needed);
     write_if_room(n, maps, kept, needed, out)
 }
 
@@ -54,6 +57,7 @@ fn factors_in(
     arities: &[u8],
     cells: &[u8],
     suffixes: &mut [u8],
+    table: &mut [u8],
     met: &mut [u8],
     maps: &mut [u8],
     needed: &mut [u8],
@@ -61,13 +65,13 @@ fn factors_in(
 ) -> Found
     requires { ⌜ Accepted (algebraIn n arities cells) ⌝ }
     requires { ⌜ 2 ≤ n ⌝ }
-    requires { ⌜ Storage (now maps) (now suffixes) (now met) (now needed) ⌝ }
+    requires { ⌜ Storage (now maps) (now suffixes) (now table) (now met) (now needed) ⌝ }
     ensures { λ r. ⌜ (r, now (out .exit)) ≡ foundIn (algebraIn n (arities .entry) (cells .entry)) (now (out .entry)) ⌝ }
 {
-    let gathered = gather(n, arities, cells, met, maps);
+    let gathered = gather(n, arities, cells, table, met, maps);
     match gathered {
         Collected::Joined(x, y) => Found::Irreducible(x, y),
-        Collected::All(count) => list_needed(n, count, maps, suffixes, met, needed, out),
+        Collected::All(count) => list_needed(n, count, maps, suffixes, table, met, needed, out),
     }
 }
 
@@ -77,6 +81,7 @@ fn factors_on(
     arities: &[u8],
     cells: &[u8],
     suffixes: &mut [u8; 4096],
+    table: &mut [u8; NAME_PAIRS],
     met: &mut [u8; 64],
     maps: &mut [u8; 4032],
     needed: &mut [u8; 64],
@@ -86,7 +91,7 @@ fn factors_on(
     requires { ⌜ 2 ≤ n ⌝ }
     ensures { λ r. ⌜ (r, now (out .exit)) ≡ foundIn (algebraIn n (arities .entry) (cells .entry)) (now (out .entry)) ⌝ }
 {
-    factors_in(n, arities, cells, suffixes, met, maps, needed, out)
+    factors_in(n, arities, cells, suffixes, table, met, maps, needed, out)
 }
 
 // The factors go to the start of out, one map after the other, and their count is the answer, where so many bytes are lent. An irreducible algebra is
@@ -100,6 +105,7 @@ pub fn factors(n: usize, arities: &[u8], cells: &[u8], out: &mut [u8]) -> Found
     }
     let mut maps = [0u8; 4032];
     let mut suffixes = [0u8; 4096];
+    let mut table = [0u8; NAME_PAIRS];
     let mut met = [0u8; 64];
     let mut needed = [0u8; 64];
     factors_on(
@@ -107,6 +113,7 @@ pub fn factors(n: usize, arities: &[u8], cells: &[u8], out: &mut [u8]) -> Found
         arities,
         cells,
         &mut suffixes,
+        &mut table,
         &mut met,
         &mut maps,
         &mut needed,

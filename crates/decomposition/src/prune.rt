@@ -7,27 +7,28 @@ ghost use Rattle.equivalence.specs.Equivalence.{byte};
 ghost use Rattle.kernel.specs.InnerKernel.{Canonical};
 ghost use Rattle.maplist.specs.InnerMapLists.{mapList, MapsListed, SuffixMeets};
 ghost use Rattle.decomposition.specs.InnerPruning.{inTurn, NeededMaps};
-use maplist::meet_with;
+use equivalence::lattice::meet_with;
 use maplist::meets_in_identity;
 use maplist::suffix_meets;
 use maplist::whole_into;
 
 // A map in its turn. `met` is the meet of those needed so far and `after` that of those behind the map: where these two meet in the identity it
-// is dropped, else it is met. How many more are needed: one or none.
-fn meet_if_needed(n: usize, map: &[u8], after: &[u8], met: &mut [u8]) -> usize
+// is dropped, else it is met. How many more are needed: one or none. `table` is working storage.
+fn meet_if_needed(n: usize, map: &[u8], after: &[u8], table: &mut [u8], met: &mut [u8]) -> usize
     requires { ⌜ n ≤ 64 ⌝ }
     requires { ⌜ n ≤ length (now map) ⌝ }
     requires { ⌜ n ≤ length (now after) ⌝ }
+    requires { ⌜ 4096 ≤ length (now table) ⌝ }
     requires { ⌜ n ≤ length (now met) ⌝ }
     requires { ⌜ Canonical n (byte (now map)) ⌝ }
     requires { ⌜ Canonical n (byte (now after)) ⌝ }
     requires { ⌜ Canonical n (byte (now met)) ⌝ }
     ensures { λ r. ⌜ (r, now (met .exit)) ≡ inTurn n (now (map .entry)) (now (after .entry)) (now (met .entry)) ⌝ }
 {
-    if meets_in_identity(n, met, after) {
+    if meets_in_identity(n, met, after, table) {
         return 0;
     }
-    meet_with(n, map, met);
+    meet_with(n, map, table, met);
     1
 }
 
@@ -37,12 +38,14 @@ fn mark_in_turn(
     count: usize,
     maps: &[u8],
     suffixes: &[u8],
+    table: &mut [u8],
     met: &mut [u8],
     needed: &mut [u8],
 ) -> usize
     requires { ⌜ MapsListed n count (now maps) ⌝ }
     requires { ⌜ SuffixMeets n (mapList n count (now maps)) (now suffixes) ⌝ }
     requires { ⌜ count * n + n ≤ length (now suffixes) ⌝ }
+    requires { ⌜ 4096 ≤ length (now table) ⌝ }
     requires { ⌜ n ≤ length (now met) ⌝ }
     requires { ⌜ count ≤ length (now needed) ⌝ }
     ensures { λ r. ⌜ NeededMaps n count (now (maps .entry)) r (now (needed .exit)) ⌝ }
@@ -55,29 +58,31 @@ fn mark_in_turn(
         let next = at + n;
         // Where the map is dropped, the next one takes this place.
         needed[kept] = i as u8;
-        kept += meet_if_needed(n, &maps[at..], &suffixes[next..], met);
+        kept += meet_if_needed(n, &maps[at..], &suffixes[next..], table, met);
         at = next;
         i += 1;
     }
     kept
 }
 
-// Marks those of the list that are not dropped: their numbers stand first in `needed`. How many they are. `suffixes` and `met` are working
-// storage.
+// Marks those of the list that are not dropped: their numbers stand first in `needed`. How many they are. `suffixes`, `table` and `met` are
+// working storage.
 pub fn mark_needed(
     n: usize,
     count: usize,
     maps: &[u8],
     suffixes: &mut [u8],
+    table: &mut [u8],
     met: &mut [u8],
     needed: &mut [u8],
 ) -> usize
     requires { ⌜ MapsListed n count (now maps) ⌝ }
     requires { ⌜ count * n + n ≤ length (now suffixes) ⌝ }
+    requires { ⌜ 4096 ≤ length (now table) ⌝ }
     requires { ⌜ n ≤ length (now met) ⌝ }
     requires { ⌜ count ≤ length (now needed) ⌝ }
     ensures { λ r. ⌜ NeededMaps n count (now (maps .entry)) r (now (needed .exit)) ⌝ }
 {
-    suffix_meets(n, count, maps, met, suffixes);
-    mark_in_turn(n, count, maps, suffixes, met, needed)
+    suffix_meets(n, count, maps, table, met, suffixes);
+    mark_in_turn(n, count, maps, suffixes, table, met, needed)
 }

@@ -7,7 +7,7 @@ use mathlib.Core.Path.{_≡_, refl, sym, subst, _∙_}
 use lib.Dec.{T}
 use Rattle.equivalence.specs.Equivalence.{Map, byte, holds, identity, same, meet, meetAll}
 use Rattle.equivalence.proofs.Maps.{Holds, holds-of, of-holds, IsMap, Inside, IsEquivalence, mapOf-holds}
-use Rattle.equivalence.proofs.Maps.{of-mapOf, mapOf-map, mapOf-byte, identity-discrete, discrete-identity, whole-map, whole-holds}
+use Rattle.equivalence.proofs.Maps.{of-mapOf, mapOf-map, mapOf-byte, map-ext, identity-discrete, discrete-identity, whole-map, whole-holds}
 use Rattle.equivalence.proofs.Tests.{both, left, right}
 
 module _ (n : ℕ) (a b : Map) where
@@ -51,6 +51,13 @@ module _ (n : ℕ) (a b : Map) where
 
   pub meet-greatest : (c : Map) → Inside n c a → Inside n c b → Inside n c (meet n a b)
   meet-greatest c h k x y l j e = meet-holds x y l j (h x y l j e) (k x y l j e)
+
+-- slices that begin with the same n bytes have the same meets
+pub meet-alike : (n : ℕ) (a a′ b b′ : Map) → ((x : ℕ) → x < n → byte a x ≡ byte a′ x) → ((x : ℕ) → x < n → byte b x ≡ byte b′ x) → meet n a b ≡ meet n a′ b′
+meet-alike n a a′ b b′ g h =
+    map-ext n (meet n a b) (meet n a′ b′) (meet-map n a b) (meet-map n a′ b′)
+    (λ x y l k e. let r = of-meet n a b x y l k e in meet-holds n a′ b′ x y l k (sym (g x l) ∙ r .0 ∙ g y k) (sym (h x l) ∙ r .1 ∙ h y k))
+    (λ x y l k e. let r = of-meet n a′ b′ x y l k e in meet-holds n a b x y l k (g x l ∙ r .0 ∙ sym (g y k)) (h x l ∙ r .1 ∙ sym (h y k)))
 
 pub meetAll-map : (n : ℕ) (ms : List Map) → IsMap n (meetAll n ms)
 unfolding meetAll

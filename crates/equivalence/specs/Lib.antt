@@ -2,6 +2,7 @@ pub mod Lists
 pub mod Equivalence
 pub mod Order
 pub mod Lent
+pub mod InnerMeeting
 pub mod Refusal
 pub mod Ranks
 pub mod Outcome

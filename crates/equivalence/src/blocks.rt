@@ -13,7 +13,7 @@ fn relabelled(v: u8, old: u8, new: u8) -> u8
 }
 
 // Every byte `old` of the first n becomes `new`.
-fn relabel_all(n: usize, old: u8, new: u8, m: &mut [u8])
+pub fn relabel_all(n: usize, old: u8, new: u8, m: &mut [u8])
     requires { do ⌜ n ≤ (← ⟦m.len()⟧) ⌝ }
     ensures { λ _. ⌜ Filled n (λ x. relabel old new (byte (now (m .entry)) x)) (byte (now (m .entry))) (byte (now (m .exit))) ⌝ }
 {

@@ -1,3 +1,4 @@
 pub mod MapLists
+pub mod Collisions
 pub mod ListTests
 pub mod Suffixes

@@ -17,7 +17,7 @@ use Rattle.equivalence.specs.Lent.{stretch, written, laid}
 use Rattle.equivalence.specs.Order.{Pair, pairs, firstHeld}
 use Rattle.equivalence.proofs.Lists.{first-yes, first-no, upTo-length, table-at}
 use Rattle.equivalence.proofs.Maps.{IsMap, of-isMap, map-ext, whole-map, whole-holds, isIdentity-of, of-isIdentity}
-use Rattle.equivalence.proofs.Meets.{meet-map, meet-holds, of-meet, meetAll-map, meetAll-holds, of-meetAll}
+use Rattle.equivalence.proofs.Meets.{meet-map, meet-holds, of-meet, meet-alike, meetAll-map, meetAll-holds, of-meetAll}
 use Rattle.equivalence.proofs.Pairs.{of-pairs}
 use Rattle.equivalence.proofs.Stretches.{concat-append, stretch-concat}
 use Rattle.equivalence.proofs.Tests.{T?, true-is, false-is}
@@ -68,10 +68,7 @@ module _ {n : ℕ} where
       }
 
   pub begins-meet : {a a′ b b′ : List ℕ} → Begins n a a′ → Begins n b b′ → meet n a b ≡ meet n a′ b′
-  begins-meet {a} {a′} {b} {b′} g h =
-      map-ext n (meet n a b) (meet n a′ b′) (meet-map n a b) (meet-map n a′ b′)
-      (λ x y l k e. let r = of-meet n a b x y l k e in meet-holds n a′ b′ x y l k (sym (g .same x l) ∙ r .0 ∙ g .same y k) (sym (h .same x l) ∙ r .1 ∙ h .same y k))
-      (λ x y l k e. let r = of-meet n a′ b′ x y l k e in meet-holds n a b x y l k (g .same x l ∙ r .0 ∙ sym (g .same y k)) (h .same x l ∙ r .1 ∙ sym (h .same y k)))
+  begins-meet {a} {a′} {b} {b′} g h = meet-alike n a a′ b b′ (g .same) (h .same)
 
   pub begins-isIdentity : {a b : List ℕ} → Begins n a b → isIdentity n a ≡ isIdentity n b
   begins-isIdentity {a} {b} g =
@@ -173,6 +170,22 @@ pub copied-laid : {n : ℕ} {from m : List ℕ} (at : ℕ) (lent after : List �
 copied-laid {n} {from} {m} at lent after g p fits long f =
     let room : n ≤ length (midOf at (length lent - at) lent) = rw (rest-whole at lent, length-drop at lent) (omega arith) in
     ap (putMid at (length lent - at) lent) (copied-written (midOf at (length lent - at) lent) after g p room long f) ∙ laid-from at lent m (omega arith)
+
+-- a map met with the one at `at` of a list
+pub met-onwards : (n at : ℕ) (maps met : List ℕ) {met′ : List ℕ} → met′ ≡ written (meet n met (onwards at maps)) met → met′ ≡ written (meet n met (drop at maps)) met
+met-onwards n at maps met e = e ∙ ap (λ (b : List ℕ). written (meet n met b) met) (rest-whole at maps)
+
+-- and then copied to that place of another
+pub met-laid : {n : ℕ} (at : ℕ) (maps met suffixes : List ℕ) {met′ : List ℕ} (after : List ℕ) → at + n ≤ length suffixes
+    → met′ ≡ written (meet n met (onwards at maps)) met → length after ≡ length (midOf at (length suffixes - at) suffixes)
+    → Filled n (byte met′) (byte (midOf at (length suffixes - at) suffixes)) (byte after)
+    → putMid at (length suffixes - at) suffixes after ≡ laid suffixes at (meet n met (drop at maps))
+met-laid {n} at maps met suffixes after fits e long f =
+    let m : IsMap n (meet n met (drop at maps)) = meet-map n met (drop at maps) in
+    copied-laid at suffixes after (begins-written (meet n met (drop at maps)) met (met-onwards n at maps met e) m) m fits long f
+
+pub onwards-canonical : {n : ℕ} (at : ℕ) (l : List ℕ) → Canonical n (byte (drop at l)) → Canonical n (byte (onwards at l))
+onwards-canonical at l c = rw (rest-whole at l) c
 
 -- a map laid is that stretch
 pub laid-stretch : (n i : ℕ) (lent m : List ℕ) → length m ≡ n → i * n + n ≤ length lent → stretch n (laid lent (i * n) m) i ≡ m

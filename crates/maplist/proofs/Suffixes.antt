@@ -13,9 +13,10 @@ use Rattle.equivalence.specs.Lent.{stretch, written, laid}
 use Rattle.equivalence.proofs.Maps.{IsMap, whole-map}
 use Rattle.equivalence.proofs.Meets.{meet-map, meetAll-map}
 use Rattle.maplist.specs.InnerMapLists.{mapList, MapsListed, SuffixMeets}
-use Rattle.maplist.proofs.MapLists.{Begins, begins-is, begins-written, begins-canonical, begins-meet, meet-comm}
+use Rattle.maplist.proofs.MapLists.{Begins, onwards, begins-is, begins-written, begins-canonical, begins-meet, meet-comm}
 use Rattle.maplist.proofs.MapLists.{mapList-length, mapList-from, listed-map, listed-room, listed-begins, laid-stretch, laid-later}
-use Rattle.equivalence.proofs.Laying.{laid-length}
+use Rattle.equivalence.proofs.Laying.{laid-length, laid-from}
+use borrow.Rule.Slice.PartMut.{putMid}
 
 pub record Suffixes (n k : ℕ) (maps : List ℕ) (i at : ℕ) (met bytes : List ℕ) : Type 0 where
   pub listed : MapsListed n k maps
@@ -26,11 +27,14 @@ pub record Suffixes (n k : ℕ) (maps : List ℕ) (i at : ℕ) (met bytes : List
   pub done : (j : ℕ) → i ≤ j → j ≤ k → stretch n bytes j ≡ meetAll n (drop j (mapList n k maps))
 
 -- no map is behind the last
-pub suffixes-start : {n k : ℕ} {maps : List ℕ} (lent met : List ℕ) {met′ bytes : List ℕ} → MapsListed n k maps → k * n + n ≤ length lent
-    → met′ ≡ written (whole n) met → bytes ≡ laid lent (k * n) (whole n) → Suffixes n k maps k (k * n) met′ bytes
+pub suffixes-start : {n k : ℕ} {maps : List ℕ} (met lent rest : List ℕ) {met′ : List ℕ} → MapsListed n k maps → k * n + n ≤ length lent
+    → met′ ≡ written (whole n) met → rest ≡ written (whole n) (onwards (k * n) lent)
+    → Suffixes n k maps k (k * n) met′ (putMid (k * n) (length lent - k * n) lent rest)
 unfolding meetAll
-suffixes-start {n} {k} {maps} lent met p room e f =
+suffixes-start {n} {k} {maps} met lent rest p room e g =
     let w = whole-map n in
+    let f : putMid (k * n) (length lent - k * n) lent rest ≡ laid lent (k * n) (whole n) =
+    ap (putMid (k * n) (length lent - k * n) lent) g ∙ laid-from (k * n) lent (whole n) (omega arith) in
     let none : drop k (mapList n k maps) ≡ [] = drop-of-length-le (mapList n k maps) {i = k} (omega (arith, mapList-length n k maps)) in
     record {
       listed = p;
@@ -53,15 +57,18 @@ module _ {n k : ℕ} {maps : List ℕ} {i at : ℕ} {met bytes : List ℕ} (s : 
     one-less : i - 1 < k
     one-less = omega (arith, s .upto)
 
-    pub suffixes-place : at - n ≡ (i - 1) * n
+    suffixes-place : at - n ≡ (i - 1) * n
     suffixes-place = let e : i ≡ suc (i - 1) = omega arith in omega (arith, s .place ∙ ap (λ (z : ℕ). z * n) e, suc-mul (i - 1) n)
 
+    pub suffixes-back : n ≤ at
+    suffixes-back = omega (arith, s .place, mul-le-mul-right n some)
+
     -- the map in front has room in both lists
-    pub suffixes-fits : (at - n + n ≤ length maps) × (at - n + n ≤ length bytes)
-    suffixes-fits = (
-      omega (arith, suffixes-place, listed-room (s .listed) (i - 1) one-less),
-      omega (arith, suffixes-place, s .room, suc-mul (i - 1) n, mul-le-mul-right n one-less),
-    )
+    pub suffixes-map : at - n + n ≤ length maps
+    suffixes-map = omega (arith, suffixes-place, listed-room (s .listed) (i - 1) one-less)
+
+    pub suffixes-fits : at - n + n ≤ length bytes
+    suffixes-fits = omega (arith, suffixes-place, s .room, suc-mul (i - 1) n, mul-le-mul-right n one-less)
 
     this : Begins n (drop (at - n) maps) (stretch n maps (i - 1))
     this = rw suffixes-place (listed-begins (s .listed) (i - 1))
@@ -76,14 +83,14 @@ module _ {n k : ℕ} {maps : List ℕ} {i at : ℕ} {met bytes : List ℕ} (s : 
     suffixes-more e f =
         let m : Map = meet n met (drop (at - n) maps) in
         let t : IsMap n m = meet-map n met (drop (at - n) maps) in
-        let fits : (i - 1) * n + n ≤ length bytes = omega (arith, suffixes-place, suffixes-fits .1) in
+        let fits : (i - 1) * n + n ≤ length bytes = omega (arith, suffixes-place, suffixes-fits) in
         let next : suc (i - 1) ≡ i = omega arith in
         let new : m ≡ meetAll n (drop (i - 1) (mapList n k maps)) =
         meet-comm n met (drop (at - n) maps) ∙ begins-meet this (begins-is (s .meets) (ap (λ (j : ℕ). meetAll n (drop j (mapList n k maps))) (sym next)))
         ∙ ap (meetAll n) (sym (mapList-from n k maps (i - 1) one-less)) in
         record {
           listed = s .listed;
-          room = rw (f, laid-length bytes (at - n) m (omega (arith, t .long, suffixes-fits .1))) (s .room);
+          room = rw (f, laid-length bytes (at - n) m (omega (arith, t .long, suffixes-fits))) (s .room);
           upto = omega (arith, s .upto);
           place = suffixes-place;
           meets = begins-is (begins-written m met e t) new;

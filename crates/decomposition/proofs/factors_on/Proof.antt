@@ -5,8 +5,7 @@ use Rattle.decomposition.proofs.factors_on.Tie as tie
 
 factors-in-requires : tie.Need-factors-in-requires
 factors-in-requires c κs =
-    let p = c .before .before .before .before .before .before .before .before .pre in
-    (p .0, (p .1, record { gathered = search needs; ends = search needs; meets = search needs; numbers = search needs }))
+    (search needs, (search needs, record { gathered = search needs; ends = search needs; pairs = search needs; meets = search needs; numbers = search needs }))
 
 same-length : tie.Need-same-length
 same-length c = search needs

@@ -5,7 +5,7 @@ use Rattle.decomposition.proofs.list_needed.Statement.{statement}
 use Rattle.decomposition.proofs.list_needed.Tie as tie
 
 mark-needed-requires : tie.Need-mark-needed-requires
-mark-needed-requires c κs = search needs
+mark-needed-requires c κs = (search needs, (search needs, (search needs, (search needs, search needs))))
 
 write-if-room-requires : tie.Need-write-if-room-requires
 write-if-room-requires c κs = search needs
@@ -22,6 +22,9 @@ same-length-3 c = search needs
 same-length-4 : tie.Need-same-length-4
 same-length-4 c = search needs
 
+same-length-5 : tie.Need-same-length-5
+same-length-5 c = search needs
+
 returns : tie.Need-returns
 returns c = search needed-listed
 
@@ -35,4 +38,5 @@ list-needed-spec =
     same-length-2
     same-length-3
     same-length-4
+    same-length-5
     returns)

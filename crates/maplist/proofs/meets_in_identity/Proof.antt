@@ -1,36 +1,72 @@
--- `meets_in_identity`: the meet is written to a local map, and tested.
-use mathlib.Core.Path.{_∙_}
+-- `meets_in_identity`: the laws of `Alone` start, keep and end the loop.
+use Prim.Native.Nat.{_-_}
+use mathlib.Core.Path.{_≡_, refl}
+use lib.ListN.{length}
 use borrow.Author.Needs.{needs}
-use Rattle.equivalence.proofs.Meets.{meet-map}
-use Rattle.maplist.proofs.MapLists.{begins-written, begins-canonical, begins-isIdentity}
+use Rattle.maplist.proofs.Collisions.{Alone, alone-none, alone-names, alone-more, alone-not, alone-all}
 use Rattle.maplist.proofs.meets_in_identity.Statement.{statement}
 use Rattle.maplist.proofs.meets_in_identity.Tie as tie
 
-slice-aggregate-meet-into : tie.Need-slice-aggregate-meet-into
-slice-aggregate-meet-into c = search needs
+abbrev Inv-loop : tie.InvT-loop
+Inv-loop n a b table₀ x₀ table x = (length table ≡ length table₀) × Alone n x a b table
 
-meet-into-requires : tie.Need-meet-into-requires
-meet-into-requires c κs =
-    let p = c .before .before .before .pre in
-    (p .0, (p .1 .0, (p .1 .1 .0, (search needs, (p .1 .1 .1 .0, p .1 .1 .1 .1)))))
+abbrev μ-loop : tie.MeasureT-loop
+μ-loop n a b table₀ x₀ table x = n - x
 
-slice-aggregate-is-identity : tie.Need-slice-aggregate-is-identity
-slice-aggregate-is-identity c = search needs
+loop-holds : tie.Need-loop-holds Inv-loop μ-loop
+loop-holds c = (refl, search alone-none)
 
-is-identity-requires : tie.Need-is-identity-requires
-is-identity-requires c κs =
-    (search needs, begins-canonical (begins-written _ _ (c .before .before .meet-into .ensures) (meet-map _ _ _)) (meet-map _ _ _))
+shared-slice-read-first-alike : tie.Need-shared-slice-read-first-alike Inv-loop μ-loop
+shared-slice-read-first-alike c = search needs
 
-returns : tie.Need-returns
-returns c =
-    c .is-identity .ensures ∙ begins-isIdentity (begins-written _ _ (c .before .before .before .meet-into .ensures) (meet-map _ _ _))
+shared-slice-read-first-alike-2 : tie.Need-shared-slice-read-first-alike-2 Inv-loop μ-loop
+shared-slice-read-first-alike-2 c = search needs
+
+first-alike-requires : tie.Need-first-alike-requires Inv-loop μ-loop
+first-alike-requires c κs =
+    let s = c .before .before .before .before .loop .inv .1 in
+    let k = alone-names s (c .before .before .before .loop-test .taken) in
+    (k .0, (k .1, (k .2, s .entering .size)))
+
+cast-if1 : tie.Need-cast-if1 Inv-loop μ-loop
+cast-if1 c = search needs
+
+same-length : tie.Need-same-length Inv-loop μ-loop
+same-length c = search needs
+
+returns : tie.Need-returns Inv-loop μ-loop
+returns c = search alone-not
+
+add-x : tie.Need-add-x Inv-loop μ-loop
+add-x c = search needs
+
+loop-less : tie.Need-loop-less Inv-loop μ-loop
+loop-less c = search needs
+
+loop-again : tie.Need-loop-again Inv-loop μ-loop
+loop-again c = (search needs, search alone-more)
+
+same-length-2 : tie.Need-same-length-2 Inv-loop μ-loop
+same-length-2 c = search needs
+
+returns-2 : tie.Need-returns-2 Inv-loop μ-loop
+returns-2 c = search alone-all
 
 pub meets-in-identity-spec : {M : Type 1} → statement M
 meets-in-identity-spec =
     tie.close
     (tie.spec
-    slice-aggregate-meet-into
-    meet-into-requires
-    slice-aggregate-is-identity
-    is-identity-requires
-    returns)
+    Inv-loop
+    μ-loop
+    loop-holds
+    shared-slice-read-first-alike
+    shared-slice-read-first-alike-2
+    first-alike-requires
+    cast-if1
+    same-length
+    returns
+    add-x
+    loop-less
+    loop-again
+    same-length-2
+    returns-2)

@@ -1,32 +1,26 @@
 -- `gather_next`: the first pair is of two elements, so Separate has a congruence for it, which is a map.
-use mathlib.Core.Path.{_≡_, ap}
 use native.Mathlib.Omega.{arith}
 use borrow.Author.Needs.{needs}
-use Rattle.equivalence.proofs.Tests.{not-T-of}
-use Rattle.equivalence.specs.Order.{Pair, firstHeld}
 use Rattle.algebra.proofs.Accepted.{accepted-wellFormed}
-use Rattle.decomposition.proofs.Gathering.{first-below, added-written, step-stop, step-more}
-use Rattle.maplist.proofs.MapLists.{begins-written, begins-canonical}
+use Rattle.decomposition.proofs.Gathering.{step-pair, step-canonical, step-stop, step-more}
 use Rattle.decomposition.proofs.gather.gather_next.Statement.{statement}
 use Rattle.decomposition.proofs.gather.gather_next.Tie as tie
 
 first-held-requires : tie.Need-first-held-requires
-first-held-requires c κs = let k = c .before .before .before .before .before in (accepted-wellFormed _ (k .pre .0) .some, (k .pre .1 .0, k .pre .1 .1 .0))
+first-held-requires c κs = (accepted-wellFormed _ (c .before .before .before .before .before .before .pre .0) .some, (search needs, search needs))
 
 separated-into-requires : tie.Need-separated-into-requires
 separated-into-requires c κs =
-    let k = c .before .before .before .before .before .before .before in
-    let e = c .before .first-held .ensures in
-    let b = first-below (k .args .n) (k .args .met .now) (not-T-of (k .pre .1 .1 .1 .0)) in
-    let x : c .before .first-held .result .x ≡ firstHeld (k .args .n) (k .args .met .now) .0 = ap (λ (p : Pair). p .0) e in
-    let y : c .before .first-held .result .y ≡ firstHeld (k .args .n) (k .args .met .now) .1 = ap (λ (p : Pair). p .1) e in
-    (k .pre .0, (omega (arith, b .0, b .1), (omega (arith, b .1), (omega (arith, b .0), omega arith))))
+    let p = c .before .before .before .before .before .before .before .before .pre in
+    let o = step-pair _ (p .0) _ (p .1 .1 .1 .1 .0) (c .before .first-held .ensures) in
+    (p .0, (omega (arith, o .0, o .1), (o .1, (omega (arith, o .0), search needs))))
 
 is-identity-requires : tie.Need-is-identity-requires
 is-identity-requires c κs =
-    let k = c .before .before .before .before .before .before .before .before .before .before .before in
-    let w = added-written _ (accepted-wellFormed _ (k .pre .0)) (k .args .met .now) (not-T-of (k .pre .1 .1 .1 .0)) _ _ (k .args .map .now) (c .before .before .before .before .before .first-held .ensures) (c .before .before .before .separated-into .ensures) in
-    (omega (arith, c .before .before .before .separated-into .kept .1 .1 .1 .1 .1 .0), begins-canonical (begins-written _ _ (w .0) (w .1)) (w .1))
+    let r = c .before .before .before in
+    let h = r .before .before in
+    let p = h .before .before .before .before .before .before .before .pre in
+    (search needs, step-canonical _ (p .0) _ (p .1 .1 .1 .1 .0) (h .first-held .ensures) _ (r .separated-into .ensures))
 
 same-length : tie.Need-same-length
 same-length c = search needs
@@ -36,14 +30,18 @@ same-length-2 c = search needs
 
 returns : tie.Need-returns
 returns c =
-    let k = c .before .before .before .before .before .before .before .before .before .before .before .before .before in
-    step-stop _ (k .args .met .now) (k .args .map .now) (added-written _ (accepted-wellFormed _ (k .pre .0)) (k .args .met .now) (not-T-of (k .pre .1 .1 .1 .0)) _ _ (k .args .map .now) (c .before .before .before .before .before .before .before .first-held .ensures) (c .before .before .before .before .before .separated-into .ensures)) (c .before .is-identity .ensures) (c .if1 .taken)
+    let r = c .before .before .before .before .before in
+    let h = r .before .before in
+    let p = h .before .before .before .before .before .before .before .pre in
+    step-stop _ (p .0) _ (p .1 .1 .1 .1 .0) (h .first-held .ensures) _ (r .separated-into .ensures) (c .before .is-identity .ensures) (c .if1 .taken)
 
 meet-with-requires : tie.Need-meet-with-requires
 meet-with-requires c κs =
-    let k = c .before .before .before .before .before .before .before .before .before .before .before .before .before .before .before in
-    let w = added-written _ (accepted-wellFormed _ (k .pre .0)) (k .args .met .now) (not-T-of (k .pre .1 .1 .1 .0)) _ _ (k .args .map .now) (c .before .before .before .before .before .before .before .before .before .first-held .ensures) (c .before .before .before .before .before .before .before .separated-into .ensures) in
-    (accepted-wellFormed _ (k .pre .0) .most, (omega (arith, c .before .before .before .before .before .before .before .separated-into .kept .1 .1 .1 .1 .1 .0), (k .pre .1 .0, (begins-canonical (begins-written _ _ (w .0) (w .1)) (w .1), k .pre .1 .1 .0))))
+    let r = c .before .before .before .before .before .before .before .before in
+    let h = r .before .before in
+    let p = h .before .before .before .before .before .before .before .pre in
+    let new = step-canonical _ (p .0) _ (p .1 .1 .1 .1 .0) (h .first-held .ensures) _ (r .separated-into .ensures) in
+    (accepted-wellFormed _ (p .0) .most, (search needs, (search needs, (search needs, (new, search needs)))))
 
 same-length-3 : tie.Need-same-length-3
 same-length-3 c = search needs
@@ -51,10 +49,17 @@ same-length-3 c = search needs
 same-length-4 : tie.Need-same-length-4
 same-length-4 c = search needs
 
+same-length-5 : tie.Need-same-length-5
+same-length-5 c = search needs
+
 returns-2 : tie.Need-returns-2
 returns-2 c =
-    let k = c .before .before .before .before .before .before .before .before .before .before .before .before .before .before .before .before .before .before in
-    step-more _ (k .args .met .now) (k .args .map .now) (added-written _ (accepted-wellFormed _ (k .pre .0)) (k .args .met .now) (not-T-of (k .pre .1 .1 .1 .0)) _ _ (k .args .map .now) (c .before .before .before .before .before .before .before .before .before .before .before .before .first-held .ensures) (c .before .before .before .before .before .before .before .before .before .before .separated-into .ensures)) (c .before .before .before .before .before .before .is-identity .ensures) (c .before .before .before .before .before .if1 .left) (c .before .before .meet-with .ensures)
+    let w = c .before .before .before .before in
+    let i = w .before .before .before .before .before in
+    let r = i .before .before .before .before in
+    let h = r .before .before in
+    let p = h .before .before .before .before .before .before .before .pre in
+    step-more _ (p .0) _ (p .1 .1 .1 .1 .0) (h .first-held .ensures) _ (r .separated-into .ensures) (i .is-identity .ensures) (w .before .before .before .before .if1 .left) (w .meet-with .ensures)
 
 pub gather-next-spec : {M : Type 1} → statement M
 gather-next-spec =
@@ -69,4 +74,5 @@ gather-next-spec =
     meet-with-requires
     same-length-3
     same-length-4
+    same-length-5
     returns-2)

@@ -1,6 +1,6 @@
 -- `mark_in_turn`: the laws of `Pruning` start, keep and end the loop.
 use Prim.Native.Nat.{_-_}
-use mathlib.Core.Path.{_≡_, refl, _∙_}
+use mathlib.Core.Path.{_≡_, refl}
 use native.Mathlib.Omega.{arith}
 use lib.ListN.{length, length-set}
 use borrow.Author.Needs.{needs}
@@ -9,17 +9,17 @@ use Rattle.decomposition.proofs.prune.mark_in_turn.Statement.{statement
 use Rattle.decomposition.proofs.prune.mark_in_turn.Tie as tie
 
 abbrev Inv-loop : tie.InvT-loop
-Inv-loop n count maps suffixes met₀ needed₀ kept₀ i₀ at₀ met needed kept i at =
-    (length met ≡ length met₀) × Pruning n count maps suffixes kept i at met needed × (length needed ≡ length needed₀)
+Inv-loop n count maps suffixes table₀ met₀ needed₀ kept₀ i₀ at₀ table met needed kept i at =
+    ((length table ≡ length table₀) × (length met ≡ length met₀) × (length needed ≡ length needed₀)) × Pruning n count maps suffixes kept i at met needed
 
 abbrev μ-loop : tie.MeasureT-loop
-μ-loop n count maps suffixes met₀ needed₀ kept₀ i₀ at₀ met needed kept i at = count - i
+μ-loop n count maps suffixes table₀ met₀ needed₀ kept₀ i₀ at₀ table met needed kept i at = count - i
 
 whole-into-requires : tie.Need-whole-into-requires Inv-loop μ-loop
 whole-into-requires c κs = search needs
 
 loop-holds : tie.Need-loop-holds Inv-loop μ-loop
-loop-holds c = (refl, search pruning-start, refl)
+loop-holds c = ((refl, refl, refl), search pruning-start)
 
 add-next : tie.Need-add-next Inv-loop μ-loop
 add-next c = omega (arith, pruning-part (c .before .loop .inv .1) (c .loop-test .taken))
@@ -50,17 +50,18 @@ part-meet-if-needed-end-2 c = omega (arith, pruning-part (c .before .before .loo
 
 meet-if-needed-requires : tie.Need-meet-if-needed-requires Inv-loop μ-loop
 meet-if-needed-requires c κs =
-    let p = c .before .before .before .before .loop .inv .1 in
-    let l = c .before .before .before .loop-test .taken in
+    let p = c .before .before .before .before .before .loop .inv .1 in
+    let l = c .before .before .before .before .loop-test .taken in
     let f = pruning-fit p l in
     let g = pruning-canonical p l in
-    (p .listed .most, (f .0, (f .1, (omega (arith, c .before .before .before .before .loop .inv .0), (g .0, (g .1, g .2))))))
+    (p .listed .most, (f .0, (f .1, (search needs, (search needs, (g .0, (g .1, g .2)))))))
 
 add-kept : tie.Need-add-kept Inv-loop μ-loop
 add-kept c =
-    let test = c .before .before .before .before .before .before in
-    let p = test .before .loop .inv .1 in
-    omega (arith, pruning-more p (test .loop-test .taken) (c .before .before .meet-if-needed .ensures) .few, pruning-part p (test .loop-test .taken))
+    let w = c .before .before .before .before in
+    let t = w .before .before .before .before .before in
+    let p = t .before .loop .inv .1 in
+    omega (arith, pruning-more p (t .loop-test .taken) (w .meet-if-needed .ensures) .few, pruning-part p (t .loop-test .taken))
 
 add-i : tie.Need-add-i Inv-loop μ-loop
 add-i c = search needs
@@ -69,17 +70,16 @@ loop-less : tie.Need-loop-less Inv-loop μ-loop
 loop-less c = search needs
 
 loop-again : tie.Need-loop-again Inv-loop μ-loop
-loop-again c =
-    let w = c .before .before .meet-if-needed in
-    let test = c .before .before .before .before .before .before in
-    let l = test .before .loop in
-    (w .kept .1 .1 .1 .0 ∙ l .inv .0, pruning-more (l .inv .1) (test .loop-test .taken) (w .ensures), length-set (l .needed) (l .kept) (l .i) ∙ l .inv .2)
+loop-again c = ((search needs, search needs, simp length-set (search needs)), search pruning-more)
 
 same-length : tie.Need-same-length Inv-loop μ-loop
 same-length c = search needs
 
 same-length-2 : tie.Need-same-length-2 Inv-loop μ-loop
-same-length-2 c = c .before .loop .inv .2
+same-length-2 c = search needs
+
+same-length-3 : tie.Need-same-length-3 Inv-loop μ-loop
+same-length-3 c = search needs
 
 returns : tie.Need-returns Inv-loop μ-loop
 returns c = pruning-all (c .before .loop .inv .1) (c .loop-test .left)
@@ -108,4 +108,5 @@ mark-in-turn-spec =
     loop-again
     same-length
     same-length-2
+    same-length-3
     returns)

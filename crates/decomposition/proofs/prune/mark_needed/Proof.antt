@@ -1,17 +1,13 @@
 -- `mark_needed`: the meets of the suffixes, then every map in its turn.
-use native.Mathlib.Omega.{arith}
 use borrow.Author.Needs.{needs}
 use Rattle.decomposition.proofs.prune.mark_needed.Statement.{statement}
 use Rattle.decomposition.proofs.prune.mark_needed.Tie as tie
 
 suffix-meets-requires : tie.Need-suffix-meets-requires
-suffix-meets-requires c κs = search needs
+suffix-meets-requires c κs = (search needs, (search needs, (search needs, search needs)))
 
 mark-in-turn-requires : tie.Need-mark-in-turn-requires
-mark-in-turn-requires c κs =
-    let p = c .before .before .before .before .before .before .before .before .before .before .before .before .before .before .pre in
-    let w = c .before .before .before .before .before .before .before .suffix-meets in
-    (p .0, (w .ensures, (omega (arith, w .kept .1 .1 .1 .1 .0), (omega (arith, w .kept .1 .1 .1 .0), p .1 .1 .1))))
+mark-in-turn-requires c κs = (search needs, (search needs, (search needs, (search needs, (search needs, search needs)))))
 
 same-length : tie.Need-same-length
 same-length c = search needs
@@ -21,6 +17,9 @@ same-length-2 c = search needs
 
 same-length-3 : tie.Need-same-length-3
 same-length-3 c = search needs
+
+same-length-4 : tie.Need-same-length-4
+same-length-4 c = search needs
 
 returns : tie.Need-returns
 returns c = search needs
@@ -34,4 +33,5 @@ mark-needed-spec =
     same-length
     same-length-2
     same-length-3
+    same-length-4
     returns)

@@ -5,21 +5,25 @@ use Rattle.decomposition.proofs.prune.meet_if_needed.Statement.{stateme
 use Rattle.decomposition.proofs.prune.meet_if_needed.Tie as tie
 
 meets-in-identity-requires : tie.Need-meets-in-identity-requires
-meets-in-identity-requires c κs = search needs
+meets-in-identity-requires c κs = (search needs, (search needs, (search needs, (search needs, (search needs, search needs)))))
 
 same-length : tie.Need-same-length
 same-length c = search needs
+
+same-length-2 : tie.Need-same-length-2
+same-length-2 c = search needs
 
 returns : tie.Need-returns
 returns c = search turn-drop
 
 meet-with-requires : tie.Need-meet-with-requires
-meet-with-requires c κs =
-    let p = c .before .before .before .before .before .before .before .pre in
-    (p .0, (p .1 .0, (p .1 .1 .1 .0, (p .1 .1 .1 .1 .0, p .1 .1 .1 .1 .1 .1))))
+meet-with-requires c κs = (search needs, (search needs, (search needs, (search needs, (search needs, search needs)))))
 
-same-length-2 : tie.Need-same-length-2
-same-length-2 c = search needs
+same-length-3 : tie.Need-same-length-3
+same-length-3 c = search needs
+
+same-length-4 : tie.Need-same-length-4
+same-length-4 c = search needs
 
 returns-2 : tie.Need-returns-2
 returns-2 c = search turn-keep
@@ -30,7 +34,9 @@ meet-if-needed-spec =
     (tie.spec
     meets-in-identity-requires
     same-length
+    same-length-2
     returns
     meet-with-requires
-    same-length-2
+    same-length-3
+    same-length-4
     returns-2)
