@@ -16,7 +16,7 @@ use Rattle.closure.specs.InnerStarts.{Pushed, countOf, Collected}
 
 pub collected-none : (test : ℕ → Bool) (p : ℕ → ℕ) → Collected test 0 p 0
 unfolding countOf
-collected-none test p = record { small = λ i l. absurd (omega arith); right = λ i l. absurd (omega arith); all = λ x l. absurd (omega arith); count = refl }
+collected-none test p = record { small = λ i l. absurd (omega arith); right = λ i l. absurd (omega arith); all = λ x l. absurd (omega arith); once = λ i j l k. absurd (omega arith); count = refl }
 
 countOf-more : (test : ℕ → Bool) (x : ℕ) → countOf test (x + 1) ≡ countOf test x + bit (test x)
 unfolding countOf
@@ -37,6 +37,12 @@ module _ (test : ℕ → Bool) {x k k′ : ℕ} {p p′ : ℕ → ℕ} (h : Coll
       | yes e ↦ (k, (omega (arith, d .count), d .new refl ∙ sym e))
       | no e ↦ let r = h .all y (omega arith) s in (r .0, (omega (arith, r .1 .0, d .count), d .kept (r .0) (r .1 .0) ∙ r .1 .1))
     ];
+    once = λ i j l lj e. elim (ℕ-discrete j k) [
+      | yes z ↦ let li : i < k = omega arith in
+          let y : p′ j ≡ x = ap p′ z ∙ d .new refl in
+          absurd (omega (arith, d .kept i li, h .small i li))
+      | no z ↦ let lk : j < k = omega (arith, d .count) in h .once i j l lk (sym (d .kept i (omega arith)) ∙ e ∙ d .kept j lk)
+    ];
     count = omega (arith, d .count, h .count, countOf-more test x, ap bit t);
   }
 
@@ -48,6 +54,7 @@ module _ (test : ℕ → Bool) {x k k′ : ℕ} {p p′ : ℕ → ℕ} (h : Coll
       | yes e ↦ let c : true ≡ false = sym s ∙ ap test e ∙ t in let z : _≡_ {A = ℕ} 0 1 = cc in absurd (omega arith)
       | no e ↦ let r = h .all y (omega arith) s in (r .0, (omega (arith, r .1 .0, d .count), d .kept (r .0) (r .1 .0) ∙ r .1 .1))
     ];
+    once = λ i j l lj e. let lk : j < k = omega (arith, d .count) in h .once i j l lk (sym (d .kept i (omega arith)) ∙ e ∙ d .kept j lk);
     count = omega (arith, d .count, h .count, countOf-more test x, ap bit t);
   }
 
@@ -72,6 +79,7 @@ collected-copied {test} h l d = record {
   small = λ i li. omega (arith, d .first i (omega arith), h .small i li);
   right = λ i li. ap test (d .first i (omega arith)) ∙ h .right i li;
   all = λ x lx t. let r = h .all x lx t in (r .0, (r .1 .0, d .first (r .0) (omega (arith, r .1 .0)) ∙ r .1 .1));
+  once = λ i j li lj e. h .once i j li lj (sym (d .first i (omega arith)) ∙ e ∙ d .first j (omega arith));
   count = h .count;
 }
 

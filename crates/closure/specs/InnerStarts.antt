@@ -1,15 +1,22 @@
 -- How a closure starts and what it promises.
-use Prim.Native.Nat.{ℕ, zero, suc, _+_, _*_, _≤_, _<_}
+use Prim.Native.Nat.{ℕ, zero, suc, _+_, _*_, _<_}
 use mathlib.Core.Path.{_≡_}
-use mathlib.Core.Bool.{Bool, true, false}
+use mathlib.Core.Bool.{Bool, true}
 use mathlib.Core.List.{List}
 use lib.Dec.{eqb}
 use lib.ListN.{length}
 use Rattle.equivalence.specs.Equivalence.{byte}
-use Rattle.kernel.specs.InnerKernel.{Canonical, Within, bit, names}
+use Rattle.kernel.specs.InnerKernel.{Canonical, Within, KeptPast, bit, names}
 use Rattle.algebra.specs.Algebra.{Algebra}
-use Rattle.translation.specs.InnerTranslations.{Compatible, Closed}
-use Rattle.sweep.specs.InnerContexts.{Unless, RefusedRightly}
+use Rattle.translation.specs.InnerTranslations.{Compatible}
+use Rattle.sweep.specs.InnerSweeps.{Unless, RefusedRightly}
+
+-- 64 bytes for the map, for the queue, for the list of elements in use and for their places
+pub record Rooms (m queue live places : List ℕ) : Type 0 where
+  pub map-room : length m ≡ 64
+  pub queue-room : length queue ≡ 64
+  pub live-room : length live ≡ 64
+  pub places-room : length places ≡ 64
 
 -- g joins the pairs of a flat list
 abbrev pub JoinsPairs : List ℕ → (ℕ → ℕ) → Type 0
@@ -39,17 +46,12 @@ pub record Collected (test : ℕ → Bool) (n : ℕ) (p : ℕ → ℕ) (k : ℕ)
   pub small : (i : ℕ) → i < k → p i < n
   pub right : (i : ℕ) → i < k → test (p i) ≡ true
   pub all : (x : ℕ) → x < n → test x ≡ true → (i : ℕ) × ((i < k) × (p i ≡ x))
+  pub once : (i j : ℕ) → i < j → j < k → p i ≡ p j → ⊥
   pub count : k ≡ countOf test n
 
 -- the first k bytes of a slice are the names of f
 abbrev pub NamesListed : ℕ → (ℕ → ℕ) → List ℕ → ℕ → Type 0
 NamesListed n f bytes k = Collected (λ x. eqb (f x) x) n (byte bytes) k
-
--- the answer to a try that must hold v and w apart: the closure where it does; where not, whatever is compatible and large enough joins them
-pub record Apart (a : Algebra) (x y v w : ℕ) (f f′ : ℕ → ℕ) (r : Bool) : Type 0 where
-  pub closed : r ≡ true → Closed a (Extends (a .size) f x y) f′
-  pub apart : r ≡ true → f′ v ≡ f′ w → ⊥
-  pub joined : r ≡ false → (g : ℕ → ℕ) → Compatible a g → Extends (a .size) f x y g → g v ≡ g w
 
 -- a congruence f was made to hold x and y, and the work stopped where v and w were joined; it cost r blocks
 pub record Tried (a : Algebra) (x y v w : ℕ) (f f′ : ℕ → ℕ) (r : ℕ) : Type 0 where
@@ -58,4 +60,4 @@ pub record Tried (a : Algebra) (x y v w : ℕ) (f f′ : ℕ → ℕ) (r : ℕ) 
   pub least : (g : ℕ → ℕ) → Compatible a g → Extends (a .size) f x y g → Within (a .size) f′ g
   pub compatible : Unless v w (Compatible a) f′
   pub lost : r + names (a .size) f′ ≡ names (a .size) f
-  pub rest : (z : ℕ) → a .size ≤ z → f′ z ≡ f z
+  pub rest : KeptPast (a .size) f f′

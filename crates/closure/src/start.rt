@@ -1,15 +1,17 @@
 // What a closure begins with: pairs joined, and lists of the names of a map and of the other elements.
 ghost use mathlib.Core.Bool.{not};
+ghost use mathlib.Core.Path.{_≡_};
 ghost use Prim.Native.Nat.{ℕ, _<_, _≤_};
 ghost use lib.Dec.{eqb};
 ghost use lib.ListN.{length};
 ghost use Rattle.equivalence.specs.Equivalence.{byte};
 ghost use Rattle.sweep.specs.InnerQueue.{state, Ready, Grown};
 ghost use Rattle.closure.specs.InnerStarts.{JoinsPairs, Pushed, Collected, NamesListed};
+ghost use Rattle.closure.specs.InnerClosing.{Distinct, InUse};
 
 // Joins the pairs of a flat list. How many elements are queued then.
 pub fn seed(m: &mut [u8], n: usize, queue: &mut [u8], pairs: &[u8]) -> usize
-    requires { ⌜ Ready n 0 (now m) (now queue) ⌝ }
+    requires { ⌜ Ready n (state (now m) (now queue) 0) ⌝ }
     requires { ⌜ ((i : ℕ) → i < length (now pairs) → byte (now pairs) i < n) ⌝ }
     ensures { λ r. ⌜ Grown n (JoinsPairs (now (pairs .entry))) (state (now (m .entry)) (now (queue .entry)) 0) (state (now (m .exit)) (now (queue .exit)) r) ⌝ }
     ensures { λ _. ⌜ JoinsPairs (now (pairs .entry)) (byte (now (m .exit))) ⌝ }
@@ -66,4 +68,17 @@ pub fn others(m: &[u8], n: usize, out: &mut [u8]) -> usize
         x += 1;
     }
     len
+}
+
+// Where each of the first `count` elements stands, which are all different.
+pub fn places(live: &[u8], n: usize, count: usize, out: &mut [u8])
+    requires { ⌜ Distinct n (now live) count ⌝ }
+    requires { ⌜ length (now out) ≡ 64 ⌝ }
+    ensures { λ _. ⌜ InUse n (now (live .entry)) (now (out .exit)) count ⌝ }
+{
+    let mut i = 0;
+    while i < count {
+        out[live[i] as usize] = i as u8;
+        i += 1;
+    }
 }

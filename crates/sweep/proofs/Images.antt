@@ -1,6 +1,7 @@
 -- The cells of a table against the results of its operation: a pass over the lines and planes of a table joins all images whose other
 -- arguments are listed. And images: what joins them keeps joining them.
 use Prim.Native.Nat.{ℕ, zero, suc, _+_, _*_, _≤_, _<_}
+use mathlib.Core.Bool.{Bool, true}
 use mathlib.Core.List.{List, [], _∷_, _++_}
 use mathlib.Core.Path.{_≡_, refl, sym, ap, subst, _∙_, subst₂}
 use native.Mathlib.Omega.{arith}
@@ -8,16 +9,26 @@ use lib.ListN.{length, getD}
 use Rattle.equivalence.specs.Equivalence.{byte}
 use Rattle.kernel.specs.InnerKernel.{Within, Listed}
 use Rattle.algebra.specs.Accepted.{Accepted}
-use Rattle.algebra.specs.Algebra.{Algebra, place}
+use Rattle.algebra.specs.Algebra.{Algebra, algebraOf, place}
+use Rattle.translation.specs.InnerLines.{lineAt}
 use Rattle.translation.specs.InnerTranslations.{AllBelow, tableStart, result, Compatible}
 use Rattle.algebra.proofs.Accepted.{WellFormed, accepted-wellFormed}
 use Rattle.translation.proofs.Places.{place-one, place-two, place-three}
 use Rattle.translation.proofs.Translations.{result-below}
 use Rattle.algebra.proofs.Tables.{start-room}
-use Rattle.sweep.specs.InnerContexts.{All, ImagesIn, OperationsIn, JoinsLine, JoinsPlane, JoinsTable, Contexts, TableInside}
-use Rattle.sweep.proofs.Sweeps.{each-more}
+use Rattle.sweep.specs.declared.Stop.{Stop}
+use Rattle.sweep.specs.declared.ImagePair.{ImagePair}
+use Rattle.sweep.specs.declared.PlanePair.{PlanePair}
+use Rattle.sweep.specs.InnerContexts.{All, ImagesIn, OperationsIn, JoinsLine, JoinsPlane, JoinsCells, JoinsTable, Contexts, TableInside, linesOf, planesOf}
+use Rattle.sweep.specs.InnerQueue.{QueueState}
+use Rattle.sweep.specs.InnerSweeps.{Yes, Halts, Sweeping, SweptTo, Swept}
+use Rattle.sweep.proofs.Sweeps.{each-more, swept-none, swept-more, swept-halted, swept-as}
 
 -- ---- tables and images
+
+-- x and y in the table of operation j
+abbrev imagesAt : Algebra → ℕ → ℕ → ℕ → ImagePair
+imagesAt a j x y = record { o = tableStart a j; x = x; y = y }
 
 module _ (a : Algebra) (j : ℕ) (live : List ℕ) (count x y : ℕ) (g : ℕ → ℕ) where
   cell-at : (xs : List ℕ) (k : ℕ) → tableStart a j + place (a .size) xs ≡ k → g (result a j xs) ≡ g (byte (a .cells) k)
@@ -25,55 +36,55 @@ module _ (a : Algebra) (j : ℕ) (live : List ℕ) (count x y : ℕ) (g : ℕ �
   cell-at xs k e = ap (λ (i : ℕ). g (byte (a .cells) i)) e
 
   -- one other argument, behind or before
-  last-line : JoinsLine (a .cells) live count (a .size) (tableStart a j + x) (tableStart a j + y) g → (c : ℕ) → Listed live count c
+  last-line : JoinsLine (a .cells) live count (linesOf (imagesAt a j x y) 1 (a .size)) g → (c : ℕ) → Listed live count c
       → g (result a j (c ∷ x ∷ [])) ≡ g (result a j (c ∷ y ∷ []))
   last-line h c m =
       subst (λ (c : ℕ). g (result a j (c ∷ x ∷ [])) ≡ g (result a j (c ∷ y ∷ []))) (m .1 .1)
       (let b = byte live (m .0) in
-      cell-at (b ∷ x ∷ []) (tableStart a j + x + b * a .size) (omega (arith, place-two (a .size) b x)) ∙ h (m .0) (m .1 .0)
-      ∙ sym (cell-at (b ∷ y ∷ []) (tableStart a j + y + b * a .size) (omega (arith, place-two (a .size) b y))))
+      cell-at (b ∷ x ∷ []) (tableStart a j + x * 1 + b * a .size) (omega (arith, place-two (a .size) b x)) ∙ h .each (m .0) (m .1 .0) .joined
+      ∙ sym (cell-at (b ∷ y ∷ []) (tableStart a j + y * 1 + b * a .size) (omega (arith, place-two (a .size) b y))))
 
-  first-line : JoinsLine (a .cells) live count 1 (tableStart a j + x * a .size) (tableStart a j + y * a .size) g → (c : ℕ) → Listed live count c
+  first-line : JoinsLine (a .cells) live count (linesOf (imagesAt a j x y) (a .size) 1) g → (c : ℕ) → Listed live count c
       → g (result a j (x ∷ c ∷ [])) ≡ g (result a j (y ∷ c ∷ []))
   first-line h c m =
       subst (λ (c : ℕ). g (result a j (x ∷ c ∷ [])) ≡ g (result a j (y ∷ c ∷ []))) (m .1 .1)
       (let b = byte live (m .0) in
-      cell-at (x ∷ b ∷ []) (tableStart a j + x * a .size + b * 1) (omega (arith, place-two (a .size) x b)) ∙ h (m .0) (m .1 .0)
+      cell-at (x ∷ b ∷ []) (tableStart a j + x * a .size + b * 1) (omega (arith, place-two (a .size) x b)) ∙ h .each (m .0) (m .1 .0) .joined
       ∙ sym (cell-at (y ∷ b ∷ []) (tableStart a j + y * a .size + b * 1) (omega (arith, place-two (a .size) y b))))
 
   -- two other arguments, behind, around or before
-  third-plane : JoinsPlane (a .cells) live count (a .size * a .size) (a .size) (tableStart a j + x) (tableStart a j + y) g → (c d : ℕ) → Listed live count c → Listed live count d
+  third-plane : JoinsPlane (a .cells) live count count (planesOf (imagesAt a j x y) 1 (a .size * a .size) (a .size)) g → (c d : ℕ) → Listed live count c → Listed live count d
       → g (result a j (c ∷ d ∷ x ∷ [])) ≡ g (result a j (c ∷ d ∷ y ∷ []))
   third-plane h c d m k =
       subst₂ (λ (c d : ℕ). g (result a j (c ∷ d ∷ x ∷ [])) ≡ g (result a j (c ∷ d ∷ y ∷ []))) (m .1 .1) (k .1 .1)
       (let b = byte live (m .0) in
       let e = byte live (k .0) in
-      cell-at (b ∷ e ∷ x ∷ []) (tableStart a j + x + b * (a .size * a .size) + e * a .size) (omega (arith, place-three (a .size) b e x))
-      ∙ h (m .0) (m .1 .0) (k .0) (k .1 .0)
-      ∙ sym (cell-at (b ∷ e ∷ y ∷ []) (tableStart a j + y + b * (a .size * a .size) + e * a .size) (omega (arith, place-three (a .size) b e y))))
+      cell-at (b ∷ e ∷ x ∷ []) (tableStart a j + x * 1 + b * (a .size * a .size) + e * a .size) (omega (arith, place-three (a .size) b e x))
+      ∙ h .each (m .0) (m .1 .0) .each (k .0) (k .1 .0) .joined
+      ∙ sym (cell-at (b ∷ e ∷ y ∷ []) (tableStart a j + y * 1 + b * (a .size * a .size) + e * a .size) (omega (arith, place-three (a .size) b e y))))
 
-  second-plane : JoinsPlane (a .cells) live count (a .size * a .size) 1 (tableStart a j + x * a .size) (tableStart a j + y * a .size) g → (c d : ℕ) → Listed live count c → Listed live count d
+  second-plane : JoinsPlane (a .cells) live count count (planesOf (imagesAt a j x y) (a .size) (a .size * a .size) 1) g → (c d : ℕ) → Listed live count c → Listed live count d
       → g (result a j (c ∷ x ∷ d ∷ [])) ≡ g (result a j (c ∷ y ∷ d ∷ []))
   second-plane h c d m k =
       subst₂ (λ (c d : ℕ). g (result a j (c ∷ x ∷ d ∷ [])) ≡ g (result a j (c ∷ y ∷ d ∷ []))) (m .1 .1) (k .1 .1)
       (let b = byte live (m .0) in
       let e = byte live (k .0) in
       cell-at (b ∷ x ∷ e ∷ []) (tableStart a j + x * a .size + b * (a .size * a .size) + e * 1) (omega (arith, place-three (a .size) b x e))
-      ∙ h (m .0) (m .1 .0) (k .0) (k .1 .0)
+      ∙ h .each (m .0) (m .1 .0) .each (k .0) (k .1 .0) .joined
       ∙ sym (cell-at (b ∷ y ∷ e ∷ []) (tableStart a j + y * a .size + b * (a .size * a .size) + e * 1) (omega (arith, place-three (a .size) b y e))))
 
-  first-plane : JoinsPlane (a .cells) live count (a .size) 1 (tableStart a j + x * (a .size * a .size)) (tableStart a j + y * (a .size * a .size)) g → (c d : ℕ) → Listed live count c → Listed live count d
+  first-plane : JoinsPlane (a .cells) live count count (planesOf (imagesAt a j x y) (a .size * a .size) (a .size) 1) g → (c d : ℕ) → Listed live count c → Listed live count d
       → g (result a j (x ∷ c ∷ d ∷ [])) ≡ g (result a j (y ∷ c ∷ d ∷ []))
   first-plane h c d m k =
       subst₂ (λ (c d : ℕ). g (result a j (x ∷ c ∷ d ∷ [])) ≡ g (result a j (y ∷ c ∷ d ∷ []))) (m .1 .1) (k .1 .1)
       (let b = byte live (m .0) in
       let e = byte live (k .0) in
       cell-at (x ∷ b ∷ e ∷ []) (tableStart a j + x * (a .size * a .size) + b * a .size + e * 1) (omega (arith, place-three (a .size) x b e))
-      ∙ h (m .0) (m .1 .0) (k .0) (k .1 .0)
+      ∙ h .each (m .0) (m .1 .0) .each (k .0) (k .1 .0) .joined
       ∙ sym (cell-at (y ∷ b ∷ e ∷ []) (tableStart a j + y * (a .size * a .size) + b * a .size + e * 1) (omega (arith, place-three (a .size) y b e))))
 
   -- from a table to its operation's images, by arity
-  around : (s : ℕ) → s ≤ 3 → JoinsTable (a .size) (a .cells) live count (tableStart a j) s x y g → (pre post : List ℕ) → length pre + 1 + length post ≡ s
+  around : (s : ℕ) → s ≤ 3 → JoinsCells (a .size) (a .cells) live count s (imagesAt a j x y) g → (pre post : List ℕ) → length pre + 1 + length post ≡ s
       → All (Listed live count) pre → All (Listed live count) post → g (result a j (pre ++ (x ∷ post))) ≡ g (result a j (pre ++ (y ∷ post)))
   around zero l h pre post e p q = absurd (omega arith)
   around (suc zero) l h [] [] e p q =
@@ -98,49 +109,61 @@ module _ (a : Algebra) (j : ℕ) (live : List ℕ) (count x y : ℕ) (g : ℕ �
   around (suc (suc (suc zero))) l h (c ∷ d ∷ b ∷ pre) post e p q = absurd (omega arith)
   around (suc (suc (suc (suc s)))) l h pre post e p q = absurd (omega arith)
 
-  pub table-images : getD (a .arities) j 0 ≤ 3 → JoinsTable (a .size) (a .cells) live count (tableStart a j) (getD (a .arities) j 0) x y g → ImagesIn a j (Listed live count) x y g
-  table-images l h pre post e p q = around (getD (a .arities) j 0) l h pre post e p q
+  pub table-images : getD (a .arities) j 0 ≤ 3 → JoinsTable (a .size) (a .cells) live count (getD (a .arities) j 0) (imagesAt a j x y) g → ImagesIn a j (Listed live count) x y g
+  table-images l h pre post e p q = around (getD (a .arities) j 0) l (h .joined) pre post e p q
 
   -- and back
   listed : (i : ℕ) → i < count → Listed live count (byte live i)
   listed i l = (i, (l, refl))
 
-  table-of : (s : ℕ) → s ≤ 3 → s ≡ getD (a .arities) j 0 → ImagesIn a j (Listed live count) x y g → JoinsTable (a .size) (a .cells) live count (tableStart a j) s x y g
+  plane-of : (planes : PlanePair) → ((i : ℕ) → i < count → (k : ℕ) → k < count → g (lineAt (a .cells) (planes .p + byte live i * planes .row) (planes .stride) (byte live k))
+      ≡ g (lineAt (a .cells) (planes .q + byte live i * planes .row) (planes .stride) (byte live k))) → JoinsPlane (a .cells) live count count planes g
+  plane-of planes h = record { each = λ i li. record { each = λ k lk. record { joined = h i li k lk } } }
+
+  table-of : (s : ℕ) → s ≤ 3 → s ≡ getD (a .arities) j 0 → ImagesIn a j (Listed live count) x y g → JoinsCells (a .size) (a .cells) live count s (imagesAt a j x y) g
   table-of zero l e h = tt
   table-of (suc zero) l e h =
       sym (cell-at (x ∷ []) (tableStart a j + x) (omega (arith, place-one (a .size) x))) ∙ h [] [] (omega arith) tt tt
       ∙ cell-at (y ∷ []) (tableStart a j + y) (omega (arith, place-one (a .size) y))
   table-of (suc (suc zero)) l e h = (
-    λ i li. let b = byte live i in
-        sym (cell-at (b ∷ x ∷ []) (tableStart a j + x + b * a .size) (omega (arith, place-two (a .size) b x))) ∙ h (b ∷ []) [] (omega arith) (listed i li, tt) tt
-        ∙ cell-at (b ∷ y ∷ []) (tableStart a j + y + b * a .size) (omega (arith, place-two (a .size) b y)),
-    λ i li. let b = byte live i in
-        sym (cell-at (x ∷ b ∷ []) (tableStart a j + x * a .size + b * 1) (omega (arith, place-two (a .size) x b))) ∙ h [] (b ∷ []) (omega arith) tt (listed i li, tt)
-        ∙ cell-at (y ∷ b ∷ []) (tableStart a j + y * a .size + b * 1) (omega (arith, place-two (a .size) y b)),
+    record {
+      each = λ i li. let b = byte live i in
+          record {
+            joined = sym (cell-at (b ∷ x ∷ []) (tableStart a j + x * 1 + b * a .size) (omega (arith, place-two (a .size) b x))) ∙ h (b ∷ []) [] (omega arith) (listed i li, tt) tt
+                ∙ cell-at (b ∷ y ∷ []) (tableStart a j + y * 1 + b * a .size) (omega (arith, place-two (a .size) b y));
+          };
+    },
+    record {
+      each = λ i li. let b = byte live i in
+          record {
+            joined = sym (cell-at (x ∷ b ∷ []) (tableStart a j + x * a .size + b * 1) (omega (arith, place-two (a .size) x b))) ∙ h [] (b ∷ []) (omega arith) tt (listed i li, tt)
+                ∙ cell-at (y ∷ b ∷ []) (tableStart a j + y * a .size + b * 1) (omega (arith, place-two (a .size) y b));
+          };
+    },
   )
   table-of (suc (suc (suc zero))) l e h = (
-    λ i li k lk. let b = byte live i in
+    plane-of (planesOf (imagesAt a j x y) 1 (a .size * a .size) (a .size)) (λ i li k lk. let b = byte live i in
         let d = byte live k in
-        sym (cell-at (b ∷ d ∷ x ∷ []) (tableStart a j + x + b * (a .size * a .size) + d * a .size) (omega (arith, place-three (a .size) b d x)))
+        sym (cell-at (b ∷ d ∷ x ∷ []) (tableStart a j + x * 1 + b * (a .size * a .size) + d * a .size) (omega (arith, place-three (a .size) b d x)))
         ∙ h (b ∷ d ∷ []) [] (omega arith) (listed i li, (listed k lk, tt)) tt
-        ∙ cell-at (b ∷ d ∷ y ∷ []) (tableStart a j + y + b * (a .size * a .size) + d * a .size) (omega (arith, place-three (a .size) b d y)),
+        ∙ cell-at (b ∷ d ∷ y ∷ []) (tableStart a j + y * 1 + b * (a .size * a .size) + d * a .size) (omega (arith, place-three (a .size) b d y))),
     (
-      λ i li k lk. let b = byte live i in
+      plane-of (planesOf (imagesAt a j x y) (a .size) (a .size * a .size) 1) (λ i li k lk. let b = byte live i in
           let d = byte live k in
           sym (cell-at (b ∷ x ∷ d ∷ []) (tableStart a j + x * a .size + b * (a .size * a .size) + d * 1) (omega (arith, place-three (a .size) b x d)))
           ∙ h (b ∷ []) (d ∷ []) (omega arith) (listed i li, tt) (listed k lk, tt)
-          ∙ cell-at (b ∷ y ∷ d ∷ []) (tableStart a j + y * a .size + b * (a .size * a .size) + d * 1) (omega (arith, place-three (a .size) b y d)),
-      λ i li k lk. let b = byte live i in
+          ∙ cell-at (b ∷ y ∷ d ∷ []) (tableStart a j + y * a .size + b * (a .size * a .size) + d * 1) (omega (arith, place-three (a .size) b y d))),
+      plane-of (planesOf (imagesAt a j x y) (a .size * a .size) (a .size) 1) (λ i li k lk. let b = byte live i in
           let d = byte live k in
           sym (cell-at (x ∷ b ∷ d ∷ []) (tableStart a j + x * (a .size * a .size) + b * a .size + d * 1) (omega (arith, place-three (a .size) x b d)))
           ∙ h [] (b ∷ d ∷ []) (omega arith) tt (listed i li, (listed k lk, tt))
-          ∙ cell-at (y ∷ b ∷ d ∷ []) (tableStart a j + y * (a .size * a .size) + b * a .size + d * 1) (omega (arith, place-three (a .size) y b d)),
+          ∙ cell-at (y ∷ b ∷ d ∷ []) (tableStart a j + y * (a .size * a .size) + b * a .size + d * 1) (omega (arith, place-three (a .size) y b d))),
     ),
   )
   table-of (suc (suc (suc (suc s)))) l e h = absurd (omega arith)
 
-  pub images-table : getD (a .arities) j 0 ≤ 3 → ImagesIn a j (Listed live count) x y g → JoinsTable (a .size) (a .cells) live count (tableStart a j) (getD (a .arities) j 0) x y g
-  images-table l h = table-of (getD (a .arities) j 0) l refl h
+  pub images-table : getD (a .arities) j 0 ≤ 3 → ImagesIn a j (Listed live count) x y g → JoinsTable (a .size) (a .cells) live count (getD (a .arities) j 0) (imagesAt a j x y) g
+  images-table l h = record { joined = table-of (getD (a .arities) j 0) l refl h }
 
 -- ---- results
 
@@ -180,30 +203,49 @@ compatible-whole a ok f z x y lx ly e j lj pre post s p q =
 -- what is compatible joins the images of two elements that it joins
 pub compatible-images : (a : Algebra) {L : ℕ → Type 0} → ((c : ℕ) → L c → c < a .size) → (g : ℕ → ℕ) → Compatible a g → (x y : ℕ) → x < a .size → y < a .size → g x ≡ g y
     → OperationsIn a (length (a .arities)) L x y g
-compatible-images a small g h x y lx ly e j lj pre post s p q =
-    h x y lx ly e j lj pre post s (all-below (a .size) pre (all-map small pre p)) (all-below (a .size) post (all-map small post q))
+compatible-images a small g h x y lx ly e = record {
+  each = λ j lj pre post s p q. h x y lx ly e j lj pre post s (all-below (a .size) pre (all-map small pre p)) (all-below (a .size) post (all-map small post q));
+}
 
 -- ---- the pass over all operations
 
 pub listed-below : {n : ℕ} {cells live : List ℕ} {count : ℕ} → Contexts n cells live count → (c : ℕ) → Listed live count c → c < n
 listed-below {n} k c m = subst (λ (z : ℕ). z < n) (m .1 .1) (k .live-below (m .0) (m .1 .0))
 
-module _ (a : Algebra) (accepted : Accepted a) (live : List ℕ) (count : ℕ) (contexts : Contexts (a .size) (a .cells) live count) (x y : ℕ) (lx : x < a .size) (ly : y < a .size) where
-  ok : WellFormed a
-  ok = accepted-wellFormed a accepted
+-- operation j at its table, wherever the pass has it at o
+pub operation-inside : {n : ℕ} (arities : List ℕ) {cells : List ℕ} {j x y o : ℕ} → Accepted (algebraOf n arities cells) → j < length arities → o ≡ tableStart (algebraOf n arities cells) j → x < n
+    → y < n → TableInside n cells (getD arities j 0) (record { o = o; x = x; y = y })
+operation-inside {n} arities {cells} {j} h l e lx ly =
+    let ok = accepted-wellFormed (algebraOf n arities cells) h in
+    record { left = lx; right = ly; room = omega (arith, ok .filled, start-room n arities j l); most = omega (arith, ok .filled, ok .room) }
 
-  pub operation-fits : (j o : ℕ) → j < length (a .arities) → o ≡ tableStart a j → TableInside (a .size) (a .cells) o (getD (a .arities) j 0) x y
-  operation-fits j o l e = record { left = lx; right = ly; room = omega (arith, ok .filled, start-room (a .size) (a .arities) j l) }
+-- x and y at the first k operations
+abbrev Images : ℕ → List ℕ → List ℕ → List ℕ → ℕ → ℕ → ℕ → ℕ → (ℕ → ℕ) → Type 0
+Images n arities cells live count x y k = OperationsIn (algebraOf n arities cells) k (Listed live count) x y
 
-  pub operation-table : (g : ℕ → ℕ) (j o : ℕ) → j < length (a .arities) → o ≡ tableStart a j → OperationsIn a (length (a .arities)) (Listed live count) x y g
-      → JoinsTable (a .size) (a .cells) live count o (getD (a .arities) j 0) x y g
-  operation-table g j o l e h = rw e (images-table a j live count x y g (ok .arity j l) (h j l))
+module _ {n : ℕ} {refused : List ℕ} {stop : Stop} (arities : List ℕ) {cells live : List ℕ} {count : ℕ} (contexts : Contexts n cells live count) {x y : ℕ} where
+  pub operations-none : {s : QueueState} → Sweeping n stop s → SweptTo n refused stop (Images n arities cells live count x y (length arities)) (Images n arities cells live count x y 0) s s
+  operations-none k = swept-none k (record { each = λ j l. absurd (omega arith) })
 
-  pub operations-more : (f f′ : ℕ → ℕ) (j o : ℕ) → j < length (a .arities) → o ≡ tableStart a j → Within (a .size) f f′
-      → JoinsTable (a .size) (a .cells) live count o (getD (a .arities) j 0) x y f′ → OperationsIn a j (Listed live count) x y f → OperationsIn a (j + 1) (Listed live count) x y f′
-  operations-more f f′ j o l e w t h =
-      each-more (λ (k : ℕ) (g : ℕ → ℕ). ImagesIn a k (Listed live count) x y g) f f′ (λ k lk. images-kept a ok k (Listed live count) x y w) h
-      (table-images a j live count x y f′ (ok .arity j l) (rw e at t))
+  pub operations-more : {j o : ℕ} {s t u : QueueState} → Accepted (algebraOf n arities cells) → j < length arities → o ≡ tableStart (algebraOf n arities cells) j
+      → SweptTo n refused stop (Images n arities cells live count x y (length arities)) (Images n arities cells live count x y j) s t
+      → Swept n refused stop (JoinsTable n cells live count (getD arities j 0) (record { o = o; x = x; y = y })) t u
+      → SweptTo n refused stop (Images n arities cells live count x y (length arities)) (Images n arities cells live count x y (j + 1)) s u
+  operations-more {j} {o} {t = t} {u} h l e a b =
+      let algebra = algebraOf n arities cells in
+      let ok : WellFormed algebra = accepted-wellFormed algebra h in
+      swept-more a b
+      (λ g good w. subst (λ (z : ℕ). JoinsTable n cells live count (getD arities j 0) (record { o = z; x = x; y = y }) g) (sym e) (images-table algebra j live count x y g (ok .arity j l) (good .each j l)))
+      (λ w o d. record {
+        each = each-more (λ (k : ℕ) (g : ℕ → ℕ). ImagesIn algebra k (Listed live count) x y g) (t .map) (u .map) (λ k lk. images-kept algebra ok k (Listed live count) x y w) (o .each)
+            (table-images algebra j live count x y (u .map) (ok .arity j l) (subst (λ (z : ℕ). JoinsTable n cells live count (getD arities j 0) (record { o = z; x = x; y = y }) (u .map)) e d));
+      })
 
-  pub operations-whole : (f : ℕ → ℕ) → ((c : ℕ) → c < a .size → f c ≡ 0) → OperationsIn a (length (a .arities)) (Listed live count) x y f
-  operations-whole f z j l = images-whole a ok j (Listed live count) x y z
+  pub operations-halted : {j : ℕ} {s t : QueueState} {r : Bool} → Accepted (algebraOf n arities cells)
+      → SweptTo n refused stop (Images n arities cells live count x y (length arities)) (Images n arities cells live count x y j) s t → Yes r (Halts stop (t .size) (t .map)) → r ≡ true
+      → Swept n refused stop (Images n arities cells live count x y (length arities)) s t
+  operations-halted h a e says = swept-halted a e says (λ z. record { each = λ j l. images-whole (algebraOf n arities cells) (accepted-wellFormed (algebraOf n arities cells) h) j (Listed live count) x y z })
+
+  pub operations-all : {j : ℕ} {s t : QueueState} → SweptTo n refused stop (Images n arities cells live count x y (length arities)) (Images n arities cells live count x y j) s t
+      → length arities ≤ j → Swept n refused stop (Images n arities cells live count x y (length arities)) s t
+  operations-all a l = swept-as a (λ o. record { each = λ k lk. o .each k (omega arith) })

@@ -1,13 +1,15 @@
 -- Which cells a pass compares: the varied argument is x in one and y in the other, the others are elements still in use, its contexts.
 use Prim.Native.Nat.{ℕ, zero, suc, _+_, _*_, _^_, _≤_, _<_}
 use mathlib.Core.Path.{_≡_}
-use mathlib.Core.Logic.{_⊎_}
 use mathlib.Core.List.{List, [], _∷_, _++_}
 use lib.ListN.{length, getD}
 use Rattle.equivalence.specs.Equivalence.{byte}
-use Rattle.kernel.specs.InnerKernel.{names}
 use Rattle.algebra.specs.Algebra.{Algebra}
+use Rattle.translation.specs.InnerLines.{lineAt, LineInside, PlaneInside}
 use Rattle.translation.specs.InnerTranslations.{result}
+use Rattle.sweep.specs.declared.LinePair.{LinePair}
+use Rattle.sweep.specs.declared.PlanePair.{PlanePair}
+use Rattle.sweep.specs.declared.ImagePair.{ImagePair}
 
 -- every member is in L
 abbrev pub All : (ℕ → Type 0) → List ℕ → Type 0
@@ -21,82 +23,75 @@ ImagesIn a j L x y g =
     → g (result a j (pre ++ (x ∷ post))) ≡ g (result a j (pre ++ (y ∷ post)))
 
 -- the same for the first k operations
-abbrev pub OperationsIn : Algebra → ℕ → (ℕ → Type 0) → ℕ → ℕ → (ℕ → ℕ) → Type 0
-OperationsIn a k L x y g = (j : ℕ) → j < k → ImagesIn a j L x y g
+pub record OperationsIn (a : Algebra) (k : ℕ) (L : ℕ → Type 0) (x y : ℕ) (g : ℕ → ℕ) : Type 0 where
+  pub each : (j : ℕ) → j < k → ImagesIn a j L x y g
 
--- g joins the cells at p and q, each moved by `step` times a listed element
-abbrev pub JoinsLine : List ℕ → List ℕ → ℕ → ℕ → ℕ → ℕ → (ℕ → ℕ) → Type 0
-JoinsLine cells live count step p q g = (i : ℕ) → i < count → g (byte cells (p + byte live i * step)) ≡ g (byte cells (q + byte live i * step))
+-- ---- lines and planes
 
--- the same with two listed elements, `row` times the first and `step` times the second
-abbrev pub JoinsPlane : List ℕ → List ℕ → ℕ → ℕ → ℕ → ℕ → ℕ → (ℕ → ℕ) → Type 0
-JoinsPlane cells live count row step p q g = (i : ℕ) → i < count → JoinsLine cells live count step (p + byte live i * row) (q + byte live i * row) g
+-- g joins the two lines' cells at c
+pub record JoinsAt (cells : List ℕ) (lines : LinePair) (c : ℕ) (g : ℕ → ℕ) : Type 0 where
+  pub joined : g (lineAt cells (lines .p) (lines .stride) c) ≡ g (lineAt cells (lines .q) (lines .stride) c)
 
--- from index i on, up to r, f joins the cells of a line
-pub record Passed (cells live : List ℕ) (count step p q i r : ℕ) (f : ℕ → ℕ) : Type 0 where
+-- g joins them at each of the first k listed elements
+pub record JoinsLine (cells live : List ℕ) (k : ℕ) (lines : LinePair) (g : ℕ → ℕ) : Type 0 where
+  pub each : (i : ℕ) → i < k → JoinsAt cells lines (byte live i) g
+
+-- the lines at c of two planes
+abbrev pub lineOf : PlanePair → ℕ → LinePair
+lineOf planes c = record { p = planes .p + c * planes .row; q = planes .q + c * planes .row; stride = planes .stride }
+
+-- g joins the lines of two planes at each of the first k listed elements
+pub record JoinsPlane (cells live : List ℕ) (count k : ℕ) (planes : PlanePair) (g : ℕ → ℕ) : Type 0 where
+  pub each : (i : ℕ) → i < k → JoinsLine cells live count (lineOf planes (byte live i)) g
+
+-- both lines lie within the cells
+pub record LinesInside (n : ℕ) (cells : List ℕ) (lines : LinePair) : Type 0 where
+  pub left : LineInside n cells (lines .p) (lines .stride)
+  pub right : LineInside n cells (lines .q) (lines .stride)
+
+-- both planes lie within the cells
+pub record PlanesInside (n : ℕ) (cells : List ℕ) (planes : PlanePair) : Type 0 where
+  pub left : PlaneInside n cells (planes .p) (planes .row) (planes .stride)
+  pub right : PlaneInside n cells (planes .q) (planes .row) (planes .stride)
+
+-- from index i on, up to r, f joins the cells of two lines
+pub record Passed (cells live : List ℕ) (count : ℕ) (lines : LinePair) (i r : ℕ) (f : ℕ → ℕ) : Type 0 where
   pub after : i ≤ r
   pub most : r ≤ count
-  pub joined : (k : ℕ) → i ≤ k → k < r → f (byte cells (p + byte live k * step)) ≡ f (byte cells (q + byte live k * step))
+  pub joined : (k : ℕ) → i ≤ k → k < r → JoinsAt cells lines (byte live k) f
 
--- the cells of an operation of arity s whose table is at o
-abbrev pub JoinsTable : ℕ → List ℕ → List ℕ → ℕ → ℕ → ℕ → ℕ → ℕ → (ℕ → ℕ) → Type 0
-JoinsTable n cells live count o zero x y g = Unit {0}
-JoinsTable n cells live count o (suc zero) x y g = g (byte cells (o + x)) ≡ g (byte cells (o + y))
-JoinsTable n cells live count o (suc (suc zero)) x y g = JoinsLine cells live count n (o + x) (o + y) g × JoinsLine cells live count 1 (o + x * n) (o + y * n) g
-JoinsTable n cells live count o (suc (suc (suc s))) x y g =
-    JoinsPlane cells live count (n * n) n (o + x) (o + y) g
-    × (JoinsPlane cells live count (n * n) 1 (o + x * n) (o + y * n) g × JoinsPlane cells live count n 1 (o + x * (n * n)) (o + y * (n * n)) g)
+-- ---- tables
+
+-- the lines of a table on which the compared argument counts `scale`
+abbrev pub linesOf : ImagePair → ℕ → ℕ → LinePair
+linesOf images scale stride = record { p = images .o + images .x * scale; q = images .o + images .y * scale; stride = stride }
+
+-- its planes
+abbrev pub planesOf : ImagePair → ℕ → ℕ → ℕ → PlanePair
+planesOf images scale row stride = record { p = images .o + images .x * scale; q = images .o + images .y * scale; row = row; stride = stride }
+
+-- g joins the cells of an operation of arity s: all, of one line in each direction, of one plane in each
+abbrev pub JoinsCells : ℕ → List ℕ → List ℕ → ℕ → ℕ → ImagePair → (ℕ → ℕ) → Type 0
+JoinsCells n cells live count zero images g = Unit {0}
+JoinsCells n cells live count (suc zero) images g = g (byte cells (images .o + images .x)) ≡ g (byte cells (images .o + images .y))
+JoinsCells n cells live count (suc (suc zero)) images g = JoinsLine cells live count (linesOf images 1 n) g × JoinsLine cells live count (linesOf images n 1) g
+JoinsCells n cells live count (suc (suc (suc s))) images g =
+    JoinsPlane cells live count count (planesOf images 1 (n * n) n) g
+    × (JoinsPlane cells live count count (planesOf images n (n * n) 1) g × JoinsPlane cells live count count (planesOf images (n * n) n 1) g)
+
+pub record JoinsTable (n : ℕ) (cells live : List ℕ) (count s : ℕ) (images : ImagePair) (g : ℕ → ℕ) : Type 0 where
+  pub joined : JoinsCells n cells live count s images g
+
+-- the table of an operation of arity s lies within the cells, and x and y are elements
+pub record TableInside (n : ℕ) (cells : List ℕ) (s : ℕ) (images : ImagePair) : Type 0 where
+  pub left : images .x < n
+  pub right : images .y < n
+  pub room : images .o + n ^ s ≤ length cells
+  pub most : length cells ≤ 32768
 
 -- the cells are elements, and so are the listed ones
 pub record Contexts (n : ℕ) (cells live : List ℕ) (count : ℕ) : Type 0 where
-  pub size : n ≤ 64
   pub cells-most : length cells ≤ 32768
   pub cells-below : (i : ℕ) → i < length cells → byte cells i < n
   pub live-room : count ≤ length live
   pub live-below : (i : ℕ) → i < count → byte live i < n
-
--- the line of p lies within the cells
-pub record LineInside (n : ℕ) (cells : List ℕ) (step p : ℕ) : Type 0 where
-  pub inside : (c : ℕ) → c < n → p + c * step < length cells
-
--- the plane of p lies within the cells
-pub record PlaneInside (n : ℕ) (cells : List ℕ) (row step p : ℕ) : Type 0 where
-  pub lines : (c : ℕ) → c < n → LineInside n cells step (p + c * row)
-
--- the table at o of an operation of arity s lies within the cells, and x and y are elements
-pub record TableInside (n : ℕ) (cells : List ℕ) (o s x y : ℕ) : Type 0 where
-  pub left : x < n
-  pub right : y < n
-  pub room : o + n ^ s ≤ length cells
-
--- v and w are two, and f joins them
-pub record TwoJoined (v w : ℕ) (f : ℕ → ℕ) : Type 0 where
-  pub two : v ≡ w → ⊥
-  pub one : f v ≡ f w
-
--- f has the property unless it joins v and w
-abbrev pub Unless : ℕ → ℕ → ((ℕ → ℕ) → Type 0) → (ℕ → ℕ) → Type 0
-Unless v w P f = (TwoJoined v w f → ⊥) → P f
-
--- nothing more is to be done: after `limit` merges one block is left, or v and w are joined
-abbrev pub Halts : ℕ → ℕ → ℕ → ℕ → (ℕ → ℕ) → Type 0
-Halts limit len v w f = (limit ≤ len) ⊎ TwoJoined v w f
-
--- after `limit` merges in all one block is left; v and w are elements
-pub record Bounded (n limit len v w : ℕ) (f : ℕ → ℕ) : Type 0 where
-  pub left : v < n
-  pub right : w < n
-  pub blocks : len + names n f ≡ limit + 1
-
--- a table of refused pairs, with rows of 64, has the pair p, q
-abbrev pub PairRefused : List ℕ → ℕ → ℕ → Type 0
-PairRefused table p q = byte table (p * 64 + q) ≡ 0 → ⊥
-
--- g joins v and w where it joins a refused pair
-abbrev pub RefusedRightly : ℕ → List ℕ → ℕ → ℕ → (ℕ → ℕ) → Type 0
-RefusedRightly n table v w g = (p q : ℕ) → p < n → q < n → PairRefused table p q → g p ≡ g q → g v ≡ g w
-
--- v and w are two, and the names of a and b in f are refused, in one order or the other
-pub record NamesRefused (table : List ℕ) (v w a b : ℕ) (f : ℕ → ℕ) : Type 0 where
-  pub two : v ≡ w → ⊥
-  pub refused : PairRefused table (f a) (f b) ⊎ PairRefused table (f b) (f a)

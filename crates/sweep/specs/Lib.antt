@@ -1,2 +1,3 @@
 pub mod InnerQueue
 pub mod InnerContexts
+pub mod InnerSweeps

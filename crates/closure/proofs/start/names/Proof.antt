@@ -38,7 +38,10 @@ loop-less : tie.Need-loop-less Inv-loop μ-loop
 loop-less c = omega arith
 
 loop-again : tie.Need-loop-again Inv-loop μ-loop
-loop-again c = (omega arith, c .before .before .push .kept .0 ∙ c .before .before .before .before .before .before .loop .inv .1, collected-more (λ z. eqb (byte (c .before .before .before .before .before .before .before .before .before .args .m .now) z) z) (c .before .before .before .before .before .before .loop .inv .2) (c .before .before .push .ensures))
+loop-again c =
+    let at-loop = c .before .before .before .before .before .before in
+    let start = at-loop .before .before .before in
+    (omega arith, c .before .before .push .kept .0 ∙ at-loop .loop .inv .1, collected-more (λ z. eqb (byte (start .args .m .now) z) z) (at-loop .loop .inv .2) (c .before .before .push .ensures))
 
 same-length : tie.Need-same-length Inv-loop μ-loop
 same-length c = omega arith

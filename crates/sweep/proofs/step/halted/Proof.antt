@@ -1,19 +1,14 @@
--- `halted`: each way to true is one of the two reasons to stop.
-use Prim.Native.Nat.{ℕ}
-use mathlib.Core.Path.{_≡_}
-use mathlib.Core.Logic.{inl, inr}
-use native.Mathlib.Omega.{arith}
+-- `halted`: each way to yes is one of the two reasons to stop.
+use Rattle.sweep.proofs.Sweeps.{yes-not, halted-limit, halted-joined}
 use borrow.Author.Needs.{needs}
-use borrow.Author.Tests.{eqb-true}
-use Rattle.equivalence.proofs.Tests.{left}
 use Rattle.sweep.proofs.step.halted.Statement.{statement}
 use Rattle.sweep.proofs.step.halted.Tie as tie
 
 returns : tie.Need-returns
-returns c = λ e. inl (c .if1 .taken)
+returns c = search halted-limit
 
 returns-2 : tie.Need-returns-2
-returns-2 c = λ e. let z : _≡_ {A = ℕ} 0 1 = cc in absurd (omega arith)
+returns-2 c = yes-not
 
 shared-slice-read-result : tie.Need-shared-slice-read-result
 shared-slice-read-result c = search needs
@@ -22,7 +17,7 @@ shared-slice-read-result-2 : tie.Need-shared-slice-read-result-2
 shared-slice-read-result-2 c = search needs
 
 returns-3 : tie.Need-returns-3
-returns-3 c = λ e. inr (record { two = c .before .before .if2 .left; one = eqb-true _ _ e })
+returns-3 c = halted-joined (c .before .before .if2 .left)
 
 pub halted-spec : {M : Type 1} → statement M
 halted-spec =

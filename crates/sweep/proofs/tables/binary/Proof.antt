@@ -1,98 +1,60 @@
--- `binary`: the two lines of a table, one after the other, unless the first ends the work.
-use native.Mathlib.Omega.{arith}
-use Rattle.sweep.proofs.Queues.{grown-more, grown-first, ready-grown}
-use Rattle.sweep.proofs.Sweeps.{line-kept, line-whole, halted-unless, joined-kept, bounded-grown, binary-fits, binary-place}
-use Rattle.sweep.specs.InnerContexts.{JoinsTable}
-use Rattle.equivalence.proofs.Tests.{left, right}
+-- `binary`: the lines in the two directions, one after the other.
+use Rattle.sweep.proofs.Sweeps.{last-fits, first-fits, last-inside, first-inside, binary-halted, binary-swept}
+use borrow.Author.Needs.{needs}
 use Rattle.sweep.proofs.tables.binary.Statement.{statement}
 use Rattle.sweep.proofs.tables.binary.Tie as tie
 
-add-p : tie.Need-add-p
-add-p c = omega (arith, binary-place (c .before .before .before .before .before .pre .1 .1 .1), c .before .before .before .before .before .pre .1 .1 .1 .left, c .before .before .before .before .before .pre .1 .1 .0 .size, c .before .before .before .before .before .pre .1 .1 .0 .cells-most)
-
-add-q : tie.Need-add-q
-add-q c = omega (arith, binary-place (c .before .before .before .before .before .pre .1 .1 .1), c .before .before .before .before .before .pre .1 .1 .1 .right, c .before .before .before .before .before .pre .1 .1 .0 .size, c .before .before .before .before .before .pre .1 .1 .0 .cells-most)
+lines-of-requires : tie.Need-lines-of-requires
+lines-of-requires c κs = search last-fits
 
 line-requires : tie.Need-line-requires
-line-requires c κs =
-    let p = c .before .before .before .before .before .before .before .pre in
-    let fits = binary-fits (p .1 .1 .1) in
-    (p .0, (p .1 .0, (p .1 .1 .0, (fits .0 .0, fits .0 .1))))
+line-requires c κs = (search, (search, search last-inside))
 
 halted-requires : tie.Need-halted-requires
-halted-requires c κs =
-    let p = c .before .before .before .before .before .before .before .before .before .before .before .before .before .pre in
-    let l = c .before .before .before .before .before .line in
-    (omega (arith, p .1 .0 .left, p .0 .map-room, l .kept .0), omega (arith, p .1 .0 .right, p .0 .map-room, l .kept .0))
+halted-requires c κs = search needs
 
 same-length : tie.Need-same-length
-same-length c = omega arith
+same-length c = search needs
 
 same-length-2 : tie.Need-same-length-2
-same-length-2 c = omega arith
+same-length-2 c = search needs
 
 returns : tie.Need-returns
-returns c =
-    let s = c .before .before .before .before .before .before .before .before .before .before .before .before .before .before .before in
-    let p = s .pre in
-    let x = p .1 .1 .0 in
-    let d = c .before .before .before .before .before .before .before .line .ensures .0 in
-    let fits = binary-fits (p .1 .1 .1) in (
-      grown-first (λ g good h. (good .0 .0, good .1)) d,
-      halted-unless (JoinsTable (s .args .n) (s .args .cells .now) (s .args .live .now) (s .args .count) (s .args .o) 2 (s .args .x) (s .args .y)) (d .queued .canonical) (bounded-grown (p .1 .0) d)
-          (λ e. (line-whole x (fits .0 .0) (fits .0 .1) e, line-whole x (fits .1 .0) (fits .1 .1) e)) (c .before .halted .ensures (c .if1 .taken)),
-    )
+returns c = search binary-halted
 
-mul-line : tie.Need-mul-line
-mul-line c = omega (arith, binary-place (c .before .before .before .before .before .before .before .before .before .before .before .before .before .before .before .before .before .pre .1 .1 .1), c .before .before .before .before .before .before .before .before .before .before .before .before .before .before .before .before .before .pre .1 .1 .0 .cells-most)
-
-add-line : tie.Need-add-line
-add-line c = omega (arith, binary-place (c .before .before .before .before .before .before .before .before .before .before .before .before .before .before .before .before .before .pre .1 .1 .1), c .before .before .before .before .before .before .before .before .before .before .before .before .before .before .before .before .before .pre .1 .1 .0 .cells-most)
-
-mul-line-2 : tie.Need-mul-line-2
-mul-line-2 c = omega (arith, binary-place (c .before .before .before .before .before .before .before .before .before .before .before .before .before .before .before .before .before .pre .1 .1 .1), c .before .before .before .before .before .before .before .before .before .before .before .before .before .before .before .before .before .pre .1 .1 .0 .cells-most)
-
-add-line-2 : tie.Need-add-line-2
-add-line-2 c = omega (arith, binary-place (c .before .before .before .before .before .before .before .before .before .before .before .before .before .before .before .before .before .pre .1 .1 .1), c .before .before .before .before .before .before .before .before .before .before .before .before .before .before .before .before .before .pre .1 .1 .0 .cells-most)
+lines-of-requires-2 : tie.Need-lines-of-requires-2
+lines-of-requires-2 c κs = search first-fits
 
 line-requires-2 : tie.Need-line-requires-2
-line-requires-2 c κs =
-    let p = c .before .before .before .before .before .before .before .before .before .before .before .before .before .before .before .before .before .pre in
-    let l = c .before .before .before .before .before .before .before .before .before .line in
-    let fits = binary-fits (p .1 .1 .1) in
-    (ready-grown (p .0) (l .kept .0) (l .kept .1 .1 .0) (l .ensures .0), (bounded-grown (p .1 .0) (l .ensures .0), (p .1 .1 .0, (fits .1 .0, fits .1 .1))))
+line-requires-2 c κs = let p = c .before .before .before .before .before .before .before .before .before .before .before .before .before .before .before .before .before .before .before .pre in (search, (p .1 .0, first-inside (p .1 .1) (search)))
 
 same-length-3 : tie.Need-same-length-3
-same-length-3 c = omega arith
+same-length-3 c = search needs
 
 same-length-4 : tie.Need-same-length-4
-same-length-4 c = omega arith
+same-length-4 c = search needs
 
 returns-2 : tie.Need-returns-2
 returns-2 c =
-    let p = c .before .before .before .before .before .before .before .before .before .before .before .before .before .before .before .before .before .before .before .before .before .before .pre in
-    let fits = binary-fits (p .1 .1 .1) in
-    let first = c .before .before .before .before .before .before .before .before .before .before .before .before .before .before .line .ensures in
-    let second = c .before .before .before .before .line2 .ensures in (
-      grown-more (λ g good h. (good .0 .1, good .1)) (grown-first (λ g good h. (good .0 .0, good .1)) (first .0)) (second .0),
-      λ u. (line-kept (p .1 .1 .0) (fits .0 .0) (fits .0 .1) (second .0 .within) (omega arith) (first .1 (joined-kept (p .1 .0 .left) (p .1 .0 .right) (second .0 .within) u)), second .1 u),
-    )
+    let at-line2 = c .before .before .before .before in
+    let at-lines-of2 = at-line2 .before .before .before in
+    let at-line = at-lines-of2 .before .before .before .before .before .before .before .before in
+    let at-lines-of = at-line .before .before .before in
+    let start = at-lines-of .before .before .before .before .before .before in
+    let p = start .pre in
+    binary-swept (p .1 .0) (p .1 .1) (at-lines-of .lines-of .ensures) (at-lines-of2 .lines-of2 .ensures) (at-line .line .ensures) (at-line2 .line2 .ensures)
 
 pub binary-spec : {M : Type 1} → statement M
 binary-spec =
     tie.close
     (tie.spec
-    add-p
-    add-q
+    lines-of-requires
     line-requires
     halted-requires
     same-length
     same-length-2
     returns
-    mul-line
-    add-line
-    mul-line-2
-    add-line-2
+    lines-of-requires-2
     line-requires-2
     same-length-3
     same-length-4

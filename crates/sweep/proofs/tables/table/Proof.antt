@@ -1,70 +1,64 @@
--- `table`: the arity decides which lines or planes there are.
-use Prim.Native.Nat.{ℕ}
-use mathlib.Core.Path.{_≡_, subst}
+-- `table`: by arity.
+use mathlib.Core.Path.{_≡_}
+use Rattle.sweep.proofs.Sweeps.{table-as, unary-left, unary-right, swept-arity, nullary-swept, unary-swept}
+use borrow.Author.Needs.{needs}
 use native.Mathlib.Omega.{arith}
-use Rattle.algebra.proofs.Congruences.{cells-below}
-use Rattle.sweep.proofs.Queues.{grown-none}
-use Rattle.sweep.proofs.Sweeps.{unary-fits}
-use Rattle.sweep.specs.InnerContexts.{TableInside}
-use Rattle.equivalence.proofs.Tests.{left}
 use Rattle.sweep.proofs.tables.table.Statement.{statement}
 use Rattle.sweep.proofs.tables.table.Tie as tie
 
 ternary-requires : tie.Need-ternary-requires
-ternary-requires c κs = (c .before .before .before .before .before .before .before .before .pre .0, (c .before .before .before .before .before .before .before .before .pre .1 .0, (c .before .before .before .before .before .before .before .before .pre .1 .1 .0, subst (λ (s : ℕ). TableInside (c .before .before .before .before .before .before .before .before .args .n) (c .before .before .before .before .before .before .before .before .args .cells .now) (c .before .before .before .before .before .before .before .before .args .o) s (c .before .before .before .before .before .before .before .before .args .x) (c .before .before .before .before .before .before .before .before .args .y)) (c .before .before .if1 .taken) (c .before .before .before .before .before .before .before .before .pre .1 .1 .1 .1))))
+ternary-requires c κs = (search, (search, search table-as))
 
 same-length : tie.Need-same-length
-same-length c = omega arith
+same-length c = search needs
 
 same-length-2 : tie.Need-same-length-2
-same-length-2 c = omega arith
+same-length-2 c = search needs
 
 returns : tie.Need-returns
-returns c = rw (c .before .before .before .before .before .before .before .if1 .taken) (c .before .before .before .before .ternary .ensures .0, c .before .before .before .before .ternary .ensures .1)
+returns c = search swept-arity
 
 binary-requires : tie.Need-binary-requires
-binary-requires c κs = (c .before .before .before .before .before .before .before .before .before .pre .0, (c .before .before .before .before .before .before .before .before .before .pre .1 .0, (c .before .before .before .before .before .before .before .before .before .pre .1 .1 .0, subst (λ (s : ℕ). TableInside (c .before .before .before .before .before .before .before .before .before .args .n) (c .before .before .before .before .before .before .before .before .before .args .cells .now) (c .before .before .before .before .before .before .before .before .before .args .o) s (c .before .before .before .before .before .before .before .before .before .args .x) (c .before .before .before .before .before .before .before .before .before .args .y)) (c .before .before .if2 .taken) (c .before .before .before .before .before .before .before .before .before .pre .1 .1 .1 .1))))
+binary-requires c κs = (search, (search, search table-as))
 
 same-length-3 : tie.Need-same-length-3
-same-length-3 c = omega arith
+same-length-3 c = search needs
 
 same-length-4 : tie.Need-same-length-4
-same-length-4 c = omega arith
+same-length-4 c = search needs
 
 returns-2 : tie.Need-returns-2
-returns-2 c = rw (c .before .before .before .before .before .before .before .if2 .taken) (c .before .before .before .before .binary .ensures .0, c .before .before .before .before .binary .ensures .1)
+returns-2 c = search swept-arity
 
-add-step : tie.Need-add-step
-add-step c = omega (arith, unary-fits (subst (λ (s : ℕ). TableInside (c .before .before .before .before .before .before .before .before .before .before .args .n) (c .before .before .before .before .before .before .before .before .before .before .args .cells .now) (c .before .before .before .before .before .before .before .before .before .before .args .o) s (c .before .before .before .before .before .before .before .before .before .before .args .x) (c .before .before .before .before .before .before .before .before .before .before .args .y)) (c .before .before .if3 .taken) (c .before .before .before .before .before .before .before .before .before .before .pre .1 .1 .1 .1)), c .before .before .before .before .before .before .before .before .before .before .pre .1 .1 .0 .cells-most)
+add-a : tie.Need-add-a
+add-a c = search needs
 
-shared-slice-read-step : tie.Need-shared-slice-read-step
-shared-slice-read-step c = omega (arith, unary-fits (subst (λ (s : ℕ). TableInside (c .before .before .before .before .before .before .before .before .before .before .before .args .n) (c .before .before .before .before .before .before .before .before .before .before .before .args .cells .now) (c .before .before .before .before .before .before .before .before .before .before .before .args .o) s (c .before .before .before .before .before .before .before .before .before .before .before .args .x) (c .before .before .before .before .before .before .before .before .before .before .before .args .y)) (c .before .before .before .if3 .taken) (c .before .before .before .before .before .before .before .before .before .before .before .pre .1 .1 .1 .1)))
+shared-slice-read-a : tie.Need-shared-slice-read-a
+shared-slice-read-a c = search unary-left
 
-add-step-2 : tie.Need-add-step-2
-add-step-2 c = omega (arith, unary-fits (subst (λ (s : ℕ). TableInside (c .before .before .before .before .before .before .before .before .before .before .before .args .n) (c .before .before .before .before .before .before .before .before .before .before .before .args .cells .now) (c .before .before .before .before .before .before .before .before .before .before .before .args .o) s (c .before .before .before .before .before .before .before .before .before .before .before .args .x) (c .before .before .before .before .before .before .before .before .before .before .before .args .y)) (c .before .before .before .if3 .taken) (c .before .before .before .before .before .before .before .before .before .before .before .pre .1 .1 .1 .1)), c .before .before .before .before .before .before .before .before .before .before .before .pre .1 .1 .0 .cells-most)
+add-b : tie.Need-add-b
+add-b c = search needs
 
-shared-slice-read-step-2 : tie.Need-shared-slice-read-step-2
-shared-slice-read-step-2 c = omega (arith, unary-fits (subst (λ (s : ℕ). TableInside (c .before .before .before .before .before .before .before .before .before .before .before .before .args .n) (c .before .before .before .before .before .before .before .before .before .before .before .before .args .cells .now) (c .before .before .before .before .before .before .before .before .before .before .before .before .args .o) s (c .before .before .before .before .before .before .before .before .before .before .before .before .args .x) (c .before .before .before .before .before .before .before .before .before .before .before .before .args .y)) (c .before .before .before .before .if3 .taken) (c .before .before .before .before .before .before .before .before .before .before .before .before .pre .1 .1 .1 .1)))
+shared-slice-read-b : tie.Need-shared-slice-read-b
+shared-slice-read-b c = search unary-right
 
 step-requires : tie.Need-step-requires
 step-requires c κs =
-    let fits = unary-fits (subst (λ (s : ℕ). TableInside (c .before .before .before .before .before .before .before .before .before .before .before .before .args .n) (c .before .before .before .before .before .before .before .before .before .before .before .before .args .cells .now) (c .before .before .before .before .before .before .before .before .before .before .before .before .args .o) s (c .before .before .before .before .before .before .before .before .before .before .before .before .args .x) (c .before .before .before .before .before .before .before .before .before .before .before .before .args .y)) (c .before .before .before .before .if3 .taken) (c .before .before .before .before .before .before .before .before .before .before .before .before .pre .1 .1 .1 .1)) in
-    let p = c .before .before .before .before .before .before .before .before .before .before .before .before .pre in
-    (p .0, (p .1 .1 .0 .size, (p .1 .1 .0 .cells-below _ (fits .0), (p .1 .1 .0 .cells-below _ (fits .1), (p .1 .0 .left, p .1 .0 .right)))))
+    let p = c .before .before .before .before .before .before .before .before .before .before .before .before .before .before .pre in
+    let e = c .before .before .before .before .before .before .if3 .taken in
+    (p .0, (p .1 .0 .cells-below _ (unary-left e (p .1 .1 .0)), p .1 .0 .cells-below _ (unary-right e (p .1 .1 .0))))
 
 same-length-5 : tie.Need-same-length-5
-same-length-5 c = omega arith
+same-length-5 c = search needs
 
 same-length-6 : tie.Need-same-length-6
-same-length-6 c = omega arith
+same-length-6 c = search needs
 
 returns-3 : tie.Need-returns-3
-returns-3 c = rw (c .before .before .before .before .before .before .before .before .before .if3 .taken) (c .before .before .before .before .step .ensures .0, c .before .before .before .before .step .ensures .1)
+returns-3 c = search unary-swept
 
 returns-4 : tie.Need-returns-4
-returns-4 c =
-    let e : c .before .before .before .before .before .before .before .before .args .s ≡ 0 = omega (arith, c .before .before .if1 .left, c .before .if2 .left, c .if3 .left, c .before .before .before .before .before .before .before .before .pre .1 .1 .1 .0) in
-    rw e (grown-none _ (c .before .before .before .before .before .before .before .before .pre .0 .queued), λ u. tt)
+returns-4 c = let e : c .before .before .before .before .before .before .before .before .args .s ≡ 0 = omega arith in search nullary-swept
 
 pub table-spec : {M : Type 1} → statement M
 table-spec =
@@ -78,10 +72,10 @@ table-spec =
     same-length-3
     same-length-4
     returns-2
-    add-step
-    shared-slice-read-step
-    add-step-2
-    shared-slice-read-step-2
+    add-a
+    shared-slice-read-a
+    add-b
+    shared-slice-read-b
     step-requires
     same-length-5
     same-length-6
