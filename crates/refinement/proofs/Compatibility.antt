@@ -10,40 +10,41 @@ use lib.ListN.{length, getD}
 use Rattle.equivalence.specs.Equivalence.{Map, byte}
 use Rattle.kernel.specs.InnerKernel.{Canonical, Within, Listed}
 use Rattle.algebra.specs.Algebra.{Algebra, place}
+use Rattle.translation.specs.InnerLines.{lineAt}
 use Rattle.translation.specs.InnerTranslations.{AllBelow, tableStart, result, Compatible}
 use Rattle.algebra.proofs.Accepted.{WellFormed}
 use Rattle.algebra.proofs.Congruences.{cells-below}
 use Rattle.algebra.proofs.Tables.{start-room}
 use Rattle.translation.proofs.Places.{place-one, place-two, place-three}
 use Rattle.translation.proofs.Translations.{result-below}
-use Rattle.refinement.specs.InnerSplitting.{lineAt, Keeps, KeepsOn, Any, Chosen, Table, MapLent, Represented}
+use Rattle.refinement.specs.InnerSplitting.{Keeps, KeepsOn, Any, Chosen, Table, MapLent, Represented}
 use Rattle.refinement.proofs.Splits.{keeps-by-first}
 use Rattle.kernel.proofs.Names.{name-back}
 
 -- ---- results as cells of a line
 
 module _ (a : Algebra) (j : ℕ) where
-  cell : (xs : List ℕ) (k : ℕ) → tableStart a j + place (a .size) xs ≡ k → result a j xs ≡ getD (a .cells) k 0
+  pub result-cell : (xs : List ℕ) (k : ℕ) → tableStart a j + place (a .size) xs ≡ k → result a j xs ≡ getD (a .cells) k 0
   unfolding result
-  cell xs k e = ap (λ (z : ℕ). getD (a .cells) z 0) e
+  result-cell xs k e = ap (λ (z : ℕ). getD (a .cells) z 0) e
 
   one-first : (x : ℕ) → result a j (x ∷ []) ≡ lineAt (a .cells) (tableStart a j) 1 x
-  one-first x = cell (x ∷ []) _ (omega (arith, place-one (a .size) x))
+  one-first x = result-cell (x ∷ []) _ (omega (arith, place-one (a .size) x))
 
   two-first : (x u : ℕ) → result a j (x ∷ u ∷ []) ≡ lineAt (a .cells) (tableStart a j + u * 1) (a .size) x
-  two-first x u = cell (x ∷ u ∷ []) _ (omega (arith, place-two (a .size) x u))
+  two-first x u = result-cell (x ∷ u ∷ []) _ (omega (arith, place-two (a .size) x u))
 
   two-second : (p x : ℕ) → result a j (p ∷ x ∷ []) ≡ lineAt (a .cells) (tableStart a j + p * a .size) 1 x
-  two-second p x = cell (p ∷ x ∷ []) _ (omega (arith, place-two (a .size) p x))
+  two-second p x = result-cell (p ∷ x ∷ []) _ (omega (arith, place-two (a .size) p x))
 
   three-first : (x u v : ℕ) → result a j (x ∷ u ∷ v ∷ []) ≡ lineAt (a .cells) (tableStart a j + u * a .size + v * 1) (a .size * a .size) x
-  three-first x u v = cell (x ∷ u ∷ v ∷ []) _ (omega (arith, place-three (a .size) x u v))
+  three-first x u v = result-cell (x ∷ u ∷ v ∷ []) _ (omega (arith, place-three (a .size) x u v))
 
   three-second : (p x v : ℕ) → result a j (p ∷ x ∷ v ∷ []) ≡ lineAt (a .cells) (tableStart a j + p * (a .size * a .size) + v * 1) (a .size) x
-  three-second p x v = cell (p ∷ x ∷ v ∷ []) _ (omega (arith, place-three (a .size) p x v))
+  three-second p x v = result-cell (p ∷ x ∷ v ∷ []) _ (omega (arith, place-three (a .size) p x v))
 
   three-third : (p q x : ℕ) → result a j (p ∷ q ∷ x ∷ []) ≡ lineAt (a .cells) (tableStart a j + p * (a .size * a .size) + q * a .size) 1 x
-  three-third p q x = cell (p ∷ q ∷ x ∷ []) _ (omega (arith, place-three (a .size) p q x))
+  three-third p q x = result-cell (p ∷ q ∷ x ∷ []) _ (omega (arith, place-three (a .size) p q x))
 
 -- g joins two results where it joins the cells that they are
 same-cells : (g : ℕ → ℕ) {r s c d : ℕ} → r ≡ c → s ≡ d → g c ≡ g d → g r ≡ g s
@@ -250,6 +251,15 @@ represented-again s h = record { elements = s .elements; name = s .name; canonic
 -- each table lies within the cells
 pub table-room : (a : Algebra) → WellFormed a → (j : ℕ) → j < length (a .arities) → tableStart a j + a .size ^ getD (a .arities) j 0 ≤ length (a .cells)
 table-room a w j l = omega (arith, start-room (a .size) (a .arities) j l, w .filled)
+
+-- what holds in a turn of the walk over the tables: the next one is there
+pub record TableThere (n arity base size : ℕ) : Type 0 where
+  pub small : n ≤ 64
+  pub most : arity ≤ 3
+  pub room : base + n ^ arity ≤ size
+
+pub table-there : (a : Algebra) (j base : ℕ) → WellFormed a → j < length (a .arities) → base ≡ tableStart a j → TableThere (a .size) (getD (a .arities) j 0) base (length (a .cells))
+table-there a j base w l e = record { small = w .most; most = w .arity j l; room = omega (arith, table-room a w j l) }
 
 -- what is lent to the walk over an accepted algebra
 pub accepted-lent : (a : Algebra) → WellFormed a → (m : Map) → a .size ≤ length m → Canonical (a .size) (byte m) → MapLent (a .size) m (a .cells)

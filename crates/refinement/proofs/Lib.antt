@@ -1,6 +1,7 @@
 pub mod Splits
 pub mod Seeing
 pub mod Sifting
+pub mod Rows
 pub mod Tables
 pub mod Compatibility
 pub mod Refinements

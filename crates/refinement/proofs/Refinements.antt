@@ -1,21 +1,15 @@
--- Passes over all lines, until one splits nothing: the map is then the greatest congruence inside the first one. And the test whether a
--- map is a congruence.
+-- Passes over all lines, until one splits nothing: the map is then the greatest congruence inside the first one.
 use Prim.Native.Nat.{ℕ, _≤_, _<_}
-use mathlib.Core.Bool.{Bool, true, false}
 use mathlib.Core.List.{List, _∷_, _++_}
 use mathlib.Core.Path.{_≡_, refl, sym, ap, _∙_}
 use native.Mathlib.Omega.{arith}
-use lib.Dec.{T}
 use lib.ListN.{length}
-use Rattle.equivalence.specs.Equivalence.{Map, byte, isMap, inside}
+use Rattle.equivalence.specs.Equivalence.{Map, byte}
 use Rattle.kernel.specs.InnerKernel.{Canonical, names}
-use Rattle.equivalence.proofs.Maps.{of-isMap, inside-of, of-inside}
 use Rattle.algebra.specs.Algebra.{Algebra}
-use Rattle.algebra.specs.Congruence.{isCongruence}
 use Rattle.translation.specs.InnerTranslations.{result, Compatible, Refined}
 use Rattle.algebra.proofs.Accepted.{WellFormed}
-use Rattle.algebra.proofs.Congruences.{congruence-is, congruence-of}
-use Rattle.translation.proofs.Translations.{congruence-compatible, compatible-congruence, identity-compatible}
+use Rattle.translation.proofs.Translations.{identity-compatible}
 use Rattle.refinement.specs.InnerSplitting.{Elements, Sifted, Lists, Split, Represented}
 use Rattle.kernel.proofs.Names.{names-one}
 use Rattle.translation.proofs.Translations.{result-below}
@@ -33,6 +27,10 @@ split-refined a s c = record { canonical = s .canonical; compatible = c; within 
 -- a single block is its own refinement
 pub whole-refined : (a : Algebra) → WellFormed a → (f : ℕ → ℕ) → Canonical (a .size) f → names (a .size) f ≡ 1 → Refined a f f
 whole-refined a w f c e = record { canonical = c; compatible = whole-compatible a w f c e; within = λ x y lx ly p. p; greatest = λ g k h. h }
+
+-- so is every map where there are no operations
+pub bare-refined : (a : Algebra) (f : ℕ → ℕ) → Canonical (a .size) f → length (a .arities) ≡ 0 → Refined a f f
+bare-refined a f c e = record { canonical = c; compatible = λ x y lx ly p j l. absurd (omega arith); within = λ x y lx ly p. p; greatest = λ g k h. h }
 
 -- ---- the lists that a refinement begins with
 
@@ -72,33 +70,3 @@ compatible-same a w f g e c x y lx ly p j l pre post s b d =
     e (result a j (pre ++ (x ∷ post))) (result-below a w j (pre ++ (x ∷ post)))
     ∙ c x y lx ly (sym (e x lx) ∙ p ∙ e y ly) j l pre post s b d
     ∙ sym (e (result a j (pre ++ (y ∷ post))) (result-below a w j (pre ++ (y ∷ post))))
-
--- ---- the test
-
-same-tests : (r t : Bool) → (T r → T t) → (T t → T r) → r ≡ t
-same-tests true true f g = refl
-same-tests true false f g = absurd (f tt)
-same-tests false true f g = absurd (g tt)
-same-tests false false f g = refl
-
--- a map inside its refinement is compatible
-inside-compatible : (a : Algebra) → WellFormed a → (f e : ℕ → ℕ) → Refined a f e → ((x y : ℕ) → x < a .size → y < a .size → f x ≡ f y → e x ≡ e y) → Compatible a f
-inside-compatible a w f e r h x y lx ly p j l pre post s b d =
-    r .within (result a j (pre ++ (x ∷ post))) (result a j (pre ++ (y ∷ post))) (result-below a w j (pre ++ (x ∷ post))) (result-below a w j (pre ++ (y ∷ post)))
-    (r .compatible x y lx ly (h x y lx ly p) j l pre post s b d)
-
--- the refinement k of a copy f of a map m holds all pairs of m just where m is a congruence
-pub inside-congruence : (a : Algebra) → WellFormed a → (m k : Map) (f : ℕ → ℕ) → T (isMap (a .size) m) → ((x : ℕ) → x < a .size → f x ≡ byte m x)
-    → Refined a f (byte k) → inside (a .size) m k ≡ isCongruence a m
-inside-congruence a w m k f t e r =
-    let p = of-isMap (a .size) m t in
-    same-tests (inside (a .size) m k) (isCongruence a m)
-    (λ q. congruence-of a m
-    (compatible-congruence a w m p
-    (compatible-same a w f (byte m) (λ x l. sym (e x l))
-    (inside-compatible a w f (byte k) r (λ x y lx ly i. of-inside (a .size) m k q x y lx ly (sym (e x lx) ∙ i ∙ e y ly)))))
-    .respects)
-    (λ q. inside-of (a .size) m k
-    (λ x y lx ly i.
-    r .greatest f (compatible-same a w (byte m) f e (congruence-compatible a w m (congruence-is a m (record { map = t; respects = q }))))
-    (λ u v lu lv o. o) x y lx ly (e x lx ∙ i ∙ sym (e y ly))))

@@ -5,13 +5,13 @@ use mathlib.Core.Path.{_≡_, refl, sym, ap, _∙_}
 use native.Mathlib.Decide.{ℕ-discrete}
 use native.Mathlib.Omega.{arith}
 use lib.Dec.{eqb}
-use lib.ListN.{length, set}
+use lib.ListN.{length, set, length-set}
 use lib.Seq.{getD-set-same, getD-set-other}
 use borrow.Author.Tests.{ne-eqb}
 use Rattle.equivalence.specs.Equivalence.{Map, byte}
 use Rattle.kernel.proofs.Names.{name-back}
 use Rattle.kernel.specs.InnerKernel.{Canonical, Within, bit, Listed}
-use Rattle.refinement.specs.InnerSplitting.{Elements, KeepsOn, Sifted, Lists, Split}
+use Rattle.refinement.specs.InnerSplitting.{Elements, KeepsOn, Sifted, Turned, Lists, Split}
 
 -- ---- sifting, in place
 
@@ -106,3 +106,58 @@ kept-after t c l s h = kept-in-use (lists-sifted c (s .canonical) (s .within) re
 pub lists-after : {n used left left′ : ℕ} {live others others′ : List ℕ} {m m′ : Map} {Good Done : (ℕ → ℕ) → Type 0} → Canonical n (byte m) → length others′ ≡ length others
     → Lists n live used others left (byte m) → Split n Good Done m m′ → Sifted (byte m′) others left others′ left′ → Lists n live used others′ left′ (byte m′)
 lists-after c e l s k = lists-sifted c (s .canonical) (s .within) e l k
+
+-- ---- lists that were turned round
+
+pub turned-none : {count : ℕ} {list : List ℕ} → Turned count list list
+turned-none = record { all = λ x k. k; old = λ x k. k }
+
+-- two members change places
+module _ (count i j : ℕ) (list : List ℕ) (r : count ≤ length list) (lj : j < count) (l : i < j) where
+  abbrev swapped : List ℕ
+  swapped = set (set list i (byte list j)) j (byte list i)
+
+  at-last : byte swapped j ≡ byte list i
+  at-last = getD-set-same (set list i (byte list j)) j (byte list i) 0 (simp length-set (omega arith))
+
+  at-first : byte swapped i ≡ byte list j
+  at-first = getD-set-other (set list i (byte list j)) j i (byte list i) 0 (omega arith) ∙ getD-set-same list i (byte list j) 0 (omega arith)
+
+  elsewhere : (k : ℕ) → ¬ (k ≡ i) → ¬ (k ≡ j) → byte swapped k ≡ byte list k
+  elsewhere k p q = getD-set-other (set list i (byte list j)) j k (byte list i) 0 q ∙ getD-set-other list i k (byte list j) 0 p
+
+  pub turned-more : {list₀ : List ℕ} → Turned count list₀ list → Turned count list₀ swapped
+  turned-more s = record {
+    all = λ x h. there x (s .all x h);
+    old = λ x h. s .old x (back x h);
+  }
+    where
+      there : (x : ℕ) → Listed list count x → Listed swapped count x
+      there x k =
+          elim (ℕ-discrete (k .0) i) [
+            | yes p ↦ (j, (lj, at-last ∙ ap (byte list) (sym p) ∙ k .1 .1))
+            | no p ↦ elim (ℕ-discrete (k .0) j) [
+              | yes q ↦ (i, (omega arith, at-first ∙ ap (byte list) (sym q) ∙ k .1 .1))
+              | no q ↦ (k .0, (k .1 .0, elsewhere (k .0) p q ∙ k .1 .1))
+            ]
+          ]
+
+      back : (x : ℕ) → Listed swapped count x → Listed list count x
+      back x k =
+          elim (ℕ-discrete (k .0) i) [
+            | yes p ↦ (j, (lj, sym at-first ∙ ap (byte swapped) (sym p) ∙ k .1 .1))
+            | no p ↦ elim (ℕ-discrete (k .0) j) [
+              | yes q ↦ (i, (omega arith, sym at-last ∙ ap (byte swapped) (sym q) ∙ k .1 .1))
+              | no q ↦ (k .0, (k .1 .0, sym (elsewhere (k .0) p q) ∙ k .1 .1))
+            ]
+          ]
+
+pub lists-turned : {n used left : ℕ} {live others others′ : List ℕ} {f : ℕ → ℕ} → length others′ ≡ length others → Lists n live used others left f → Turned left others others′ → Lists n live used others′ left f
+lists-turned {n} {others′ = others′} e s k = record {
+  live-elements = s .live-elements;
+  elements = record {
+    room = omega (arith, s .elements .room);
+    below = λ i l. let o = k .old (byte others′ i) (i, (l, refl)) in rw (o .1 .1) at (s .elements .below (o .0) (o .1 .0));
+  };
+  all = λ x l h. k .all x (s .all x l h);
+}

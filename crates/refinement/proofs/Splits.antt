@@ -1,5 +1,5 @@
 -- One line: which maps it keeps, and what it splits a map into. Several lines: splits one after the other are one split.
-use Prim.Native.Nat.{ℕ, _+_, _≤_, _<_}
+use Prim.Native.Nat.{ℕ, _+_, _-_, _≤_, _<_}
 use mathlib.Core.List.{List}
 use mathlib.Core.Path.{_≡_, refl, sym, ap, subst, _∙_}
 use native.Mathlib.Decide.{decLt, ℕ-discrete}
@@ -8,9 +8,9 @@ use lib.ListN.{length, set}
 use lib.Seq.{getD-set-same, getD-set-other}
 use borrow.Author.Count.{below-more}
 use Rattle.equivalence.specs.Equivalence.{Map, byte}
-use Rattle.kernel.specs.InnerKernel.{Canonical, Within, names, Listed}
-use Rattle.refinement.specs.InnerSplitting.{Keeps, KeepsOn, Alike, MapLent, Split}
-use Rattle.kernel.proofs.Names.{names-another}
+use Rattle.kernel.specs.InnerKernel.{Canonical, Within, KeptPast, Filled, names, Listed}
+use Rattle.refinement.specs.InnerSplitting.{Keeps, KeepsOn, Breaks, Alike, MapLent, SplitLent, Split, Never}
+use Rattle.kernel.proofs.Names.{names-another, names-most}
 
 -- ---- a line that keeps a map
 
@@ -23,22 +23,22 @@ names-kept t f h x l = ap (λ (z : ℕ). f (t z)) (sym (h x l))
 
 -- ---- a line that splits a block of a map
 
-module _ {n name : ℕ} {t f f′ : ℕ → ℕ} (c : Canonical n f) (s : (x : ℕ) → x < n → Alike t f name x (f′ x)) where
+module _ {n : ℕ} {In : ℕ → Type 0} {t f f′ : ℕ → ℕ} (c : Canonical n f) (s : (x : ℕ) → x < n → Alike t f In x (f′ x)) where
   -- what is alike has one name
-  alike-most : (x y : ℕ) → x < n → y < n → f x ≡ f y → (f x ≡ name → f (t x) ≡ f (t y)) → f′ y ≤ f′ x
+  alike-most : (x y : ℕ) → x < n → y < n → f x ≡ f y → (In (f x) → f (t x) ≡ f (t y)) → f′ y ≤ f′ x
   alike-most x y lx ly p q =
       elim (decLt (f′ x) (f′ y)) [
-        | yes l ↦ absurd (s y ly .first (f′ x) l (s x lx .before ∙ p) (λ e. s x lx .after (p ∙ e) ∙ q (p ∙ e)))
+        | yes l ↦ absurd (s y ly .first (f′ x) l (s x lx .before ∙ p) (λ e. s x lx .after (subst In (sym p) e) ∙ q (subst In (sym p) e)))
         | no l ↦ omega arith
       ]
 
-  alike-same : (x y : ℕ) → x < n → y < n → f x ≡ f y → (f x ≡ name → f (t x) ≡ f (t y)) → f′ x ≡ f′ y
-  alike-same x y lx ly p q = omega (arith, alike-most x y lx ly p q, alike-most y x ly lx (sym p) (λ e. sym (q (p ∙ e))))
+  alike-same : (x y : ℕ) → x < n → y < n → f x ≡ f y → (In (f x) → f (t x) ≡ f (t y)) → f′ x ≡ f′ y
+  alike-same x y lx ly p q = omega (arith, alike-most x y lx ly p q, alike-most y x ly lx (sym p) (λ e. sym (q (subst In (sym p) e))))
 
   alike-canonical : Canonical n f′
   alike-canonical = record {
     below = λ x l. s x l .low;
-    named = λ x l. alike-same (f′ x) x (omega (arith, s x l .low)) l (s x l .before) (λ e. s x l .after (sym (s x l .before) ∙ e));
+    named = λ x l. alike-same (f′ x) x (omega (arith, s x l .low)) l (s x l .before) (λ e. s x l .after (subst In (s x l .before) e));
   }
 
   alike-within : Within n f′ f
@@ -52,8 +52,8 @@ module _ {n name : ℕ} {t f f′ : ℕ → ℕ} (c : Canonical n f) (s : (x : �
       let k : f′ x ≤ x = s x l .low in
       omega (arith, c .below (f′ x) (omega arith), s x l .before)
 
-  -- an element of the block that is not alike to its smallest member gives a name more
-  alike-more : (x : ℕ) → x < n → f x ≡ name → (f (t x) ≡ f (t (f x)) → ⊥) → names n f < names n f′
+  -- an element of a block that is split, not alike to its smallest member, gives a name more
+  alike-more : (x : ℕ) → x < n → In (f x) → Breaks t f x → names n f < names n f′
   alike-more x l e h =
       names-another n f f′ alike-names (f′ x) (omega (arith, s x l .low)) (alike-canonical .named x l)
       (λ p. h (sym (s x l .after e) ∙ ap (λ (z : ℕ). f (t z)) (sym p ∙ s x l .before)))
@@ -71,11 +71,10 @@ split-none c d = record {
   done = λ p. d;
 }
 
--- the block called `name` is split along a line that takes one of its elements out of it
-pub split-along : {n name : ℕ} {t : ℕ → ℕ} {Done : (ℕ → ℕ) → Type 0} {m m′ : Map} (x : ℕ) → x < n → byte m x ≡ name → (byte m (t x) ≡ byte m (t (byte m x)) → ⊥) → Canonical n (byte m)
-    → ((y : ℕ) → y < n → t y < n) → ((y : ℕ) → y < n → Alike t (byte m) name y (byte m′ y)) → ((y : ℕ) → n ≤ y → byte m′ y ≡ byte m y)
-    → Split n (Keeps n t) Done m m′
-split-along x l e h c k s o =
+-- blocks are split along a line that breaks in one of them
+pub split-alike : {n : ℕ} (In : ℕ → Type 0) {t : ℕ → ℕ} {m m′ : Map} (x : ℕ) → x < n → In (byte m x) → Breaks t (byte m) x → Canonical n (byte m) → ((y : ℕ) → y < n → t y < n)
+    → ((y : ℕ) → y < n → Alike t (byte m) In y (byte m′ y)) → KeptPast n (byte m) (byte m′) → Split n (Keeps n t) Never m m′
+split-alike In x l e h c k s o =
     let w = alike-more c s x l e h in
     record {
       canonical = alike-canonical c s;
@@ -84,8 +83,20 @@ split-along x l e h c k s o =
       rest = o;
       more = omega arith;
       still = λ p. absurd (omega arith);
-      done = λ p. absurd (omega arith);
+      done = λ p. omega arith;
     }
+
+-- where nothing may be done there is a block more
+pub split-rises : {n : ℕ} {Good : (ℕ → ℕ) → Type 0} {m m′ : Map} → Split n Good Never m m′ → names n (byte m) < names n (byte m′)
+split-rises {n} {m = m} {m′} s =
+    elim (ℕ-discrete (names n (byte m′)) (names n (byte m))) [
+      | yes e ↦ absurd (s .done e)
+      | no e ↦ omega (arith, s .more)
+    ]
+
+-- so the blocks that may still come are fewer
+pub rises-less : {n : ℕ} {Good : (ℕ → ℕ) → Type 0} {m m′ : Map} → Split n Good Never m m′ → n - names n (byte m′) < n - names n (byte m)
+rises-less {n} {m = m} {m′} s = omega (arith, split-rises s, names-most n (byte m′))
 
 -- one split after another
 pub split-more : {n : ℕ} {Good Good′ Done Done′ Both : (ℕ → ℕ) → Type 0} {m₀ m m′ : Map} → ((g : ℕ → ℕ) → Good g → Good′ g)
@@ -157,5 +168,9 @@ each-written {i} {v} P m l h p x k =
       | no e ↦ rw (getD-set-other m i x v 0 e) (h x (omega arith))
     ]
 
-pub alike-copied : {t f : ℕ → ℕ} {name x y z : ℕ} → z ≡ y → Alike t f name x y → Alike t f name x z
-alike-copied e h = rw e h
+-- what was written is copied
+pub alike-copied : {n : ℕ} {t f f₀ f′ g : ℕ → ℕ} {In : ℕ → Type 0} → Filled n f′ f₀ g → ((x : ℕ) → x < n → Alike t f In x (f′ x)) → (x : ℕ) → x < n → Alike t f In x (g x)
+alike-copied k h x l = rw (k .first x l) (h x l)
+
+pub split-lent-again : {n : ℕ} {m m′ cells seen seen′ : Map} → SplitLent n m cells seen → length m′ ≡ length m → length seen′ ≡ length seen → Canonical n (byte m′) → SplitLent n m′ cells seen′
+split-lent-again p e k c = record { map = lent-again (p .map) e c; rows = omega (arith, p .rows) }

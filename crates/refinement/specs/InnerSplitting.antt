@@ -1,3 +1,4 @@
+-- Inner vocabulary: no contract of a service and no theorem cites this file.
 -- Splitting a map along translations: what the inner functions of this crate ask of each other and promise.
 use Prim.Native.Nat.{ℕ, zero, suc, _+_, _*_, _≤_, _<_}
 use mathlib.Core.Path.{_≡_}
@@ -5,18 +6,15 @@ use mathlib.Core.Bool.{Bool, true, false}
 use mathlib.Core.List.{List}
 use lib.ListN.{length, getD}
 use Rattle.equivalence.specs.Equivalence.{Map, byte}
-use Rattle.kernel.specs.InnerKernel.{Listed, Canonical, Within, names}
+use Rattle.kernel.specs.InnerKernel.{Listed, Canonical, Within, KeptPast, names}
 use Rattle.algebra.specs.Algebra.{Algebra}
 use Rattle.translation.specs.InnerTranslations.{Compatible}
+use Rattle.translation.specs.InnerLines.{lineAt}
 
 -- the first `count` members of a list are elements
 pub record Elements (n : ℕ) (list : List ℕ) (count : ℕ) : Type 0 where
   pub room : count ≤ length list
   pub below : (i : ℕ) → i < count → byte list i < n
-
--- the cells along the line of stride d that begins at `base`: a translation
-abbrev pub lineAt : List ℕ → ℕ → ℕ → ℕ → ℕ
-lineAt cells base d x = getD cells (base + x * d) 0
 
 -- t takes what g joins to what g joins
 abbrev pub Keeps : ℕ → (ℕ → ℕ) → (ℕ → ℕ) → Type 0
@@ -34,13 +32,13 @@ Any n named g r = r < n
 abbrev pub Chosen : List ℕ → ℕ → Bool → (ℕ → ℕ) → ℕ → Type 0
 Chosen list count named g r = Listed list count r × (named ≡ true → g r ≡ r)
 
--- K holds of the lines of stride d that begin at `base` moved by `step` times an element of R
+-- K holds of the lines of a plane that begin at `base` moved by `row` times an element of R
 abbrev pub Lines : ((ℕ → ℕ) → ℕ → Type 0) → ((ℕ → ℕ) → (ℕ → ℕ) → Type 0) → List ℕ → ℕ → ℕ → ℕ → (ℕ → ℕ) → Type 0
-Lines R K cells base step d g = (r : ℕ) → R g r → K (lineAt cells (base + r * step) d) g
+Lines R K cells base row stride g = (r : ℕ) → R g r → K (lineAt cells (base + r * row) stride) g
 
--- the same, where `base` is moved by `row` times an element of Q before
+-- the same for the planes of a solid that begin at `base` moved by `layer` times an element of Q
 abbrev pub Planes : ((ℕ → ℕ) → ℕ → Type 0) → ((ℕ → ℕ) → ℕ → Type 0) → ((ℕ → ℕ) → (ℕ → ℕ) → Type 0) → List ℕ → ℕ → ℕ → ℕ → ℕ → (ℕ → ℕ) → Type 0
-Planes Q R K cells base row step d g = (r : ℕ) → Q g r → Lines R K cells (base + r * row) step d g
+Planes Q R K cells base layer row stride g = (r : ℕ) → Q g r → Lines R K cells (base + r * layer) row stride g
 
 -- the same for the lines of an operation of arity s whose table begins at `base`; R true is asked of arguments before the varied one
 abbrev pub Table : (Bool → (ℕ → ℕ) → ℕ → Type 0) → ((ℕ → ℕ) → (ℕ → ℕ) → Type 0) → ℕ → List ℕ → ℕ → ℕ → (ℕ → ℕ) → Type 0
@@ -59,31 +57,28 @@ pub record MapLent (n : ℕ) (m cells : List ℕ) : Type 0 where
   pub canonical : Canonical n (byte m)
   pub below : (i : ℕ) → i < length cells → getD cells i 0 < n
 
--- the line lies within the cells
-abbrev pub OnLine : ℕ → List ℕ → ℕ → ℕ → Type 0
-OnLine n cells base d = (x : ℕ) → x < n → base + x * d < length cells
+-- and what every split is lent: 64 rows of 64 bytes beside it
+pub record SplitLent (n : ℕ) (m cells seen : List ℕ) : Type 0 where
+  pub map : MapLent n m cells
+  pub rows : 4096 ≤ length seen
 
--- so do the lines that begin at `base` moved by `step` times an element
-abbrev pub OnLines : ℕ → List ℕ → ℕ → ℕ → ℕ → Type 0
-OnLines n cells base step d = (r : ℕ) → r < n → OnLine n cells (base + r * step) d
-
--- so do those that begin at `base` moved by `row` times an element and `step` times another
-abbrev pub OnPlanes : ℕ → List ℕ → ℕ → ℕ → ℕ → ℕ → Type 0
-OnPlanes n cells base row step d = (r : ℕ) → r < n → OnLines n cells (base + r * row) step d
+-- t takes x to another block than the smallest member of x's block
+abbrev pub Breaks : (ℕ → ℕ) → (ℕ → ℕ) → ℕ → Type 0
+Breaks t f x = f (t x) ≡ f (t (f x)) → ⊥
 
 -- r is the first index from i on of a listed element that t takes out of the block to which it takes the smallest member of the element's block, or `count`
 pub record Broken (t f : ℕ → ℕ) (list : List ℕ) (count i r : ℕ) : Type 0 where
   pub after : i ≤ r
   pub most : r ≤ count
   pub kept : (k : ℕ) → i ≤ k → k < r → f (t (byte list k)) ≡ f (t (f (byte list k)))
-  pub found : r < count → f (t (byte list r)) ≡ f (t (f (byte list r))) → ⊥
+  pub found : r < count → Breaks t f (byte list r)
 
--- y is the first element that f joins with x, of those in the block named `name` the first that it joins with x after t too
-pub record Alike (t f : ℕ → ℕ) (name x y : ℕ) : Type 0 where
+-- y is the first element that f joins with x, and, where In holds of their block, the first that it joins with x after t too
+pub record Alike (t f : ℕ → ℕ) (In : ℕ → Type 0) (x y : ℕ) : Type 0 where
   pub low : y ≤ x
   pub before : f y ≡ f x
-  pub after : f x ≡ name → f (t y) ≡ f (t x)
-  pub first : (z : ℕ) → z < y → f z ≡ f x → (f x ≡ name → f (t z) ≡ f (t x)) → ⊥
+  pub after : In (f x) → f (t y) ≡ f (t x)
+  pub first : (z : ℕ) → z < y → f z ≡ f x → (In (f x) → f (t z) ≡ f (t x)) → ⊥
 
 -- y is the first element of the block named `name` that t takes to the block named v
 pub record FirstInto (t f : ℕ → ℕ) (name v y : ℕ) : Type 0 where
@@ -97,11 +92,44 @@ pub record FirstsSeen (t f : ℕ → ℕ) (name x : ℕ) (seen : ℕ → ℕ) : 
   pub first : (v : ℕ) → v < 64 → seen v < 64 → FirstInto t f name v (seen v)
   pub none : (v : ℕ) → v < 64 → 64 ≤ seen v → (z : ℕ) → z < x → f z ≡ name → f (t z) ≡ v → ⊥
 
+-- the row of a block in the 64 rows of 64 bytes
+abbrev pub rowAt : List ℕ → ℕ → ℕ → ℕ
+rowAt seen name v = byte seen (name * 64 + v)
+
+-- the other rows are as they were
+abbrev pub OtherRows : ℕ → List ℕ → List ℕ → Type 0
+OtherRows name seen seen′ = (b v : ℕ) → (b ≡ name → ⊥) → v < 64 → rowAt seen′ b v ≡ rowAt seen b v
+
+-- nothing is seen of the block named `name`
+pub record Cleared (name : ℕ) (seen seen′ : List ℕ) : Type 0 where
+  pub here : (v : ℕ) → v < 64 → rowAt seen′ name v ≡ 64
+  pub there : OtherRows name seen seen′
+
+-- nothing is seen of a block that begins at x
+pub record Begun (f : ℕ → ℕ) (x : ℕ) (seen seen′ : List ℕ) : Type 0 where
+  pub here : f x ≡ x → (v : ℕ) → v < 64 → rowAt seen′ x v ≡ 64
+  pub there : OtherRows x seen seen′
+
+-- the row of each block that begins below k has its elements below x
+pub record RowsSeen (t f : ℕ → ℕ) (k x : ℕ) (seen : List ℕ) : Type 0 where
+  pub row : (b : ℕ) → b < k → f b ≡ b → FirstsSeen t f b x (rowAt seen b)
+
+-- y is the new name of x, by the row of the block named `name`, and x is seen
+pub record Renamed (t f : ℕ → ℕ) (name x : ℕ) (seen seen′ : List ℕ) (y : ℕ) : Type 0 where
+  pub alike : Alike t f (λ v. v ≡ name) x y
+  pub row : FirstsSeen t f name (x + 1) (rowAt seen′ name)
+  pub others : OtherRows name seen seen′
+
 -- of a list those are kept that are no smallest members of f
 pub record Sifted (f : ℕ → ℕ) (list : List ℕ) (count : ℕ) (list′ : List ℕ) (count′ : ℕ) : Type 0 where
   pub fewer : count′ ≤ count
   pub old : (i : ℕ) → i < count′ → Listed list count (byte list′ i)
   pub all : (x : ℕ) → Listed list count x → ¬ (f x ≡ x) → Listed list′ count′ x
+
+-- two lists have the same members
+pub record Turned (count : ℕ) (list list′ : List ℕ) : Type 0 where
+  pub all : (x : ℕ) → Listed list count x → Listed list′ count x
+  pub old : (x : ℕ) → Listed list′ count x → Listed list count x
 
 -- the elements in use, and a list that has those of them that are no smallest members of f
 pub record Lists (n : ℕ) (live : List ℕ) (used : ℕ) (others : List ℕ) (left : ℕ) (f : ℕ → ℕ) : Type 0 where
@@ -114,10 +142,24 @@ pub record Split (n : ℕ) (Good Done : (ℕ → ℕ) → Type 0) (m m′ : Map)
   pub canonical : Canonical n (byte m′)
   pub within : Within n (byte m′) (byte m)
   pub greatest : (g : ℕ → ℕ) → Good g → Within n g (byte m) → Within n g (byte m′)
-  pub rest : (x : ℕ) → n ≤ x → byte m′ x ≡ byte m x
+  pub rest : KeptPast n (byte m) (byte m′)
   pub more : names n (byte m) ≤ names n (byte m′)
   pub still : names n (byte m′) ≡ names n (byte m) → m′ ≡ m
   pub done : names n (byte m′) ≡ names n (byte m) → Done (byte m′)
+
+-- asked of no map: what is done where this is done has a block more
+abbrev pub Never : (ℕ → ℕ) → Type 0
+Never g = ⊥
+
+-- at every listed context the line keeps x beside the smallest member of its block; contexts are next to each other
+abbrev pub ElementKept : List ℕ → ℕ → List ℕ → ℕ → ℕ → ℕ → (ℕ → ℕ) → Type 0
+ElementKept live used cells base stride x g = (c : ℕ) → Listed live used c → g (lineAt cells (base + c * 1) stride x) ≡ g (lineAt cells (base + c * 1) stride (g x))
+
+-- r is the first index of a context at which it does not, or `used`
+pub record Apart (live : List ℕ) (used : ℕ) (cells : List ℕ) (base stride x : ℕ) (f : ℕ → ℕ) (r : ℕ) : Type 0 where
+  pub most : r ≤ used
+  pub kept : (k : ℕ) → k < r → f (lineAt cells (base + byte live k * 1) stride x) ≡ f (lineAt cells (base + byte live k * 1) stride (f x))
+  pub found : r < used → Breaks (lineAt cells (base + byte live r * 1) stride) f x
 
 -- the listed elements stand for all: they have the smallest members of every block of some congruence within e
 pub record Represented (a : Algebra) (live : List ℕ) (used : ℕ) (e : ℕ → ℕ) : Type 0 where

@@ -1,20 +1,20 @@
-// The greatest congruence inside a map, and the test whether a map is a congruence: a map is split along translations.
-ghost use mathlib.Core.Path.{_≡_};
-ghost use Prim.Native.Nat.{ℕ, _≤_};
-ghost use lib.Dec.{T};
+// The greatest congruence inside a map: a map is split along translations.
+ghost use Prim.Native.Nat.{_≤_};
 ghost use lib.ListN.{length};
-ghost use Rattle.equivalence.specs.Equivalence.{byte, isMap};
-ghost use Rattle.kernel.specs.InnerKernel.{Canonical};
+ghost use Rattle.equivalence.specs.Equivalence.{byte};
+ghost use Rattle.kernel.specs.InnerKernel.{Canonical, KeptPast};
 ghost use Rattle.algebra.specs.Accepted.{Accepted};
 ghost use Rattle.algebra.specs.Algebra.{algebraIn};
-ghost use Rattle.algebra.specs.Congruence.{isCongruence};
 ghost use Rattle.translation.specs.InnerTranslations.{Refined};
 ghost use Rattle.refinement.specs.InnerSplitting.{Lists, Represented};
 
-mod line;
+pub mod line;
 mod walk;
 
-// Passes over all lines follow each other until one splits nothing, or every block has one element. None splits a single block.
+use line::Round;
+
+// Passes over all lines follow each other until one splits nothing, or every block has one element. None splits a single block. The list is
+// turned round after each: a split that follows from a later one comes in the next. A single line is gone along block by block from the first round on.
 fn refine_by(
     m: &mut [u8],
     n: usize,
@@ -24,31 +24,45 @@ fn refine_by(
     used: usize,
     others: &mut [u8],
     start: usize,
+    seen: &mut [u8],
 )
     requires { ⌜ Accepted (algebraIn n arities cells) ⌝ }
     requires { ⌜ n ≤ length (now m) ⌝ }
+    requires { ⌜ 4096 ≤ length (now seen) ⌝ }
     requires { ⌜ Canonical n (byte (now m)) ⌝ }
     requires { ⌜ Represented (algebraIn n arities cells) (now live) used (byte (now m)) ⌝ }
     requires { ⌜ Lists n (now live) used (now others) start (byte (now m)) ⌝ }
     ensures { λ _. ⌜ Refined (algebraIn n (arities .entry) (cells .entry)) (byte (now (m .entry))) (byte (now (m .exit))) ⌝ }
-    ensures { λ _. ⌜ ((x : ℕ) → n ≤ x → byte (now (m .exit)) x ≡ byte (now (m .entry)) x) ⌝ }
+    ensures { λ _. ⌜ KeptPast n (byte (now (m .entry))) (byte (now (m .exit))) ⌝ }
 {
+    let mut again = cells.len() == n;
     let mut left = start;
     let mut count = equivalence::map::block_count(n, m);
     if count == 1 {
         return;
     }
     while count < n {
-        left = walk::split_all(m, n, arities, cells, live, used, others, left);
+        left = walk::split_all(
+            m,
+            Round { n, used, again },
+            arities,
+            cells,
+            live,
+            others,
+            left,
+            seen,
+        );
         let found = equivalence::map::block_count(n, m);
         if found == count {
             return;
         }
         count = found;
+        again = true;
+        line::turn(others, left);
     }
 }
 
-// `refine_above` with room for the list of those elements in use that are no smallest members.
+// `refine_above` with room for the list of those elements in use that are no smallest members, and for what a split sees.
 fn refine_in(
     m: &mut [u8],
     n: usize,
@@ -57,18 +71,20 @@ fn refine_in(
     live: &[u8],
     used: usize,
     others: &mut [u8],
+    seen: &mut [u8],
 )
     requires { ⌜ Accepted (algebraIn n arities cells) ⌝ }
     requires { ⌜ n ≤ length (now m) ⌝ }
     requires { ⌜ Canonical n (byte (now m)) ⌝ }
     requires { ⌜ Represented (algebraIn n arities cells) (now live) used (byte (now m)) ⌝ }
     requires { ⌜ used ≤ length (now others) ⌝ }
+    requires { ⌜ 4096 ≤ length (now seen) ⌝ }
     ensures { λ _. ⌜ Refined (algebraIn n (arities .entry) (cells .entry)) (byte (now (m .entry))) (byte (now (m .exit))) ⌝ }
-    ensures { λ _. ⌜ ((x : ℕ) → n ≤ x → byte (now (m .exit)) x ≡ byte (now (m .entry)) x) ⌝ }
+    ensures { λ _. ⌜ KeptPast n (byte (now (m .entry))) (byte (now (m .exit))) ⌝ }
 {
     equivalence::blocks::copy(used, live, others);
     let left = line::sift(m, others, used);
-    refine_by(m, n, arities, cells, live, used, others, left);
+    refine_by(m, n, arities, cells, live, used, others, left, seen);
 }
 
 // The first n bytes of m become the greatest congruence inside the map that they write; those past n keep their value. Only listed
@@ -80,10 +96,14 @@ pub fn refine_above(m: &mut [u8], n: usize, arities: &[u8], cells: &[u8], live: 
     requires { ⌜ Represented (algebraIn n arities cells) (now live) used (byte (now m)) ⌝ }
     requires { ⌜ used ≤ 64 ⌝ }
     ensures { λ _. ⌜ Refined (algebraIn n (arities .entry) (cells .entry)) (byte (now (m .entry))) (byte (now (m .exit))) ⌝ }
-    ensures { λ _. ⌜ ((x : ℕ) → n ≤ x → byte (now (m .exit)) x ≡ byte (now (m .entry)) x) ⌝ }
+    ensures { λ _. ⌜ KeptPast n (byte (now (m .entry))) (byte (now (m .exit))) ⌝ }
 {
+    if arities.len() == 0 {
+        return;
+    }
     let mut others = [0u8; 64];
-    refine_in(m, n, arities, cells, live, used, &mut others);
+    let mut seen = [0u8; 4096];
+    refine_in(m, n, arities, cells, live, used, &mut others, &mut seen);
 }
 
 // The first n bytes of m become the greatest congruence inside the map that they write; those past n keep their value.
@@ -92,21 +112,9 @@ pub fn refine(m: &mut [u8], n: usize, arities: &[u8], cells: &[u8])
     requires { ⌜ n ≤ length (now m) ⌝ }
     requires { ⌜ Canonical n (byte (now m)) ⌝ }
     ensures { λ _. ⌜ Refined (algebraIn n (arities .entry) (cells .entry)) (byte (now (m .entry))) (byte (now (m .exit))) ⌝ }
-    ensures { λ _. ⌜ ((x : ℕ) → n ≤ x → byte (now (m .exit)) x ≡ byte (now (m .entry)) x) ⌝ }
+    ensures { λ _. ⌜ KeptPast n (byte (now (m .entry))) (byte (now (m .exit))) ⌝ }
 {
     let mut live = [0u8; 64];
     equivalence::blocks::identity(n, &mut live);
     refine_above(m, n, arities, cells, &live, n);
-}
-
-// Whether the map m is a congruence: whether the greatest congruence inside it still holds all its pairs.
-pub fn is_congruence(n: usize, arities: &[u8], cells: &[u8], m: &[u8]) -> bool
-    requires { ⌜ Accepted (algebraIn n arities cells) ⌝ }
-    requires { ⌜ T (isMap n (now m)) ⌝ }
-    ensures { λ r. ⌜ r ≡ isCongruence (algebraIn n (arities .entry) (cells .entry)) (now (m .entry)) ⌝ }
-{
-    let mut split = [0u8; 64];
-    equivalence::blocks::copy(n, m, &mut split);
-    refine(&mut split, n, arities, cells);
-    equivalence::map::is_inside(n, m, &split)
 }

@@ -2,65 +2,184 @@
 // through smallest members of these: where a map is kept along earlier arguments, the others give nothing new. Each function splits m, and
 // shortens the list of those elements in use that are no smallest members; it gives how many these are.
 ghost use mathlib.Core.Path.{_≡_};
-ghost use mathlib.Core.Bool.{true};
+ghost use mathlib.Core.Bool.{true, false};
 ghost use Prim.Native.Nat.{_+_, _*_, _^_, _<_, _≤_};
 ghost use lib.ListN.{length};
 ghost use Rattle.equivalence.specs.Equivalence.{byte};
 ghost use Rattle.kernel.specs.InnerKernel.{Canonical, Listed};
 ghost use Rattle.algebra.specs.Accepted.{Accepted};
 ghost use Rattle.algebra.specs.Algebra.{algebraIn};
+ghost use Rattle.translation.specs.InnerLines.{lineAt, PlaneInside, SolidInside};
 ghost use Rattle.translation.specs.InnerTranslations.{Compatible};
-ghost use Rattle.refinement.specs.InnerSplitting.{Elements, lineAt, Keeps, KeepsOn, Any, Chosen, Lines, Planes, Table, MapLent, OnLines, OnPlanes, Sifted, Lists, Split, Represented};
+ghost use Rattle.refinement.specs.InnerSplitting.{Elements, Keeps, KeepsOn, Any, Chosen, Lines, Planes, Table, MapLent, SplitLent, Sifted, Lists, Split, ElementKept, Apart, Represented};
+use super::line::Line;
+use super::line::Round;
+use super::line::sift;
+use super::line::split_at;
 use super::line::split_line;
 
-// The line of stride d that begins at `base` moved by `step` times r; where `named` is set, only if r is a smallest member.
-fn split_chosen(
-    m: &mut [u8],
-    n: usize,
-    cells: &[u8],
+// Where the lines of a plane begin, and how far these and the cells of each are apart.
+struct Plane {
     base: usize,
-    step: usize,
-    d: usize,
-    r: usize,
-    named: bool,
-    others: &mut [u8],
-    left: usize,
-) -> usize
-    requires { ⌜ MapLent n (now m) (now cells) ⌝ }
-    requires { ⌜ OnLines n (now cells) base step d ⌝ }
-    requires { ⌜ Elements n (now others) left ⌝ }
-    requires { ⌜ r < n ⌝ }
-    ensures { λ _. ⌜ Split n (Keeps n (lineAt (now (cells .entry)) (base + r * step) d)) (λ g. ((named ≡ true → g r ≡ r) → KeepsOn (Listed (now (others .entry)) left) (lineAt (now (cells .entry)) (base + r * step) d) g)) (now (m .entry)) (now (m .exit)) ⌝ }
-    ensures { λ s. ⌜ Sifted (byte (now (m .exit))) (now (others .entry)) left (now (others .exit)) s ⌝ }
-{
-    if named {
-        if m[r] as usize != r {
-            return left;
-        }
-    }
-    split_line(m, n, cells, base + r * step, d, others, left)
+    row: usize,
+    stride: usize,
 }
 
-// The lines of stride d that begin at `base` moved by `step` times an element in use. Where every such element is a smallest member, none splits.
-fn split_lines(
-    m: &mut [u8],
-    n: usize,
-    cells: &[u8],
+// Where the planes of a solid begin, and how far these, the lines of each and the cells of each are apart; and which of the arguments that
+// stay are before the varied one: that of the planes, that of the lines.
+struct Solid {
     base: usize,
-    step: usize,
-    d: usize,
+    layer: usize,
+    row: usize,
+    stride: usize,
     named: bool,
+    inner: bool,
+}
+
+// The first index of an element in use at which the cell of x is in another block than that of its block's smallest member, or their number.
+// `base` is that of the lines which begin one after the other: the cells that are compared stand in two rows.
+fn apart(m: &[u8], round: Round, cells: &[u8], line: Line, live: &[u8], x: usize) -> usize
+    requires { ⌜ MapLent (round .n) (now m) (now cells) ⌝ }
+    requires { ⌜ PlaneInside (round .n) (now cells) (line .base) 1 (line .stride) ⌝ }
+    requires { ⌜ Elements (round .n) (now live) (round .used) ⌝ }
+    requires { ⌜ x < round .n ⌝ }
+    ensures { λ r. ⌜ Apart (now (live .entry)) (round .used) (now (cells .entry)) (line .base) (line .stride) x (byte (now (m .entry))) r ⌝ }
+{
+    let used = round.used;
+    let here = line.base + x * line.stride;
+    let there = line.base + m[x] as usize * line.stride;
+    let mut i = 0;
+    while i < used {
+        let c = live[i] as usize;
+        let image = cells[here + c] as usize;
+        let expected = cells[there + c] as usize;
+        if m[image] != m[expected] {
+            return i;
+        }
+        i += 1;
+    }
+    used
+}
+
+// Splits along the lines at which x and the smallest member of its block are taken apart, until there is none.
+fn split_element(
+    m: &mut [u8],
+    round: Round,
+    cells: &[u8],
+    line: Line,
     live: &[u8],
-    used: usize,
+    x: usize,
+    seen: &mut [u8],
+)
+    requires { ⌜ SplitLent (round .n) (now m) (now cells) (now seen) ⌝ }
+    requires { ⌜ PlaneInside (round .n) (now cells) (line .base) 1 (line .stride) ⌝ }
+    requires { ⌜ Elements (round .n) (now live) (round .used) ⌝ }
+    requires { ⌜ x < round .n ⌝ }
+    ensures { λ _. ⌜ Split (round .n) (Lines (Any (round .n) false) (Keeps (round .n)) (now (cells .entry)) (line .base) 1 (line .stride)) (ElementKept (now (live .entry)) (round .used) (now (cells .entry)) (line .base) (line .stride) x) (now (m .entry)) (now (m .exit)) ⌝ }
+{
+    let used = round.used;
+    let base = line.base;
+    let stride = line.stride;
+    while m[x] as usize != x {
+        let i = apart(m, round, cells, line, live, x);
+        if i == used {
+            return;
+        }
+        let c = live[i] as usize;
+        split_at(
+            m,
+            round,
+            cells,
+            Line {
+                base: base + c,
+                stride,
+            },
+            seen,
+            x,
+        );
+    }
+}
+
+// The lines that begin one after the other from the base of `line`, element by element.
+fn split_rows(
+    m: &mut [u8],
+    round: Round,
+    cells: &[u8],
+    line: Line,
+    live: &[u8],
     others: &mut [u8],
     left: usize,
+    seen: &mut [u8],
 ) -> usize
-    requires { ⌜ MapLent n (now m) (now cells) ⌝ }
-    requires { ⌜ OnLines n (now cells) base step d ⌝ }
-    requires { ⌜ Lists n (now live) used (now others) left (byte (now m)) ⌝ }
-    ensures { λ _. ⌜ Split n (Lines (Any n named) (Keeps n) (now (cells .entry)) base step d) (Lines (Chosen (now (live .entry)) used named) (KeepsOn (Listed (now (live .entry)) used)) (now (cells .entry)) base step d) (now (m .entry)) (now (m .exit)) ⌝ }
-    ensures { λ s. ⌜ Lists n (now (live .entry)) used (now (others .exit)) s (byte (now (m .exit))) ⌝ }
+    requires { ⌜ SplitLent (round .n) (now m) (now cells) (now seen) ⌝ }
+    requires { ⌜ PlaneInside (round .n) (now cells) (line .base) 1 (line .stride) ⌝ }
+    requires { ⌜ Lists (round .n) (now live) (round .used) (now others) left (byte (now m)) ⌝ }
+    ensures { λ _. ⌜ Split (round .n) (Lines (Any (round .n) false) (Keeps (round .n)) (now (cells .entry)) (line .base) 1 (line .stride)) (Lines (Chosen (now (live .entry)) (round .used) false) (KeepsOn (Listed (now (live .entry)) (round .used))) (now (cells .entry)) (line .base) 1 (line .stride)) (now (m .entry)) (now (m .exit)) ⌝ }
+    ensures { λ s. ⌜ Lists (round .n) (now (live .entry)) (round .used) (now (others .exit)) s (byte (now (m .exit))) ⌝ }
 {
+    let mut i = 0;
+    while i < left {
+        let x = others[i] as usize;
+        split_element(m, round, cells, line, live, x, seen);
+        i += 1;
+    }
+    sift(m, others, left)
+}
+
+// The line of the plane that begins at r times its row, if r is a smallest member.
+fn split_chosen(
+    m: &mut [u8],
+    round: Round,
+    cells: &[u8],
+    plane: Plane,
+    r: usize,
+    others: &mut [u8],
+    left: usize,
+    seen: &mut [u8],
+) -> usize
+    requires { ⌜ SplitLent (round .n) (now m) (now cells) (now seen) ⌝ }
+    requires { ⌜ PlaneInside (round .n) (now cells) (plane .base) (plane .row) (plane .stride) ⌝ }
+    requires { ⌜ Elements (round .n) (now others) left ⌝ }
+    requires { ⌜ r < round .n ⌝ }
+    ensures { λ _. ⌜ Split (round .n) (Keeps (round .n) (lineAt (now (cells .entry)) (plane .base + r * plane .row) (plane .stride))) (λ g. (g r ≡ r → KeepsOn (Listed (now (others .entry)) left) (lineAt (now (cells .entry)) (plane .base + r * plane .row) (plane .stride)) g)) (now (m .entry)) (now (m .exit)) ⌝ }
+    ensures { λ s. ⌜ Sifted (byte (now (m .exit))) (now (others .entry)) left (now (others .exit)) s ⌝ }
+{
+    if m[r] as usize != r {
+        return left;
+    }
+    let base = plane.base + r * plane.row;
+    split_line(
+        m,
+        round,
+        cells,
+        Line {
+            base,
+            stride: plane.stride,
+        },
+        others,
+        left,
+        seen,
+    )
+}
+
+// The lines of the plane that begin at a smallest member in use. Where every element in use is one, none splits.
+fn split_lines(
+    m: &mut [u8],
+    round: Round,
+    cells: &[u8],
+    plane: Plane,
+    live: &[u8],
+    others: &mut [u8],
+    left: usize,
+    seen: &mut [u8],
+) -> usize
+    requires { ⌜ SplitLent (round .n) (now m) (now cells) (now seen) ⌝ }
+    requires { ⌜ PlaneInside (round .n) (now cells) (plane .base) (plane .row) (plane .stride) ⌝ }
+    requires { ⌜ Lists (round .n) (now live) (round .used) (now others) left (byte (now m)) ⌝ }
+    ensures { λ _. ⌜ Split (round .n) (Lines (Any (round .n) true) (Keeps (round .n)) (now (cells .entry)) (plane .base) (plane .row) (plane .stride)) (Lines (Chosen (now (live .entry)) (round .used) true) (KeepsOn (Listed (now (live .entry)) (round .used))) (now (cells .entry)) (plane .base) (plane .row) (plane .stride)) (now (m .entry)) (now (m .exit)) ⌝ }
+    ensures { λ s. ⌜ Lists (round .n) (now (live .entry)) (round .used) (now (others .exit)) s (byte (now (m .exit))) ⌝ }
+{
+    let used = round.used;
     let mut found = left;
     let mut i = 0;
     while i < used {
@@ -68,98 +187,93 @@ fn split_lines(
             return found;
         }
         let r = live[i] as usize;
-        found = split_chosen(m, n, cells, base, step, d, r, named, others, found);
+        found = split_chosen(m, round, cells, plane, r, others, found, seen);
         i += 1;
     }
     found
 }
 
-// `split_lines` from `base` moved by `row` times r; where `named` is set, only if r is a smallest member.
+// The plane of the solid that begins at r times its layer; where that argument is before the varied one, only if r is a smallest member.
 fn split_plane(
     m: &mut [u8],
-    n: usize,
+    round: Round,
     cells: &[u8],
-    base: usize,
-    row: usize,
-    step: usize,
-    d: usize,
+    solid: Solid,
     r: usize,
-    named: bool,
-    inner: bool,
     live: &[u8],
-    used: usize,
     others: &mut [u8],
     left: usize,
+    seen: &mut [u8],
 ) -> usize
-    requires { ⌜ MapLent n (now m) (now cells) ⌝ }
-    requires { ⌜ OnPlanes n (now cells) base row step d ⌝ }
-    requires { ⌜ Lists n (now live) used (now others) left (byte (now m)) ⌝ }
-    requires { ⌜ r < n ⌝ }
-    ensures { λ _. ⌜ Split n (Lines (Any n inner) (Keeps n) (now (cells .entry)) (base + r * row) step d) (λ g. ((named ≡ true → g r ≡ r) → Lines (Chosen (now (live .entry)) used inner) (KeepsOn (Listed (now (live .entry)) used)) (now (cells .entry)) (base + r * row) step d g)) (now (m .entry)) (now (m .exit)) ⌝ }
-    ensures { λ s. ⌜ Lists n (now (live .entry)) used (now (others .exit)) s (byte (now (m .exit))) ⌝ }
+    requires { ⌜ SplitLent (round .n) (now m) (now cells) (now seen) ⌝ }
+    requires { ⌜ SolidInside (round .n) (now cells) (solid .base) (solid .layer) (solid .row) (solid .stride) ⌝ }
+    requires { ⌜ (solid .inner ≡ false → solid .row ≡ 1) ⌝ }
+    requires { ⌜ Lists (round .n) (now live) (round .used) (now others) left (byte (now m)) ⌝ }
+    requires { ⌜ r < round .n ⌝ }
+    ensures { λ _. ⌜ Split (round .n) (Lines (Any (round .n) (solid .inner)) (Keeps (round .n)) (now (cells .entry)) (solid .base + r * solid .layer) (solid .row) (solid .stride)) (λ g. ((solid .named ≡ true → g r ≡ r) → Lines (Chosen (now (live .entry)) (round .used) (solid .inner)) (KeepsOn (Listed (now (live .entry)) (round .used))) (now (cells .entry)) (solid .base + r * solid .layer) (solid .row) (solid .stride) g)) (now (m .entry)) (now (m .exit)) ⌝ }
+    ensures { λ s. ⌜ Lists (round .n) (now (live .entry)) (round .used) (now (others .exit)) s (byte (now (m .exit))) ⌝ }
 {
-    if named {
+    if solid.named {
         if m[r] as usize != r {
             return left;
         }
     }
-    split_lines(
+    let base = solid.base + r * solid.layer;
+    if solid.inner {
+        return split_lines(
+            m,
+            round,
+            cells,
+            Plane {
+                base,
+                row: solid.row,
+                stride: solid.stride,
+            },
+            live,
+            others,
+            left,
+            seen,
+        );
+    }
+    split_rows(
         m,
-        n,
+        round,
         cells,
-        base + r * row,
-        step,
-        d,
-        inner,
+        Line {
+            base,
+            stride: solid.stride,
+        },
         live,
-        used,
         others,
         left,
+        seen,
     )
 }
 
-// `split_lines` from `base` moved by `row` times an element in use.
+// The planes of the solid that begin at an element in use.
 fn split_planes(
     m: &mut [u8],
-    n: usize,
+    round: Round,
     cells: &[u8],
-    base: usize,
-    row: usize,
-    step: usize,
-    d: usize,
-    named: bool,
-    inner: bool,
+    solid: Solid,
     live: &[u8],
-    used: usize,
     others: &mut [u8],
     left: usize,
+    seen: &mut [u8],
 ) -> usize
-    requires { ⌜ MapLent n (now m) (now cells) ⌝ }
-    requires { ⌜ OnPlanes n (now cells) base row step d ⌝ }
-    requires { ⌜ Lists n (now live) used (now others) left (byte (now m)) ⌝ }
-    ensures { λ _. ⌜ Split n (Planes (Any n named) (Any n inner) (Keeps n) (now (cells .entry)) base row step d) (Planes (Chosen (now (live .entry)) used named) (Chosen (now (live .entry)) used inner) (KeepsOn (Listed (now (live .entry)) used)) (now (cells .entry)) base row step d) (now (m .entry)) (now (m .exit)) ⌝ }
-    ensures { λ s. ⌜ Lists n (now (live .entry)) used (now (others .exit)) s (byte (now (m .exit))) ⌝ }
+    requires { ⌜ SplitLent (round .n) (now m) (now cells) (now seen) ⌝ }
+    requires { ⌜ SolidInside (round .n) (now cells) (solid .base) (solid .layer) (solid .row) (solid .stride) ⌝ }
+    requires { ⌜ (solid .inner ≡ false → solid .row ≡ 1) ⌝ }
+    requires { ⌜ Lists (round .n) (now live) (round .used) (now others) left (byte (now m)) ⌝ }
+    ensures { λ _. ⌜ Split (round .n) (Planes (Any (round .n) (solid .named)) (Any (round .n) (solid .inner)) (Keeps (round .n)) (now (cells .entry)) (solid .base) (solid .layer) (solid .row) (solid .stride)) (Planes (Chosen (now (live .entry)) (round .used) (solid .named)) (Chosen (now (live .entry)) (round .used) (solid .inner)) (KeepsOn (Listed (now (live .entry)) (round .used))) (now (cells .entry)) (solid .base) (solid .layer) (solid .row) (solid .stride)) (now (m .entry)) (now (m .exit)) ⌝ }
+    ensures { λ s. ⌜ Lists (round .n) (now (live .entry)) (round .used) (now (others .exit)) s (byte (now (m .exit))) ⌝ }
 {
+    let used = round.used;
     let mut found = left;
     let mut i = 0;
     while i < used {
         let r = live[i] as usize;
-        found = split_plane(
-            m,
-            n,
-            cells,
-            base,
-            row,
-            step,
-            d,
-            r,
-            named,
-            inner,
-            live,
-            used,
-            others,
-            found,
-        );
+        found = split_plane(m, round, cells, solid, r, live, others, found, seen);
         i += 1;
     }
     found
@@ -168,136 +282,150 @@ fn split_planes(
 // The line of a table of arity 1.
 fn split_unary(
     m: &mut [u8],
-    n: usize,
+    round: Round,
     cells: &[u8],
     base: usize,
     live: &[u8],
-    used: usize,
     others: &mut [u8],
     left: usize,
+    seen: &mut [u8],
 ) -> usize
-    requires { ⌜ MapLent n (now m) (now cells) ⌝ }
-    requires { ⌜ base + n ≤ length (now cells) ⌝ }
-    requires { ⌜ Lists n (now live) used (now others) left (byte (now m)) ⌝ }
-    ensures { λ _. ⌜ Split n (Table (Any n) (Keeps n) n (now (cells .entry)) base 1) (Table (Chosen (now (live .entry)) used) (KeepsOn (Listed (now (live .entry)) used)) n (now (cells .entry)) base 1) (now (m .entry)) (now (m .exit)) ⌝ }
-    ensures { λ s. ⌜ Lists n (now (live .entry)) used (now (others .exit)) s (byte (now (m .exit))) ⌝ }
+    requires { ⌜ SplitLent (round .n) (now m) (now cells) (now seen) ⌝ }
+    requires { ⌜ base + round .n ≤ length (now cells) ⌝ }
+    requires { ⌜ Lists (round .n) (now live) (round .used) (now others) left (byte (now m)) ⌝ }
+    ensures { λ _. ⌜ Split (round .n) (Table (Any (round .n)) (Keeps (round .n)) (round .n) (now (cells .entry)) base 1) (Table (Chosen (now (live .entry)) (round .used)) (KeepsOn (Listed (now (live .entry)) (round .used))) (round .n) (now (cells .entry)) base 1) (now (m .entry)) (now (m .exit)) ⌝ }
+    ensures { λ s. ⌜ Lists (round .n) (now (live .entry)) (round .used) (now (others .exit)) s (byte (now (m .exit))) ⌝ }
 {
-    split_line(m, n, cells, base, 1, others, left)
+    split_line(
+        m,
+        round,
+        cells,
+        Line { base, stride: 1 },
+        others,
+        left,
+        seen,
+    )
 }
 
 // The lines of a table of arity 2.
 fn split_binary(
     m: &mut [u8],
-    n: usize,
+    round: Round,
     cells: &[u8],
     base: usize,
     live: &[u8],
-    used: usize,
     others: &mut [u8],
     left: usize,
+    seen: &mut [u8],
 ) -> usize
-    requires { ⌜ MapLent n (now m) (now cells) ⌝ }
-    requires { ⌜ base + n * n ≤ length (now cells) ⌝ }
-    requires { ⌜ Lists n (now live) used (now others) left (byte (now m)) ⌝ }
-    ensures { λ _. ⌜ Split n (Table (Any n) (Keeps n) n (now (cells .entry)) base 2) (Table (Chosen (now (live .entry)) used) (KeepsOn (Listed (now (live .entry)) used)) n (now (cells .entry)) base 2) (now (m .entry)) (now (m .exit)) ⌝ }
-    ensures { λ s. ⌜ Lists n (now (live .entry)) used (now (others .exit)) s (byte (now (m .exit))) ⌝ }
+    requires { ⌜ SplitLent (round .n) (now m) (now cells) (now seen) ⌝ }
+    requires { ⌜ base + round .n * round .n ≤ length (now cells) ⌝ }
+    requires { ⌜ Lists (round .n) (now live) (round .used) (now others) left (byte (now m)) ⌝ }
+    ensures { λ _. ⌜ Split (round .n) (Table (Any (round .n)) (Keeps (round .n)) (round .n) (now (cells .entry)) base 2) (Table (Chosen (now (live .entry)) (round .used)) (KeepsOn (Listed (now (live .entry)) (round .used))) (round .n) (now (cells .entry)) base 2) (now (m .entry)) (now (m .exit)) ⌝ }
+    ensures { λ s. ⌜ Lists (round .n) (now (live .entry)) (round .used) (now (others .exit)) s (byte (now (m .exit))) ⌝ }
 {
-    let found = split_lines(m, n, cells, base, 1, n, false, live, used, others, left);
-    split_lines(m, n, cells, base, n, 1, true, live, used, others, found)
+    let n = round.n;
+    let first = split_rows(
+        m,
+        round,
+        cells,
+        Line { base, stride: n },
+        live,
+        others,
+        left,
+        seen,
+    );
+    split_lines(
+        m,
+        round,
+        cells,
+        Plane {
+            base,
+            row: n,
+            stride: 1,
+        },
+        live,
+        others,
+        first,
+        seen,
+    )
 }
 
 // The lines of a table of arity 3.
 fn split_ternary(
     m: &mut [u8],
-    n: usize,
+    round: Round,
     cells: &[u8],
     base: usize,
     live: &[u8],
-    used: usize,
     others: &mut [u8],
     left: usize,
+    seen: &mut [u8],
 ) -> usize
-    requires { ⌜ MapLent n (now m) (now cells) ⌝ }
-    requires { ⌜ base + n * n * n ≤ length (now cells) ⌝ }
-    requires { ⌜ Lists n (now live) used (now others) left (byte (now m)) ⌝ }
-    ensures { λ _. ⌜ Split n (Table (Any n) (Keeps n) n (now (cells .entry)) base 3) (Table (Chosen (now (live .entry)) used) (KeepsOn (Listed (now (live .entry)) used)) n (now (cells .entry)) base 3) (now (m .entry)) (now (m .exit)) ⌝ }
-    ensures { λ s. ⌜ Lists n (now (live .entry)) used (now (others .exit)) s (byte (now (m .exit))) ⌝ }
+    requires { ⌜ SplitLent (round .n) (now m) (now cells) (now seen) ⌝ }
+    requires { ⌜ base + round .n * round .n * round .n ≤ length (now cells) ⌝ }
+    requires { ⌜ Lists (round .n) (now live) (round .used) (now others) left (byte (now m)) ⌝ }
+    ensures { λ _. ⌜ Split (round .n) (Table (Any (round .n)) (Keeps (round .n)) (round .n) (now (cells .entry)) base 3) (Table (Chosen (now (live .entry)) (round .used)) (KeepsOn (Listed (now (live .entry)) (round .used))) (round .n) (now (cells .entry)) base 3) (now (m .entry)) (now (m .exit)) ⌝ }
+    ensures { λ s. ⌜ Lists (round .n) (now (live .entry)) (round .used) (now (others .exit)) s (byte (now (m .exit))) ⌝ }
 {
+    let n = round.n;
     let area = n * n;
-    let first = split_planes(
-        m,
-        n,
-        cells,
+    let firsts = Solid {
         base,
-        n,
-        1,
-        area,
-        false,
-        false,
-        live,
-        used,
-        others,
-        left,
-    );
-    let second = split_planes(
-        m,
-        n,
-        cells,
+        layer: n,
+        row: 1,
+        stride: area,
+        named: false,
+        inner: false,
+    };
+    let first = split_planes(m, round, cells, firsts, live, others, left, seen);
+    let seconds = Solid {
         base,
-        area,
-        1,
-        n,
-        true,
-        false,
-        live,
-        used,
-        others,
-        first,
-    );
-    split_planes(
-        m,
-        n,
-        cells,
+        layer: area,
+        row: 1,
+        stride: n,
+        named: true,
+        inner: false,
+    };
+    let second = split_planes(m, round, cells, seconds, live, others, first, seen);
+    let thirds = Solid {
         base,
-        area,
-        n,
-        1,
-        true,
-        true,
-        live,
-        used,
-        others,
-        second,
-    )
+        layer: area,
+        row: n,
+        stride: 1,
+        named: true,
+        inner: true,
+    };
+    split_planes(m, round, cells, thirds, live, others, second, seen)
 }
 
 // The lines of the operation of arity s whose table begins at `base`.
 fn split_table(
     m: &mut [u8],
-    n: usize,
+    round: Round,
     cells: &[u8],
     base: usize,
     s: usize,
     live: &[u8],
-    used: usize,
     others: &mut [u8],
     left: usize,
+    seen: &mut [u8],
 ) -> usize
-    requires { ⌜ MapLent n (now m) (now cells) ⌝ }
+    requires { ⌜ SplitLent (round .n) (now m) (now cells) (now seen) ⌝ }
     requires { ⌜ s ≤ 3 ⌝ }
-    requires { ⌜ base + n ^ s ≤ length (now cells) ⌝ }
-    requires { ⌜ Lists n (now live) used (now others) left (byte (now m)) ⌝ }
-    ensures { λ _. ⌜ Split n (Table (Any n) (Keeps n) n (now (cells .entry)) base s) (Table (Chosen (now (live .entry)) used) (KeepsOn (Listed (now (live .entry)) used)) n (now (cells .entry)) base s) (now (m .entry)) (now (m .exit)) ⌝ }
-    ensures { λ r. ⌜ Lists n (now (live .entry)) used (now (others .exit)) r (byte (now (m .exit))) ⌝ }
+    requires { ⌜ base + round .n ^ s ≤ length (now cells) ⌝ }
+    requires { ⌜ Lists (round .n) (now live) (round .used) (now others) left (byte (now m)) ⌝ }
+    ensures { λ _. ⌜ Split (round .n) (Table (Any (round .n)) (Keeps (round .n)) (round .n) (now (cells .entry)) base s) (Table (Chosen (now (live .entry)) (round .used)) (KeepsOn (Listed (now (live .entry)) (round .used))) (round .n) (now (cells .entry)) base s) (now (m .entry)) (now (m .exit)) ⌝ }
+    ensures { λ r. ⌜ Lists (round .n) (now (live .entry)) (round .used) (now (others .exit)) r (byte (now (m .exit))) ⌝ }
 {
     if s == 1 {
-        return split_unary(m, n, cells, base, live, used, others, left);
+        return split_unary(m, round, cells, base, live, others, left, seen);
     }
     if s == 2 {
-        return split_binary(m, n, cells, base, live, used, others, left);
+        return split_binary(m, round, cells, base, live, others, left, seen);
     }
     if s == 3 {
-        return split_ternary(m, n, cells, base, live, used, others, left);
+        return split_ternary(m, round, cells, base, live, others, left, seen);
     }
     left
 }
@@ -305,28 +433,30 @@ fn split_table(
 // The lines of every table of an accepted algebra.
 pub fn split_all(
     m: &mut [u8],
-    n: usize,
+    round: Round,
     arities: &[u8],
     cells: &[u8],
     live: &[u8],
-    used: usize,
     others: &mut [u8],
     left: usize,
+    seen: &mut [u8],
 ) -> usize
-    requires { ⌜ Accepted (algebraIn n arities cells) ⌝ }
-    requires { ⌜ n ≤ length (now m) ⌝ }
-    requires { ⌜ Canonical n (byte (now m)) ⌝ }
-    requires { ⌜ Represented (algebraIn n arities cells) (now live) used (byte (now m)) ⌝ }
-    requires { ⌜ Lists n (now live) used (now others) left (byte (now m)) ⌝ }
-    ensures { λ _. ⌜ Split n (Compatible (algebraIn n (arities .entry) (cells .entry))) (Compatible (algebraIn n (arities .entry) (cells .entry))) (now (m .entry)) (now (m .exit)) ⌝ }
-    ensures { λ r. ⌜ Lists n (now (live .entry)) used (now (others .exit)) r (byte (now (m .exit))) ⌝ }
+    requires { ⌜ Accepted (algebraIn (round .n) arities cells) ⌝ }
+    requires { ⌜ round .n ≤ length (now m) ⌝ }
+    requires { ⌜ 4096 ≤ length (now seen) ⌝ }
+    requires { ⌜ Canonical (round .n) (byte (now m)) ⌝ }
+    requires { ⌜ Represented (algebraIn (round .n) arities cells) (now live) (round .used) (byte (now m)) ⌝ }
+    requires { ⌜ Lists (round .n) (now live) (round .used) (now others) left (byte (now m)) ⌝ }
+    ensures { λ _. ⌜ Split (round .n) (Compatible (algebraIn (round .n) (arities .entry) (cells .entry))) (Compatible (algebraIn (round .n) (arities .entry) (cells .entry))) (now (m .entry)) (now (m .exit)) ⌝ }
+    ensures { λ r. ⌜ Lists (round .n) (now (live .entry)) (round .used) (now (others .exit)) r (byte (now (m .exit))) ⌝ }
 {
+    let n = round.n;
     let mut found = left;
     let mut base = 0;
     let mut j = 0;
     while j < arities.len() {
         let s = arities[j] as usize;
-        found = split_table(m, n, cells, base, s, live, used, others, found);
+        found = split_table(m, round, cells, base, s, live, others, found, seen);
         base = base + algebra::power(n, s);
         j += 1;
     }

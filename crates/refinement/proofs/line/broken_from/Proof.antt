@@ -4,16 +4,16 @@ use mathlib.Core.Path.{_≡_}
 use native.Mathlib.Omega.{arith}
 use lib.ListN.{length, getD}
 use Rattle.equivalence.specs.Equivalence.{byte}
-use Rattle.refinement.specs.InnerSplitting.{lineAt}
+use Rattle.translation.specs.InnerLines.{lineAt}
 use Rattle.refinement.proofs.Splits.{range-more}
 use Rattle.refinement.proofs.line.broken_from.Statement.{statement}
 use Rattle.refinement.proofs.line.broken_from.Tie as tie
 
 abbrev Inv-loop : tie.InvT-loop
-Inv-loop m n cells base d list count start i₀ i = (start ≤ i) × (i ≤ count) × ((k : ℕ) → start ≤ k → k < i → byte m (lineAt cells base d (byte list k)) ≡ byte m (lineAt cells base d (byte m (byte list k))))
+Inv-loop m n cells list count start base stride i₀ i = (start ≤ i) × (i ≤ count) × ((k : ℕ) → start ≤ k → k < i → byte m (lineAt cells base stride (byte list k)) ≡ byte m (lineAt cells base stride (byte m (byte list k))))
 
 abbrev μ-loop : tie.MeasureT-loop
-μ-loop m n cells base d list count start i₀ i = count - i
+μ-loop m n cells list count start base stride i₀ i = count - i
 
 -- what holds in a turn: the element, its smallest member and their cells are in range
 record Turn (n size base d x first room : ℕ) (image expected : ℕ) : Type 0 where
@@ -27,7 +27,7 @@ record Turn (n size base d x first room : ℕ) (image expected : ℕ) : Type 0 w
   expected-below : expected < n
 
 turn : (c : tie.In-loop Inv-loop μ-loop) → let a = c .before .before .args in let x = byte (a .list .now) (c .before .loop .i) in let first = byte (a .m .now) x in
-    Turn (a .n) (length (a .cells .now)) (a .base) (a .d) x first (length (a .m .now)) (getD (a .cells .now) (a .base + x * a .d) 0) (getD (a .cells .now) (a .base + first * a .d) 0)
+    Turn (a .n) (length (a .cells .now)) (a .line .base) (a .line .stride) x first (length (a .m .now)) (getD (a .cells .now) (a .line .base + x * a .line .stride) 0) (getD (a .cells .now) (a .line .base + first * a .line .stride) 0)
 turn c =
     let s = c .before .before in
     let a = s .args in
@@ -35,8 +35,8 @@ turn c =
     let first = byte (a .m .now) x in
     let lx : x < a .n = s .pre .1 .1 .0 .below (c .before .loop .i) (c .loop-test .taken) in
     let lf : first < a .n = omega (arith, s .pre .0 .canonical .below x lx) in
-    let cx = s .pre .1 .0 x lx in
-    let cf = s .pre .1 .0 first lf in
+    let cx = s .pre .1 .0 .inside x lx in
+    let cf = s .pre .1 .0 .inside first lf in
     record {
       small = s .pre .0 .small;
       long = s .pre .0 .room;
@@ -44,8 +44,8 @@ turn c =
       named = lf;
       image-cell = cx;
       expected-cell = cf;
-      image-below = s .pre .0 .below (a .base + x * a .d) cx;
-      expected-below = s .pre .0 .below (a .base + first * a .d) cf;
+      image-below = s .pre .0 .below (a .line .base + x * a .line .stride) cx;
+      expected-below = s .pre .0 .below (a .line .base + first * a .line .stride) cf;
     }
 
 loop-holds : tie.Need-loop-holds Inv-loop μ-loop

@@ -1,102 +1,95 @@
--- `renamed` meets its contract: an element of another block, one whose image was met before, or the first with its image.
+-- `renamed` meets its contract: an element of another block keeps its name, one of the block is looked up in the row.
 use Prim.Native.Nat.{ℕ, _+_, _*_, _≤_, _<_}
 use native.Mathlib.Omega.{arith}
 use lib.ListN.{length}
-use lib.Seq.{getD-set-same, getD-set-other}
 use Rattle.equivalence.specs.Equivalence.{byte}
-use Rattle.refinement.specs.InnerSplitting.{lineAt}
-use Rattle.refinement.proofs.Seeing.{alike-elsewhere, seen-elsewhere, alike-seen, seen-seen, alike-first, seen-first}
+use Rattle.translation.specs.InnerLines.{lineAt}
+use Rattle.refinement.proofs.Seeing.{renamed-elsewhere, renamed-here}
 use borrow.Author.Needs.{needs}
 use Rattle.refinement.proofs.line.renamed.Statement.{statement}
 use Rattle.refinement.proofs.line.renamed.Tie as tie
 
 -- the cell of x, and the block in which it lies
-record Image (n base d x size room cell image : ℕ) : Type 0 where
+record Image (n base stride x name size room rows cell image : ℕ) : Type 0 where
   small : n ≤ 64
   long : n ≤ room
-  place : base + x * d < size
+  element : x < n
+  called : name < n
+  there : 4096 ≤ rows
+  place : base + x * stride < size
   below : cell < n
   block : image < n
 
-image-of : (s : tie.Start) → let a = s .args in let v = lineAt (a .cells .now) (a .base) (a .d) (a .x) in Image (a .n) (a .base) (a .d) (a .x) (length (a .cells .now)) (length (a .m .now)) v (byte (a .m .now) v)
+image-of : (s : tie.Start) → let a = s .args in let v = lineAt (a .cells .now) (a .line .base) (a .line .stride) (a .x) in
+    Image (a .n) (a .line .base) (a .line .stride) (a .x) (a .name) (length (a .cells .now)) (length (a .m .now)) (length (a .seen .now)) v (byte (a .m .now) v)
 image-of s =
     let a = s .args in
-    let v = lineAt (a .cells .now) (a .base) (a .d) (a .x) in
-    let p = s .pre .1 .0 (a .x) (s .pre .1 .1 .1 .0) in
-    let l = s .pre .0 .below (a .base + a .x * a .d) p in
+    let lent = s .pre .0 .map in
+    let v = lineAt (a .cells .now) (a .line .base) (a .line .stride) (a .x) in
+    let p = s .pre .1 .0 .inside (a .x) (s .pre .1 .1 .0) in
+    let l = lent .below (a .line .base + a .x * a .line .stride) p in
     record {
-      small = s .pre .0 .small;
-      long = s .pre .0 .room;
+      small = lent .small;
+      long = lent .room;
+      element = s .pre .1 .1 .0;
+      called = s .pre .1 .1 .1 .0;
+      there = s .pre .0 .rows;
       place = p;
       below = l;
-      block = omega (arith, s .pre .0 .canonical .below v l);
+      block = omega (arith, lent .canonical .below v l);
     }
 
 shared-slice-read-if1 : tie.Need-shared-slice-read-if1
-shared-slice-read-if1 c = search needs
+shared-slice-read-if1 c = omega (arith, image-of (c .before .before .before .before))
 
 shared-slice-read-result : tie.Need-shared-slice-read-result
-shared-slice-read-result c = search needs
+shared-slice-read-result c = omega (arith, image-of (c .before .before .before .before .before .before))
 
 returns : tie.Need-returns
-returns c = let p = c .before .before .before .pre in (alike-elsewhere (p .0 .canonical) (p .1 .1 .1 .0) (c .before .if1 .taken), seen-elsewhere (p .0 .canonical) (p .1 .1 .1 .0) (c .before .if1 .taken) (p .1 .1 .1 .1))
+returns c = let p = c .before .before .before .before .before .before .pre in renamed-elsewhere (p .0 .map .canonical) (p .1 .1 .0) (p .1 .1 .1 .1) (c .before .if1 .taken)
 
 mul-v : tie.Need-mul-v
-mul-v c = omega (arith, image-of (c .before .before))
+mul-v c = omega (arith, image-of (c .before .before .before .before .before))
 
 add-v : tie.Need-add-v
-add-v c = omega (arith, image-of (c .before .before))
+add-v c = omega (arith, image-of (c .before .before .before .before .before))
 
 shared-slice-read-v : tie.Need-shared-slice-read-v
-shared-slice-read-v c = omega (arith, image-of (c .before .before .before))
+shared-slice-read-v c = omega (arith, image-of (c .before .before .before .before .before .before))
 
 cast-v : tie.Need-cast-v
-cast-v c = omega (arith, image-of (c .before .before .before))
+cast-v c = omega (arith, image-of (c .before .before .before .before .before .before))
 
-shared-slice-read-image : tie.Need-shared-slice-read-image
-shared-slice-read-image c = omega (arith, image-of (c .before .before .before .before))
+mul-place : tie.Need-mul-place
+mul-place c = omega (arith, image-of (c .before .before .before .before .before .before))
 
-cast-image : tie.Need-cast-image
-cast-image c = omega (arith, image-of (c .before .before .before .before))
+shared-slice-read-place : tie.Need-shared-slice-read-place
+shared-slice-read-place c = omega (arith, image-of (c .before .before .before .before .before .before .before))
 
-slice-read-if2 : tie.Need-slice-read-if2
-slice-read-if2 c = omega (arith, image-of (c .before .before .before .before .before), c .before .before .before .before .before .pre .1 .1 .0)
+cast-place : tie.Need-cast-place
+cast-place c = omega (arith, image-of (c .before .before .before .before .before .before .before))
 
-slice-read-result : tie.Need-slice-read-result
-slice-read-result c = omega (arith, image-of (c .before .before .before .before .before .before .before), c .before .before .before .before .before .before .before .pre .1 .1 .0)
+add-place : tie.Need-add-place
+add-place c = omega (arith, image-of (c .before .before .before .before .before .before .before))
 
-returns-2 : tie.Need-returns-2
-returns-2 c =
-    let s = c .before .before .before .before .before .before .before in
-    let p = s .pre in
-    let a = s .args in
-    let l : byte (a .m .now) (lineAt (a .cells .now) (a .base) (a .d) (a .x)) < 64 = omega (arith, image-of s) in
-    (alike-seen (p .0 .canonical) (p .1 .1 .1 .0) (c .before .before .before .before .before .if1 .left) (p .1 .1 .1 .1) l (c .before .if2 .taken), seen-seen (p .0 .canonical) (p .1 .1 .1 .0) (c .before .before .before .before .before .if1 .left) (p .1 .1 .1 .1) l (c .before .if2 .taken))
+slice-read-first-seen : tie.Need-slice-read-first-seen
+slice-read-first-seen c = omega (arith, image-of (c .before .before .before .before .before .before .before .before))
 
-cast-seen : tie.Need-cast-seen
-cast-seen c = search needs
+first-seen-requires : tie.Need-first-seen-requires
+first-seen-requires c κs = omega (arith, image-of (c .before .before .before .before .before .before .before .before))
 
 slice-write-seen : tie.Need-slice-write-seen
-slice-write-seen c = omega (arith, image-of (c .before .before .before .before .before .before), c .before .before .before .before .before .before .pre .1 .1 .0)
-
-cast-result : tie.Need-cast-result
-cast-result c = search needs
+slice-write-seen c = omega (arith, image-of (c .before .before .before .before .before .before .before .before .before))
 
 same-length : tie.Need-same-length
 same-length c = search needs
 
-returns-3 : tie.Need-returns-3
-returns-3 c =
-    let s = c .before .before .before .before .before .before in
+returns-2 : tie.Need-returns-2
+returns-2 c =
+    let s = c .before .before .before .before .before .before .before .before .before in
     let p = s .pre in
-    let a = s .args in
-    let image = byte (a .m .now) (lineAt (a .cells .now) (a .base) (a .d) (a .x)) in
-    let l : image < 64 = omega (arith, image-of s) in
-    let none : 64 ≤ byte (a .seen .now) image = omega arith in
-    let there : image < length (a .seen .now) = omega (arith, p .1 .1 .0) in (
-      alike-first (p .0 .canonical) (p .1 .1 .1 .0) (c .before .before .before .before .if1 .left) (p .1 .1 .1 .1) l none,
-      seen-first (p .0 .canonical) (p .1 .1 .1 .0) (c .before .before .before .before .if1 .left) (omega (arith, image-of s, p .1 .1 .1 .0)) (p .1 .1 .1 .1) l none (getD-set-same (a .seen .now) image (a .x) 0 there) (λ v h. getD-set-other (a .seen .now) image v (a .x) 0 h),
-    )
+    let i = image-of s in
+    renamed-here (p .0 .map .canonical) (p .1 .1 .0) (p .1 .1 .1 .1) (c .before .before .before .before .if1 .left) (omega arith) (omega arith) (omega arith) (i .there) (c .first-seen .ensures)
 
 pub renamed-spec : {M : Type 1} → statement M
 renamed-spec =
@@ -109,13 +102,12 @@ renamed-spec =
     add-v
     shared-slice-read-v
     cast-v
-    shared-slice-read-image
-    cast-image
-    slice-read-if2
-    slice-read-result
-    returns-2
-    cast-seen
+    mul-place
+    shared-slice-read-place
+    cast-place
+    add-place
+    slice-read-first-seen
+    first-seen-requires
     slice-write-seen
-    cast-result
     same-length
-    returns-3)
+    returns-2)
