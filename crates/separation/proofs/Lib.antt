@@ -1,2 +1,4 @@
+pub mod Bounding
 pub mod Settling
 pub mod TwoBlocks
+pub mod Standings

@@ -1,5 +1,5 @@
--- The search's steps: it starts at the identity, settles a pair (held, taken, passed, or skipped since one of its elements is no smallest member), and ends,
--- once every row up to v is settled, with the greatest congruence inside "v's block and the rest" (004, Lemma 10).
+-- The search's steps: it starts at the identity, and settles a pair (held, taken, passed, or skipped since one of its elements is no smallest member). How it ends is
+-- shown in Bounding.
 use Prim.Native.Nat.{ℕ, zero, suc, _+_, _-_, _*_, _≤_, _<_}
 use mathlib.Core.List.{List}
 use mathlib.Core.Logic.{_⊎_, inl, inr}
@@ -10,12 +10,11 @@ use lib.ListN.{length, set}
 use lib.Seq.{ext-getD, getD-set-other}
 use Rattle.equivalence.specs.Equivalence.{byte}
 use Rattle.kernel.specs.InnerKernel.{Within, Filled}
-use Rattle.equivalence.specs.Lists.{first}
 use Rattle.kernel.proofs.Kernels.{identity-canonical, identity-within}
 use Rattle.algebra.specs.Algebra.{Algebra}
-use Rattle.translation.specs.InnerTranslations.{Compatible, Closed, Refined}
+use Rattle.translation.specs.InnerTranslations.{Compatible, Closed}
 use Rattle.closure.specs.InnerStarts.{RefusedRightlyAbove}
-use Rattle.separation.specs.InnerSearch.{KeepsBefore, Before, Refused, Settled, TwoBlocks, Earliest, Rooms}
+use Rattle.separation.specs.InnerSearch.{KeepsBefore, Before, Refused, Settled, Earliest}
 
 module _ (a : Algebra) (v w : ℕ) where
   pub settled-start : (f : ℕ → ℕ) → v < a .size → w < a .size → ¬ (v ≡ w) → ((x : ℕ) → x < a .size → f x ≡ x) → Compatible a f → Settled a v w 0 1 f
@@ -133,60 +132,6 @@ module _ (a : Algebra) (v w : ℕ) where
       skips zero y e k t = subst (λ (z : ℕ). Settled a v w x z f) (omega arith) t
       skips (suc d) y e k t = skips d (y + 1) (omega arith) (omega arith) (settled-skip x y f t k (omega arith) (λ p. n (p .0)))
 
--- once every pair with v is settled, the rest is 004's Lemma 10
-module _ (a : Algebra) (v w : ℕ) (lv : v < a .size) (lw : w < a .size) (f : ℕ → ℕ) (s : Settled a v w (v + 1) (v + 2) f)
-    (e : ℕ → ℕ) (two : TwoBlocks (a .size) v f e) (h : ℕ → ℕ) (r : Refined a e h) where
-  above : Within (a .size) f h
-  above = r .greatest f (s .compatible) (λ x y lx ly q. elim (ℕ-discrete (f x) (f v)) [
-    | yes z ↦ two .same x y lx ly z (sym q ∙ z)
-    | no z ↦ two .rest x y lx ly z (λ u. z (q ∙ u))
-  ])
-
-  end-apart : ¬ (h v ≡ h w)
-  end-apart q = two .apart v w lv lw refl (λ z. s .apart (sym z)) (r .within v w lv lw q)
-
-  -- of the pairs with an element up to v, h holds no more than f
-  no-more : (p q : ℕ) → p < q → q < a .size → p ≤ v → h p ≡ h q → f p ≡ f q
-  no-more p q l k o i = elim (ℕ-discrete (f p) (f q)) [
-    | yes z ↦ z
-    | no z ↦ absurd (end-apart (s .refused p q l k (inl (omega arith)) z h (r .compatible) (λ i j li lj b u. above i j (omega arith) lj u) i))
-  ]
-
-  -- a congruence that agrees with h on all pairs up to v's row lies within e
-  within-two : (g : ℕ → ℕ) → Compatible a g → (x y : ℕ) → v < x → KeepsBefore (a .size) h g x y → KeepsBefore (a .size) g h x y → Within (a .size) g e
-  within-two g c x y l to from =
-      let up : Within (a .size) f g = s .own g c (λ p q lp lq b u. elim b [
-        | inl o ↦ to p q lp lq (inl (omega arith)) (above p q (omega arith) lq u)
-        | inr o ↦ absurd (omega (arith, o .0, o .1))
-      ]) in
-      let stays : (q : ℕ) → q < a .size → g v ≡ g q → f q ≡ f v =
-      λ q lq u. elim (decLt v q) [
-        | yes o ↦ sym (no-more v q o lq (omega arith) (from v q o lq (inl l) u))
-        | no o ↦ elim (decLt q v) [
-          | yes i ↦ no-more q v i lv (omega arith) (from q v i lv (inl (omega arith)) (sym u))
-          | no i ↦ ap f (omega arith)
-        ]
-      ] in
-      λ p q lp lq u. elim (ℕ-discrete (f p) (f v)) [
-        | yes z ↦ two .same p q lp lq z (stays q lq (sym (up p v lp lv z) ∙ u))
-        | no z ↦ two .rest p q lp lq z (λ o. z (stays p lp (sym (up q v lq lv o) ∙ sym u)))
-      ]
-
-  pub settled-end : Earliest a v w h
-  settled-end =
-      record {
-        canonical = r .canonical;
-        compatible = r .compatible;
-        apart = end-apart;
-        first = λ g c n x y l k to from u. elim (decLt v x) [
-          | yes o ↦ r .greatest g c (within-two g c x y o to from) x y (omega arith) k u
-          | no o ↦ elim (ℕ-discrete (f x) (f y)) [
-            | yes z ↦ above x y (omega arith) k z
-            | no z ↦ absurd (n (s .refused x y l k (inl (omega arith)) z g c (λ p q lp lq b i. to p q lp lq b (above p q (omega arith) lq i)) u))
-          ]
-        ];
-      }
-
 -- which of the two elements is named first does not matter
 pub earliest-swap : (a : Algebra) (v w : ℕ) (f : ℕ → ℕ) → Earliest a v w f → Earliest a w v f
 earliest-swap a v w f e =
@@ -217,16 +162,3 @@ module _ (a : Algebra) (v w : ℕ) (f : ℕ → ℕ) where
 -- a slice that is copied whole
 pub copied-equal : (k : ℕ) (from to : List ℕ) {old : ℕ → ℕ} → length from ≡ k → length to ≡ k → Filled k (byte from) old (byte to) → to ≡ from
 copied-equal k from to a b d = ext-getD 0 to from (b ∙ sym a) (λ x l. d .first x (omega arith))
-
--- slices of other contents and the same lengths are rooms as well
-pub rooms-kept : {n v w : ℕ} {arities cells m names table m′ names′ table′ : List ℕ} → Rooms n arities cells m names table v w
-    → length m′ ≡ length m → length names′ ≡ length names → length table′ ≡ length table → Rooms n arities cells m′ names′ table′ v w
-rooms-kept r a b c =
-    record {
-      accepted = r .accepted;
-      map-room = a ∙ r .map-room;
-      names-room = b ∙ r .names-room;
-      table-room = c ∙ r .table-room;
-      left = r .left;
-      right = r .right;
-    }

@@ -56,24 +56,16 @@ module _ (n v q : ℕ) (f e : ℕ → ℕ) (c : Canonical n f) (lv : v < n) (o :
     ];
   }
 
--- ---- the smallest members of a congruence within the two blocks
+-- ---- the smallest members of a congruence
 
--- what f joins stays in one of the two blocks
-two-within : {n v : ℕ} {f e : ℕ → ℕ} → TwoBlocks n v f e → Within n f e
-two-within {v = v} {f} t x y lx ly p =
-    elim (ℕ-discrete (f x) (f v)) [
-      | yes s ↦ t .same x y lx ly s (sym p ∙ s)
-      | no s ↦ t .rest x y lx ly s (λ q. s (p ∙ q))
-    ]
-
--- the listed names of a congruence stand for all elements where it is within the two blocks
-pub names-represent : (a : Algebra) {v count : ℕ} {f e : ℕ → ℕ} {names : List ℕ} → Canonical (a .size) f → Compatible a f → TwoBlocks (a .size) v f e → count ≤ length names
+-- the listed names of a congruence stand for all elements where it is within e
+pub names-represent : (a : Algebra) {count : ℕ} {f e : ℕ → ℕ} {names : List ℕ} → Canonical (a .size) f → Compatible a f → Within (a .size) f e → count ≤ length names
     → NamesListed (a .size) f names count → Represented a names count e
 names-represent a {f = f} c k t r l = record {
   elements = record { room = r; below = l .small };
   name = f;
   canonical = c;
   compatible = k;
-  within = two-within t;
+  within = t;
   listed = λ x lx. l .all (f x) (omega (arith, c .below x lx)) (eq-eqb (f (f x)) (f x) (c .named x lx));
 }

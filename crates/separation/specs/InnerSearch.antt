@@ -1,14 +1,18 @@
 -- The search for the earliest congruence that holds v and w apart: pairs are settled in their order, each taken where v and w stay apart.
-use Prim.Native.Nat.{ℕ, _<_}
+use Prim.Native.Nat.{ℕ, _≤_, _<_}
 use mathlib.Core.Path.{_≡_}
 use mathlib.Core.Logic.{_⊎_}
 use mathlib.Core.List.{List}
 use lib.ListN.{length}
+use Rattle.equivalence.specs.Equivalence.{byte}
 use Rattle.kernel.specs.InnerKernel.{Canonical, Within}
 use Rattle.algebra.specs.Algebra.{Algebra, algebraOf}
 use Rattle.algebra.specs.Accepted.{Accepted}
 use Rattle.translation.specs.InnerTranslations.{Compatible}
-use Rattle.closure.specs.InnerStarts.{RefusedRightlyAbove, NamesListed}
+use Rattle.equivalence.specs.declared.Pair.{Pair}
+use Rattle.sweep.specs.InnerQueue.{Padded}
+use Rattle.closure.specs.InnerStarts.{RefusedRightlyAbove}
+use Rattle.closure.specs.InnerClosing.{NamesInUse}
 
 -- (p, q) comes before (x, y): by the first element, then by the second
 abbrev pub Before : ℕ → ℕ → ℕ → ℕ → Type 0
@@ -31,11 +35,21 @@ pub record Settled (a : Algebra) (v w x y : ℕ) (f : ℕ → ℕ) : Type 0 wher
   pub refused : (p q : ℕ) → p < q → q < a .size → Before p q x y → ¬ (f p ≡ f q)
       → (g : ℕ → ℕ) → Compatible a g → KeepsBefore (a .size) f g p q → g p ≡ g q → g v ≡ g w
 
--- where the search stands: the pairs before (x, y) are settled, every congruence above f joins v and w where it joins a refused pair, and the names of f are listed
-pub record SearchState (a : Algebra) (v w x y : ℕ) (table names : List ℕ) (count : ℕ) (f : ℕ → ℕ) : Type 0 where
-  pub settled : Settled a v w x y f
-  pub refusals : RefusedRightlyAbove a table v w f
-  pub listed : NamesListed (a .size) f names count
+-- where the search stands: the pairs before (x, y) are settled in the map m over an accepted algebra, whose bytes past n name themselves; its names are listed, with the place of each
+pub record Standing (n : ℕ) (arities cells m names places : List ℕ) (marked : Pair) (x y count : ℕ) : Type 0 where
+  pub accepted : Accepted (algebraOf n arities cells)
+  pub size : n ≤ 64
+  pub map-room : length m ≡ 64
+  pub padded : Padded n (byte m)
+  pub left : marked .x < n
+  pub right : marked .y < n
+  pub settled : Settled (algebraOf n arities cells) (marked .x) (marked .y) x y (byte m)
+  pub names-in-use : NamesInUse n (byte m) names places count
+
+-- the table has 64 rows of 64 marks, and every congruence above f joins the marked elements where it joins a pair that has a mark
+pub record Marks (a : Algebra) (table : List ℕ) (marked : Pair) (f : ℕ → ℕ) : Type 0 where
+  pub room : length table ≡ 4096
+  pub rightly : RefusedRightlyAbove a table (marked .x) (marked .y) f
 
 -- e has two blocks: the block of v in f, and the rest
 pub record TwoBlocks (n v : ℕ) (f e : ℕ → ℕ) : Type 0 where
@@ -51,11 +65,10 @@ pub record Earliest (a : Algebra) (v w : ℕ) (f : ℕ → ℕ) : Type 0 where
   pub first : (g : ℕ → ℕ) → Compatible a g → ¬ (g v ≡ g w) → (x y : ℕ) → x < y → y < a .size
       → KeepsBefore (a .size) f g x y → KeepsBefore (a .size) g f x y → g x ≡ g y → f x ≡ f y
 
--- what every function of the search asks: an accepted algebra, two elements, room for 64 bytes in the map and in the list of its names, and for 64 rows of marks
-pub record Rooms (n : ℕ) (arities cells m names table : List ℕ) (v w : ℕ) : Type 0 where
-  pub accepted : Accepted (algebraOf n arities cells)
+-- room for a map, for the list of its names and their places, and for marks, none of which is set
+pub record Unused (m names places table : List ℕ) : Type 0 where
   pub map-room : length m ≡ 64
   pub names-room : length names ≡ 64
+  pub places-room : length places ≡ 64
   pub table-room : length table ≡ 4096
-  pub left : v < n
-  pub right : w < n
+  pub unmarked : (i : ℕ) → i < 4096 → byte table i ≡ 0

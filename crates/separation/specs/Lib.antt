@@ -1,2 +1,3 @@
 pub mod InnerSearch
 pub mod InnerBlocks
+pub mod InnerBounds

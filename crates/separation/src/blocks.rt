@@ -1,8 +1,8 @@
 // The equivalence with two blocks with which the search ends: v's block and the rest.
 ghost use mathlib.Core.Path.{_≡_};
-ghost use Prim.Native.Nat.{ℕ, _<_, _≤_};
+ghost use Prim.Native.Nat.{_<_, _≤_};
 ghost use Rattle.equivalence.specs.Equivalence.{byte};
-ghost use Rattle.kernel.specs.InnerKernel.{Canonical, Filled};
+ghost use Rattle.kernel.specs.InnerKernel.{Canonical, Filled, KeptPast};
 ghost use Rattle.separation.specs.InnerSearch.{TwoBlocks};
 ghost use Rattle.separation.specs.InnerBlocks.{FirstOther, oneOf};
 
@@ -50,7 +50,7 @@ pub fn two_blocks(m: &[u8], n: usize, v: usize, out: &mut [u8])
     requires { ⌜ Canonical n (byte (now m)) ⌝ }
     ensures { λ _. ⌜ TwoBlocks n v (byte (now (m .entry))) (byte (now (out .exit))) ⌝ }
     ensures { λ _. ⌜ Canonical n (byte (now (out .exit))) ⌝ }
-    ensures { λ _. ⌜ ((x : ℕ) → n ≤ x → byte (now (out .exit)) x ≡ byte (now (out .entry)) x) ⌝ }
+    ensures { λ _. ⌜ KeptPast n (byte (now (out .entry))) (byte (now (out .exit))) ⌝ }
 {
     let r = m[v];
     let q = first_other(m, n, r);

@@ -1,43 +1,64 @@
 // Separate: the earliest congruence of an accepted algebra that holds two elements apart.
 ghost use mathlib.Core.Path.{_≡_};
-ghost use Prim.Native.Nat.{ℕ, _<_, _≤_};
+ghost use Prim.Native.Nat.{_<_, _≤_};
 ghost use lib.ListN.{length};
 ghost use Rattle.equivalence.specs.Equivalence.{byte};
+ghost use Rattle.kernel.specs.InnerKernel.{KeptPast};
 ghost use Rattle.algebra.specs.Algebra.{algebraIn};
 ghost use Rattle.algebra.specs.Accepted.{Accepted};
-ghost use Rattle.separation.specs.InnerSearch.{Rooms, Earliest};
+ghost use Rattle.separation.specs.InnerSearch.{Unused, Earliest};
+use equivalence::Pair;
+use equivalence::blocks::identity;
 
 pub mod blocks;
+pub mod bounds;
 pub mod search;
 
-// `earliest_apart` for v's row first, with room for a map, the list of its names and the marks of refused pairs: once every pair with v is
-// settled, the greatest congruence inside "v's block and the rest" is the answer (004, Lemma 10). The names of the map stand for all elements.
+// `earliest_apart` with room for a map, the list of its names and their places, the marks of refused pairs and a table for meets. The search begins at the identity, and its bound, which
+// becomes the answer, at the map with one block.
 fn earliest_apart_in(
     m: &mut [u8],
     names: &mut [u8],
+    places: &mut [u8],
+    refused: &mut [u8],
+    table: &mut [u8],
     n: usize,
     arities: &[u8],
     cells: &[u8],
-    refused: &mut [u8],
-    v: usize,
-    w: usize,
+    marked: Pair,
     out: &mut [u8],
 )
-    requires { ⌜ Rooms n (now arities) (now cells) (now m) (now names) (now refused) v w ⌝ }
-    requires { ⌜ ((i : ℕ) → i < 4096 → byte (now refused) i ≡ 0) ⌝ }
+    requires { ⌜ Accepted (algebraIn n arities cells) ⌝ }
+    requires { ⌜ Unused (now m) (now names) (now places) (now refused) ⌝ }
+    requires { ⌜ length (now table) ≡ 4096 ⌝ }
+    requires { ⌜ marked .x < n ⌝ }
+    requires { ⌜ marked .y < n ⌝ }
     requires { ⌜ n ≤ length (now out) ⌝ }
-    requires { ⌜ (v ≡ w → ⊥) ⌝ }
-    ensures { λ _. ⌜ Earliest (algebraIn n (arities .entry) (cells .entry)) v w (byte (now (out .exit))) ⌝ }
-    ensures { λ _. ⌜ ((x : ℕ) → n ≤ x → byte (now (out .exit)) x ≡ byte (now (out .entry)) x) ⌝ }
+    requires { ⌜ (marked .x ≡ marked .y → ⊥) ⌝ }
+    ensures { λ _. ⌜ Earliest (algebraIn n (arities .entry) (cells .entry)) (marked .x) (marked .y) (byte (now (out .exit))) ⌝ }
+    ensures { λ _. ⌜ KeptPast n (byte (now (out .entry))) (byte (now (out .exit))) ⌝ }
 {
-    equivalence::blocks::identity(n, m);
-    let count = closure::start::names(m, n, names);
-    let left = search::settle_rows(m, names, count, n, arities, cells, refused, v, w);
-    blocks::two_blocks(m, n, v, out);
-    refinement::refine_above(out, n, arities, cells, names, left);
+    identity(64, m);
+    identity(64, names);
+    identity(64, places);
+    maplist::whole_into(n, out);
+    search::settle_rows(
+        m,
+        names,
+        places,
+        refused,
+        table,
+        out,
+        n,
+        arities,
+        cells,
+        marked,
+        n,
+    );
 }
 
-// The earliest congruence that holds v and w apart goes to the first n bytes of out; those past n keep their value.
+// The earliest congruence that holds v and w apart goes to the first n bytes of out; those past n keep their value. The row of the smaller of the two
+// comes first.
 pub fn earliest_apart(n: usize, arities: &[u8], cells: &[u8], v: usize, w: usize, out: &mut [u8])
     requires { ⌜ Accepted (algebraIn n arities cells) ⌝ }
     requires { ⌜ v < n ⌝ }
@@ -45,33 +66,37 @@ pub fn earliest_apart(n: usize, arities: &[u8], cells: &[u8], v: usize, w: usize
     requires { ⌜ (v ≡ w → ⊥) ⌝ }
     requires { ⌜ n ≤ length (now out) ⌝ }
     ensures { λ _. ⌜ Earliest (algebraIn n (arities .entry) (cells .entry)) v w (byte (now (out .exit))) ⌝ }
-    ensures { λ _. ⌜ ((x : ℕ) → n ≤ x → byte (now (out .exit)) x ≡ byte (now (out .entry)) x) ⌝ }
+    ensures { λ _. ⌜ KeptPast n (byte (now (out .entry))) (byte (now (out .exit))) ⌝ }
 {
     let mut m = [0u8; 64];
     let mut names = [0u8; 64];
+    let mut places = [0u8; 64];
     let mut refused = [0u8; 4096];
+    let mut table = [0u8; 4096];
     if v < w {
         earliest_apart_in(
             &mut m,
             &mut names,
+            &mut places,
+            &mut refused,
+            &mut table,
             n,
             arities,
             cells,
-            &mut refused,
-            v,
-            w,
+            Pair { x: v, y: w },
             out,
         );
     } else {
         earliest_apart_in(
             &mut m,
             &mut names,
+            &mut places,
+            &mut refused,
+            &mut table,
             n,
             arities,
             cells,
-            &mut refused,
-            w,
-            v,
+            Pair { x: w, y: v },
             out,
         );
     }

@@ -1,130 +1,224 @@
-// The pairs are settled in their order, row by row, up to v's row. The names of the map that stands are listed beside it, and each function
-// answers how many there are then.
-ghost use Prim.Native.Nat.{_+_, _<_};
+// The pairs are settled in their order, row by row. The names of the map that stands are listed beside it, and each function answers how many there
+// are then. A bound of all that may still be found spares pairs, and ends the search.
+ghost use Prim.Native.Nat.{_+_, _<_, _≤_};
+ghost use lib.ListN.{length};
+ghost use Rattle.kernel.specs.InnerKernel.{Within, KeptPast};
 ghost use Rattle.equivalence.specs.Equivalence.{byte};
 ghost use Rattle.algebra.specs.Algebra.{algebraIn};
-ghost use Rattle.separation.specs.InnerSearch.{Rooms, SearchState};
+ghost use Rattle.separation.specs.InnerSearch.{Standing, Marks, Earliest};
+ghost use Rattle.separation.specs.InnerBounds.{BoundLent};
+use crate::bounds::bound_if;
+use crate::bounds::is_due;
+use crate::bounds::next_due;
+use crate::bounds::tried_in_vain;
+use closure::close_apart;
+use equivalence::Pair;
+use equivalence::blocks::copy;
 
-// Settles the pair x, y: it is tried on a copy of m, which m takes over where v and w stay apart. Where they do not, the pair is marked: a
-// later try that would join it is over.
+// Tries a pair on copies of m and its names, which are taken over where the marked elements stay apart. Where they do not, the pair is marked: a later try that would
+// join it is over.
 fn try_pair(
     m: &mut [u8],
     names: &mut [u8],
-    count: usize,
+    places: &mut [u8],
+    refused: &mut [u8],
     n: usize,
     arities: &[u8],
     cells: &[u8],
-    refused: &mut [u8],
-    v: usize,
-    w: usize,
+    marked: Pair,
     x: usize,
     y: usize,
+    count: usize,
 ) -> usize
-    requires { ⌜ Rooms n (now arities) (now cells) (now m) (now names) (now refused) v w ⌝ }
     requires { ⌜ x < y ⌝ }
     requires { ⌜ y < n ⌝ }
-    requires { ⌜ SearchState (algebraIn n arities cells) v w x y (now refused) (now names) count (byte (now m)) ⌝ }
-    ensures { λ r. ⌜ SearchState (algebraIn n (arities .entry) (cells .entry)) v w x (y + 1) (now (refused .exit)) (now (names .exit)) r (byte (now (m .exit))) ⌝ }
+    requires { ⌜ Standing n (now arities) (now cells) (now m) (now names) (now places) marked x y count ⌝ }
+    requires { ⌜ Marks (algebraIn n arities cells) (now refused) marked (byte (now m)) ⌝ }
+    ensures { λ r. ⌜ Standing n (now (arities .entry)) (now (cells .entry)) (now (m .exit)) (now (names .exit)) (now (places .exit)) marked x (y + 1) r ⌝ }
+    ensures { λ _. ⌜ Marks (algebraIn n (arities .entry) (cells .entry)) (now (refused .exit)) marked (byte (now (m .exit))) ⌝ }
+    ensures { λ _. ⌜ Within n (byte (now (m .entry))) (byte (now (m .exit))) ⌝ }
 {
     let mut spare = [0u8; 64];
-    equivalence::blocks::copy(64, m, &mut spare);
-    if !closure::close_apart(
+    let mut live = [0u8; 64];
+    let mut at = [0u8; 64];
+    copy(64, m, &mut spare);
+    copy(64, names, &mut live);
+    copy(64, places, &mut at);
+    let left = close_apart(
         &mut spare,
         n,
         arities,
         cells,
-        names,
+        &mut live,
+        &mut at,
         count,
         x,
         y,
         refused,
-        v,
-        w,
-    ) {
+        marked.x,
+        marked.y,
+    );
+    if left == 0 {
         refused[x * 64 + y] = 1;
         return count;
     }
-    equivalence::blocks::copy(64, &spare, m);
-    closure::start::names(m, n, names)
+    copy(64, &spare, m);
+    copy(64, &live, names);
+    copy(64, &at, places);
+    left
 }
 
-// Settles the pair x, y. Where y is no smallest member, the pair of the two smallest members stands for it.
+// Settles a pair. Where its second element is no smallest member, the pair of the two smallest members stands for it; where the bound `up` holds it
+// apart, it is refused.
 fn settle(
     m: &mut [u8],
     names: &mut [u8],
-    count: usize,
+    places: &mut [u8],
+    refused: &mut [u8],
+    up: &[u8],
     n: usize,
     arities: &[u8],
     cells: &[u8],
-    refused: &mut [u8],
-    v: usize,
-    w: usize,
+    marked: Pair,
     x: usize,
     y: usize,
+    count: usize,
 ) -> usize
-    requires { ⌜ Rooms n (now arities) (now cells) (now m) (now names) (now refused) v w ⌝ }
+    requires { ⌜ BoundLent (algebraIn n arities cells) (now up) marked (byte (now m)) ⌝ }
     requires { ⌜ x < y ⌝ }
     requires { ⌜ y < n ⌝ }
-    requires { ⌜ SearchState (algebraIn n arities cells) v w x y (now refused) (now names) count (byte (now m)) ⌝ }
-    ensures { λ r. ⌜ SearchState (algebraIn n (arities .entry) (cells .entry)) v w x (y + 1) (now (refused .exit)) (now (names .exit)) r (byte (now (m .exit))) ⌝ }
+    requires { ⌜ Standing n (now arities) (now cells) (now m) (now names) (now places) marked x y count ⌝ }
+    requires { ⌜ Marks (algebraIn n arities cells) (now refused) marked (byte (now m)) ⌝ }
+    ensures { λ r. ⌜ Standing n (now (arities .entry)) (now (cells .entry)) (now (m .exit)) (now (names .exit)) (now (places .exit)) marked x (y + 1) r ⌝ }
+    ensures { λ _. ⌜ Marks (algebraIn n (arities .entry) (cells .entry)) (now (refused .exit)) marked (byte (now (m .exit))) ⌝ }
+    ensures { λ _. ⌜ BoundLent (algebraIn n (arities .entry) (cells .entry)) (now (up .entry)) marked (byte (now (m .exit))) ⌝ }
 {
-    if m[y] as usize != y {
+    if m[y] != y as u8 {
         return count;
     }
-    try_pair(m, names, count, n, arities, cells, refused, v, w, x, y)
+    if up[x] != up[y] {
+        return count;
+    }
+    try_pair(
+        m,
+        names,
+        places,
+        refused,
+        n,
+        arities,
+        cells,
+        marked,
+        x,
+        y,
+        count,
+    )
 }
 
 // Settles the pairs of row x. Where x is no smallest member, the pairs of the smallest members stand for them.
 fn settle_row(
     m: &mut [u8],
     names: &mut [u8],
-    listed: usize,
+    places: &mut [u8],
+    refused: &mut [u8],
+    up: &[u8],
     n: usize,
     arities: &[u8],
     cells: &[u8],
-    refused: &mut [u8],
-    v: usize,
-    w: usize,
+    marked: Pair,
     x: usize,
+    listed: usize,
 ) -> usize
-    requires { ⌜ Rooms n (now arities) (now cells) (now m) (now names) (now refused) v w ⌝ }
+    requires { ⌜ BoundLent (algebraIn n arities cells) (now up) marked (byte (now m)) ⌝ }
     requires { ⌜ x < n ⌝ }
-    requires { ⌜ SearchState (algebraIn n arities cells) v w x (x + 1) (now refused) (now names) listed (byte (now m)) ⌝ }
-    ensures { λ r. ⌜ SearchState (algebraIn n (arities .entry) (cells .entry)) v w (x + 1) (x + 2) (now (refused .exit)) (now (names .exit)) r (byte (now (m .exit))) ⌝ }
+    requires { ⌜ Standing n (now arities) (now cells) (now m) (now names) (now places) marked x (x + 1) listed ⌝ }
+    requires { ⌜ Marks (algebraIn n arities cells) (now refused) marked (byte (now m)) ⌝ }
+    ensures { λ r. ⌜ Standing n (now (arities .entry)) (now (cells .entry)) (now (m .exit)) (now (names .exit)) (now (places .exit)) marked (x + 1) (x + 2) r ⌝ }
+    ensures { λ _. ⌜ Marks (algebraIn n (arities .entry) (cells .entry)) (now (refused .exit)) marked (byte (now (m .exit))) ⌝ }
+    ensures { λ _. ⌜ BoundLent (algebraIn n (arities .entry) (cells .entry)) (now (up .entry)) marked (byte (now (m .exit))) ⌝ }
 {
-    if m[x] as usize != x {
+    if m[x] != x as u8 {
         return listed;
     }
     let mut count = listed;
     let mut y = x + 1;
     while y < n {
-        count = settle(m, names, count, n, arities, cells, refused, v, w, x, y);
+        count = settle(
+            m,
+            names,
+            places,
+            refused,
+            up,
+            n,
+            arities,
+            cells,
+            marked,
+            x,
+            y,
+            count,
+        );
         y += 1;
     }
     count
 }
 
-// Settles the rows up to v's.
+// Settles rows until the bound `up` holds the marked elements apart; it does at the latest after the row of the first of them. `table` is working storage.
 pub fn settle_rows(
     m: &mut [u8],
     names: &mut [u8],
-    listed: usize,
+    places: &mut [u8],
+    refused: &mut [u8],
+    table: &mut [u8],
+    up: &mut [u8],
     n: usize,
     arities: &[u8],
     cells: &[u8],
-    refused: &mut [u8],
-    v: usize,
-    w: usize,
-) -> usize
-    requires { ⌜ Rooms n (now arities) (now cells) (now m) (now names) (now refused) v w ⌝ }
-    requires { ⌜ SearchState (algebraIn n arities cells) v w 0 1 (now refused) (now names) listed (byte (now m)) ⌝ }
-    ensures { λ r. ⌜ SearchState (algebraIn n (arities .entry) (cells .entry)) v w (v + 1) (v + 2) (now (refused .exit)) (now (names .exit)) r (byte (now (m .exit))) ⌝ }
+    marked: Pair,
+    listed: usize,
+)
+    requires { ⌜ 4096 ≤ length (now table) ⌝ }
+    requires { ⌜ BoundLent (algebraIn n arities cells) (now up) marked (byte (now m)) ⌝ }
+    requires { ⌜ Standing n (now arities) (now cells) (now m) (now names) (now places) marked 0 1 listed ⌝ }
+    requires { ⌜ Marks (algebraIn n arities cells) (now refused) marked (byte (now m)) ⌝ }
+    ensures { λ _. ⌜ Earliest (algebraIn n (arities .entry) (cells .entry)) (marked .x) (marked .y) (byte (now (up .exit))) ⌝ }
+    ensures { λ _. ⌜ KeptPast n (byte (now (up .entry))) (byte (now (up .exit))) ⌝ }
 {
+    let v = marked.x;
+    let w = marked.y;
     let mut count = listed;
+    let mut trials = 0;
+    let mut due = 1;
     let mut x = 0;
-    while x <= v {
-        count = settle_row(m, names, count, n, arities, cells, refused, v, w, x);
+    while up[v] == up[w] {
+        count = settle_row(
+            m,
+            names,
+            places,
+            refused,
+            up,
+            n,
+            arities,
+            cells,
+            marked,
+            x,
+            count,
+        );
+        trials += tried_in_vain(m, n, x, up);
+        let made = is_due(m, n, marked, x, trials, due);
+        due = next_due(made, trials, due);
+        bound_if(
+            made,
+            m,
+            names,
+            places,
+            count,
+            n,
+            arities,
+            cells,
+            marked,
+            x,
+            table,
+            up,
+        );
         x += 1;
     }
-    count
 }

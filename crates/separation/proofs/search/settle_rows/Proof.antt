@@ -1,44 +1,59 @@
 -- `settle_rows`: the rows before x are settled.
-use Prim.Native.Nat.{_+_, _-_, _≤_}
-use mathlib.Core.Path.{_≡_, refl}
+use Prim.Native.Nat.{_+_, _-_}
+use mathlib.Core.Path.{_≡_, refl, _∙_}
 use native.Mathlib.Omega.{arith}
 use lib.ListN.{length}
-use Rattle.equivalence.specs.Equivalence.{byte}
-use Rattle.algebra.specs.Algebra.{algebraOf}
-use Rattle.separation.specs.InnerSearch.{SearchState}
-use Rattle.separation.proofs.Settling.{rooms-kept}
+use Rattle.separation.proofs.Standings.{Rows, rows-start, rows-more, rows-end, row-below, trials-few}
 use borrow.Author.Needs.{needs}
 use Rattle.separation.proofs.search.settle_rows.Statement.{statement}
 use Rattle.separation.proofs.search.settle_rows.Tie as tie
 
 abbrev Inv-loop : tie.InvT-loop
-Inv-loop m₀ names₀ listed n arities cells refused₀ v w count₀ x₀ m names refused count x =
-    (x ≤ v + 1) × (length m ≡ length m₀) × (length names ≡ length names₀) × (length refused ≡ length refused₀)
-    × SearchState (algebraOf n arities cells) v w x (x + 1) refused names count (byte m)
+Inv-loop m₀ names₀ places₀ refused₀ table₀ up₀ n arities cells marked listed v w count₀ trials₀ due₀ x₀ m names places refused table up count trials due x =
+    (length table ≡ length table₀) × Rows n arities cells up₀ m names places refused up marked v w count trials x
 
 abbrev μ-loop : tie.MeasureT-loop
-μ-loop m₀ names₀ listed n arities cells refused₀ v w count₀ x₀ m names refused count x = v + 1 - x
+μ-loop m₀ names₀ places₀ refused₀ table₀ up₀ n arities cells marked listed v w count₀ trials₀ due₀ x₀ m names places refused table up count trials due x = v + 1 - x
 
 loop-holds : tie.Need-loop-holds Inv-loop μ-loop
-loop-holds c = (omega arith, refl, refl, refl, c .before .before .before .before .before .pre .1)
+loop-holds c = let p = c .before .before .before .before .before .before .before .before .pre .1 in (refl, rows-start (p .0) (p .1 .0) (p .1 .1))
+
+slice-read-if1 : tie.Need-slice-read-if1 Inv-loop μ-loop
+slice-read-if1 c = search needs
+
+slice-read-if1-2 : tie.Need-slice-read-if1-2 Inv-loop μ-loop
+slice-read-if1-2 c = search needs
 
 settle-row-requires : tie.Need-settle-row-requires Inv-loop μ-loop
-settle-row-requires c κs =
-    let r = c .before .before .before .before .before .before .before .before .before .before .pre .0 in
-    let i = c .before .before .before .before .loop .inv in
-    (rooms-kept r (i .1) (i .2) (i .3), (omega (arith, r .left, c .before .before .before .loop-test .taken), i .4))
+settle-row-requires c κs = (search needs, (search row-below, (search needs, search needs)))
+
+tried-in-vain-requires : tie.Need-tried-in-vain-requires Inv-loop μ-loop
+tried-in-vain-requires c κs = (search needs, (search needs, (search needs, search row-below)))
+
+add-trials : tie.Need-add-trials Inv-loop μ-loop
+add-trials c = omega (arith, trials-few (c .before .before .before .before .before .before .before .before .before .before .before .before .before .before .before .before .before .before .before .before .loop .inv .1) (c .before .before .before .before .before .before .before .before .before .before .before .before .before .before .before .before .before .if1 .taken) (c .tried-in-vain .result) (search needs))
+
+is-due-requires : tie.Need-is-due-requires Inv-loop μ-loop
+is-due-requires c κs = (search needs, (search needs, (search row-below, (search needs, search needs))))
+
+next-due-requires : tie.Need-next-due-requires Inv-loop μ-loop
+next-due-requires c κs = search trials-few
+
+bound-if-requires : tie.Need-bound-if-requires Inv-loop μ-loop
+bound-if-requires c κs = (omega (arith, c .before .before .before .before .before .before .before .before .before .before .before .before .before .before .before .before .before .before .before .before .before .before .before .before .before .before .before .before .loop .inv .0, c .before .before .before .before .before .before .before .before .before .before .before .before .before .before .before .before .before .before .before .before .before .before .before .before .before .before .before .before .before .before .before .before .before .before .before .before .before .pre .0), (search needs, (search needs, (row-below (c .before .before .before .before .before .before .before .before .before .before .before .before .before .before .before .before .before .before .before .before .before .before .before .before .before .before .before .before .loop .inv .1) (c .before .before .before .before .before .before .before .before .before .before .before .before .before .before .before .before .before .before .before .before .before .before .before .before .before .if1 .taken), search needs))))
 
 add-x : tie.Need-add-x Inv-loop μ-loop
-add-x c = search needs
+add-x c = let r = c .before .before .before .before .before .before .before .before .before .before .before .before .before .before .before .before .before .before .before .before .before .before .before .before .before .before .before .before .before .before .before .before .before .loop .inv .1 in omega (arith, row-below r (c .before .before .before .before .before .before .before .before .before .before .before .before .before .before .before .before .before .before .before .before .before .before .before .before .before .before .before .before .before .before .if1 .taken), r .standing .size)
 
 loop-less : tie.Need-loop-less Inv-loop μ-loop
-loop-less c = search needs
+loop-less c = omega (arith, c .before .before .before .before .before .before .before .before .before .before .before .before .before .before .before .before .before .before .before .before .before .before .before .before .before .before .before .before .before .before .before .before .before .loop .inv .1 .row (c .before .before .before .before .before .before .before .before .before .before .before .before .before .before .before .before .before .before .before .before .before .before .before .before .before .before .before .before .before .before .if1 .taken))
 
 loop-again : tie.Need-loop-again Inv-loop μ-loop
 loop-again c =
-    let x = c .before .before .before .before .before .before .before .before .before .before .before .loop .x in
-    let e : x + 2 ≡ x + 1 + 1 = omega arith in
-    (omega arith, omega arith, omega arith, omega arith, rw e at (c .before .before .before .before .before .before .settle-row .ensures))
+    let s = c .before .before .before .before .before .before .before .before .before .before .before .before .before .before .before .before .before .before .before .before .before .before .before .before .settle-row .ensures in
+    let t = c .before .before .before .before .bound-if in
+    let r = c .before .before .before .before .before .before .before .before .before .before .before .before .before .before .before .before .before .before .before .before .before .before .before .before .before .before .before .before .before .before .before .before .before .loop .inv in
+    (t .kept .1 .1 .1 .1 .1 .1 .1 .1 .1 .1 .0 ∙ r .0, rows-more (r .1) (c .before .before .before .before .before .before .before .before .before .before .before .before .before .tried-in-vain .result) (c .before .before .before .before .before .before .before .before .before .before .before .before .before .before .before .before .before .before .before .before .before .before .before .before .before .before .before .before .before .before .if1 .taken) (search needs) (s .0) (s .1 .0) (t .kept .1 .1 .1 .1 .1 .1 .1 .1 .1 .1 .1 .0) (t .ensures))
 
 same-length : tie.Need-same-length Inv-loop μ-loop
 same-length c = search needs
@@ -49,13 +64,17 @@ same-length-2 c = search needs
 same-length-3 : tie.Need-same-length-3 Inv-loop μ-loop
 same-length-3 c = search needs
 
+same-length-4 : tie.Need-same-length-4 Inv-loop μ-loop
+same-length-4 c = search needs
+
+same-length-5 : tie.Need-same-length-5 Inv-loop μ-loop
+same-length-5 c = search needs
+
+same-length-6 : tie.Need-same-length-6 Inv-loop μ-loop
+same-length-6 c = search needs
+
 returns : tie.Need-returns Inv-loop μ-loop
-returns c =
-    let l = c .before .loop in
-    let v = c .before .before .before .before .before .before .before .args .v in
-    let e : l .x ≡ v + 1 = omega arith in
-    let f : v + 1 + 1 ≡ v + 2 = omega arith in
-    rw (e, f) at (l .inv .4)
+returns c = (search rows-end, search needs)
 
 pub settle-rows-spec : {M : Type 1} → statement M
 settle-rows-spec =
@@ -64,11 +83,21 @@ settle-rows-spec =
     Inv-loop
     μ-loop
     loop-holds
+    slice-read-if1
+    slice-read-if1-2
     settle-row-requires
+    tried-in-vain-requires
+    add-trials
+    is-due-requires
+    next-due-requires
+    bound-if-requires
     add-x
     loop-less
     loop-again
     same-length
     same-length-2
     same-length-3
+    same-length-4
+    same-length-5
+    same-length-6
     returns)

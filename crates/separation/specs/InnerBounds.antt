@@ -1,0 +1,28 @@
+-- Bounds of the search: congruences that hold all that may still be found.
+use Prim.Native.Nat.{ℕ, _≤_}
+use mathlib.Core.Path.{_≡_}
+use mathlib.Core.List.{List}
+use lib.ListN.{length}
+use Rattle.equivalence.specs.Equivalence.{byte}
+use Rattle.equivalence.specs.declared.Pair.{Pair}
+use Rattle.kernel.specs.InnerKernel.{Canonical, Within, KeptPast}
+use Rattle.algebra.specs.Algebra.{Algebra}
+use Rattle.translation.specs.InnerTranslations.{Compatible}
+
+-- e is a congruence above f, and above every congruence above f that holds v and w apart
+pub record Bound (a : Algebra) (v w : ℕ) (f e : ℕ → ℕ) : Type 0 where
+  pub canonical : Canonical (a .size) e
+  pub compatible : Compatible a e
+  pub above : Within (a .size) f e
+  pub holds : (g : ℕ → ℕ) → Compatible a g → Within (a .size) f g → ¬ (g v ≡ g w) → Within (a .size) g e
+
+-- the first n bytes of a lent slice are a bound
+pub record BoundLent (a : Algebra) (up : List ℕ) (marked : Pair) (f : ℕ → ℕ) : Type 0 where
+  pub room : a .size ≤ length up
+  pub bound : Bound a (marked .x) (marked .y) f (byte up)
+
+-- a bound e was made smaller, or not: e′ is one too; where the row is v's, it holds v and w apart
+pub record Tightened (a : Algebra) (v w x : ℕ) (f e e′ : ℕ → ℕ) : Type 0 where
+  pub bound : Bound a v w f e′
+  pub apart : x ≡ v → ¬ (e′ v ≡ e′ w)
+  pub rest : KeptPast (a .size) e e′
