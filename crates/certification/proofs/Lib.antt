@@ -1,3 +1,3 @@
-pub mod Closures
 pub mod Superfluous
 pub mod Certifying
+pub mod Dividing

@@ -70,11 +70,11 @@ module _ {n k : ℕ} {maps suffixes : List ℕ} {i at : ℕ} {met : List ℕ} (t
     pub needed-part : (at + n ≤ length maps) × (at + n + n ≤ length suffixes)
     needed-part = (omega (arith, t .place, listed-room (t .listed) i l), omega (arith, next, t .behind, mul-le-mul-right n l))
 
-    pub needed-fits : (n ≤ length (onwards at maps)) × (n ≤ length (onwards (at + n) suffixes))
-    needed-fits = (
-      rw (rest-whole at maps, length-drop at maps) (omega (arith, needed-part .0)),
-      rw (rest-whole (at + n) suffixes, length-drop (at + n) suffixes) (omega (arith, needed-part .1)),
-    )
+    pub needed-room : n ≤ length (onwards at maps)
+    needed-room = rw (rest-whole at maps, length-drop at maps) (omega (arith, needed-part .0))
+
+    pub needed-behind : n ≤ length (onwards (at + n) suffixes)
+    needed-behind = rw (rest-whole (at + n) suffixes, length-drop (at + n) suffixes) (omega (arith, needed-part .1))
 
     pub needed-this : Canonical n (byte (onwards at maps))
     needed-this = begins-canonical this (listed-map (t .listed) i l)

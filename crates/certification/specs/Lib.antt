@@ -1,1 +1,2 @@
-pub mod InnerClosures
+pub mod InnerIrredundant
+pub mod InnerStorage

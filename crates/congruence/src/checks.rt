@@ -107,7 +107,7 @@ pub fn quotient_check(n: usize, arities: &[u8], cells: &[u8], map: &[u8], room: 
     if room < quotient_cells(n, arities, map) {
         return Check::Failed(Refusal::Space);
     }
-    if !refinement::is_congruence(n, arities, cells, map) {
+    if !likeness::is_congruence(n, arities, cells, map) {
         return Check::Failed(Refusal::NotCongruence);
     }
     Check::Passed

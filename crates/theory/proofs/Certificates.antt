@@ -14,7 +14,7 @@ use Rattle.equivalence.specs.Order.{Pair, pairs}
 use Rattle.equivalence.proofs.Lists.{every-of, of-every, any-of, of-any, below-of, of-below}
 use Rattle.equivalence.proofs.Maps.{Holds, holds-of, of-holds, inside-of, of-inside, map-ext, isIdentity-of, of-isIdentity}
 use Rattle.equivalence.proofs.Meets.{meetAll-holds, of-meetAll, Meets}
-use Rattle.equivalence.proofs.Pairs.{member-pairs, of-pairs, inside-by-pairs}
+use Rattle.equivalence.proofs.Pairs.{member-pairs, of-pairs}
 use Rattle.equivalence.proofs.Tests.{T?, both, left, right, implies, implied, or-left, or-right, or-cases}
 use Rattle.algebra.specs.Algebra.{Algebra}
 use Rattle.algebra.specs.Congruence.{respects, isCongruence, congruences}
@@ -22,12 +22,11 @@ use Rattle.algebra.proofs.Accepted.{WellFormed}
 use Rattle.algebra.proofs.Congruences.{IsCongruence, congruence-is, congruence-of, member-congruences, of-congruences}
 use Rattle.theory.specs.Certify.{isMaximalFor, certified}
 use Rattle.theory.specs.Decompose.{listed}
-use Rattle.theory.proofs.Above.{LeastJoining}
 use Rattle.theory.proofs.Factors.{listed-law}
 use Rattle.theory.proofs.Separation.{MaximalFor}
 
 module _ (a : Algebra) (m : Map) where
-  pub of-isMaximalFor : IsCongruence a m → (p : Pair) → T (isMaximalFor a m p) → MaximalFor a m p.0 p.1
+  of-isMaximalFor : IsCongruence a m → (p : Pair) → T (isMaximalFor a m p) → MaximalFor a m p.0 p.1
   unfolding isMaximalFor
   of-isMaximalFor q p t =
       record {
@@ -69,29 +68,11 @@ module _ (a : Algebra) (m : Map) where
         ]
       ]
 
-  -- the strictly larger congruences need not be gone through: those that one more pair generates are enough
-  pub maximalFor-of : IsCongruence a m → (x y : ℕ) → ¬ Holds m x y
-      → ((u v : ℕ) → u < v → v < a .size → ¬ Holds m u v → (s : Map) × LeastJoining a m (u, v) s × Holds s x y) → x < a .size → y < a .size → MaximalFor a m x y
-  maximalFor-of q x y n f l k =
-      record {
-        cong = q;
-        apart = n;
-        joined = λ c r h d. elim (T? (any (λ p. not (holds m p.0 p.1) && holds c p.0 p.1) (pairs (a .size)))) [
-          | yes t ↦ let w = of-any (λ p. not (holds m p.0 p.1) && holds c p.0 p.1) (pairs (a .size)) t in
-              let u : ℕ = w .0 .0 in
-              let v : ℕ = w .0 .1 in
-              let o = of-pairs (a .size) (w .0) (w .1) in
-              let g = f u v (o .0) (o .1) (λ e. T-not (holds m u v) (left (not (holds m u v)) (holds c u v) (w .2)) (holds-of m u v e)) in
-              g .1 .least c r h (of-holds c u v (right (not (holds m u v)) (holds c u v) (w .2))) x y l k (g .2)
-          | no t ↦ absurd (d (map-ext (a .size) c m (r .map) (q .map)
-              (inside-by-pairs (a .size) c m
-              (λ u v i j e. elim (T? (holds m u v)) [
-                | yes s ↦ of-holds m u v s
-                | no s ↦ absurd (t (any-of (λ p. not (holds m p.0 p.1) && holds c p.0 p.1) (pairs (a .size)) (u, v) (member-pairs (a .size) u v i j)
-                    (both (not (holds m u v)) (holds c u v) (not-T (holds m u v) s) (holds-of c u v e))))
-              ])) h))
-        ];
-      }
+  pub of-any-isMaximalFor : IsCongruence a m → T (any (isMaximalFor a m) (pairs (a .size))) → (x : ℕ) × (y : ℕ) × (x < a .size) × (y < a .size) × MaximalFor a m x y
+  of-any-isMaximalFor q t =
+      let s = of-any (isMaximalFor a m) (pairs (a .size)) t in
+      let o = of-pairs (a .size) (s .0) (s .1) in
+      (s .0 .0, s .0 .1, omega (arith, o .0, o .1), o .1, of-isMaximalFor q (s .0) (s .2))
 
 pub record IsCertified (a : Algebra) (ms : List Map) : Type 0 where
   pub each : (m : Map) → Member m ms → IsCongruence a m
@@ -142,10 +123,7 @@ module _ (a : Algebra) (ms : List Map) where
         needed = λ i l h. T-not (isIdentity (a .size) (meetAll (a .size) (without i ms)))
             (of-below (length ms) (λ i. not (isIdentity (a .size) (meetAll (a .size) (without i ms)))) (right (congruent && meet-is-identity) each-needed t3) i l)
             (isIdentity-meets (a .size) (without i ms) h);
-        maximal = λ m i.
-            let s = of-any (isMaximalFor a m) (pairs (a .size)) (of-every (λ m. any (isMaximalFor a m) (pairs (a .size))) ms (right (congruent && meet-is-identity && each-needed) four t) m i) in
-            let o = of-pairs (a .size) (s .0) (s .1) in
-            (s .0 .0, s .0 .1, omega (arith, o .0, o .1), o .1, of-isMaximalFor a m (each m i) (s .0) (s .2));
+        maximal = λ m i. of-any-isMaximalFor a m (each m i) (of-every (λ m. any (isMaximalFor a m) (pairs (a .size))) ms (right (congruent && meet-is-identity && each-needed) four t) m i);
       }
 
 -- whatever Decompose lists gets yes

@@ -5,10 +5,10 @@ use mathlib.Core.Path.{_≡_, refl, sym, ap, subst, _∙_}
 use native.Mathlib.Omega.{arith}
 use lib.ListN.{length, getD, set, length-map}
 use lib.Seq.{ext-getD}
-use Rattle.equivalence.specs.Equivalence.{Map, byte, holds, blocks, blockOf, mapOf, same}
-use Rattle.equivalence.proofs.BlockNumbers.{smallest, block-below, smallest-block, smallest-below, block-smallest}
+use Rattle.equivalence.specs.Equivalence.{Map, byte, holds, blocks, blockOf, mapOf, identity, same}
+use Rattle.equivalence.proofs.BlockNumbers.{smallest, block-below, smallest-block, smallest-below, block-smallest, of-block}
 use Rattle.equivalence.proofs.Lists.{map-at, map-set}
-use Rattle.equivalence.proofs.Maps.{Holds, holds-of, of-holds, Inside, map-ext, IsEquivalence, mapOf-holds, of-mapOf, mapOf-map}
+use Rattle.equivalence.proofs.Maps.{Holds, holds-of, of-holds, Inside, map-ext, IsEquivalence, mapOf-holds, of-mapOf, mapOf-map, identity-discrete}
 use Rattle.algebra.specs.Algebra.{Algebra, Operation, operations, value}
 use Rattle.algebra.specs.Congruence.{respects}
 use Rattle.algebra.proofs.Accepted.{WellFormed}
@@ -95,6 +95,16 @@ module _ (a : Algebra) (c : WellFormed a) (m : Map) (p : IsCongruence a m) where
         ∙ near y k)
         (λ x y l k e. pulled-holds a c m p (pushed d) pushed-congruence x y l k
         (pushed-holds (blockOf m x) (blockOf m y) (block-below (a .size) m (p .map) x l) (block-below (a .size) m (p .map) y k) (near x l ∙ e ∙ sym (near y k))))
+
+    -- it is the identity only for m
+    pub pushed-is : pushed d ≡ identity (blocks (a .size) m) → d ≡ m
+    pushed-is e =
+        map-ext (a .size) d m (q .map) (p .map)
+        (λ x y l k h. of-block (a .size) m (p .map) x y l k
+        (identity-discrete (blocks (a .size) m) (blockOf m x) (blockOf m y) (block-below (a .size) m (p .map) x l) (block-below (a .size) m (p .map) y k)
+        (subst (λ (z : Map). Holds z (blockOf m x) (blockOf m y)) e
+        (pushed-holds (blockOf m x) (blockOf m y) (block-below (a .size) m (p .map) x l) (block-below (a .size) m (p .map) y k) (near x l ∙ h ∙ sym (near y k))))))
+        above
 
   -- pulled back and pushed forward
   pub pushed-pulled : (e : Map) → IsCongruence (quotient a m) e → pushed (pulled a c m p e) ≡ e

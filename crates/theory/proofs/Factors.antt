@@ -226,6 +226,10 @@ listed-long a c i l = listed-law a c .maximal (getD (listed a) i []) (member-at 
 
 -- ---- what Decompose wants of space
 
+-- 63 maps over 64 elements are space for any algebra
+pub mostFactorSpace-most : (n : ℕ) → n ≤ 64 → mostFactorSpace n ≤ 4032
+mostFactorSpace-most n most = let few : n - 1 ≤ 63 = omega arith in omega (arith, mul-le-mul-right n few)
+
 module _ (a : Algebra) where
   pub factorSpace-yes : T (reducible a) → factorSpace a ≡ length (listed a) * a .size
   unfolding factorSpace

@@ -7,3 +7,4 @@ pub mod CommonPair
 pub mod Quotients
 pub mod Correspondence
 pub mod Certificates
+pub mod Irreducible

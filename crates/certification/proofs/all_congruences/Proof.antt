@@ -17,7 +17,7 @@ abbrev μ-loop : tie.MeasureT-loop
 μ-loop n arities cells count maps i₀ at₀ i at = count - i
 
 loop-holds : tie.Need-loop-holds Inv-loop μ-loop
-loop-holds c = tested-none _ _ _ _ (c .before .before .before .pre .1 .room)
+loop-holds c = search tested-none
 
 add-next : tie.Need-add-next Inv-loop μ-loop
 add-next c = omega (arith, tested-fits (c .before .loop .inv) (c .loop-test .taken))
@@ -32,10 +32,10 @@ part-is-congruence-end : tie.Need-part-is-congruence-end Inv-loop μ-loop
 part-is-congruence-end c = omega (arith, tested-fits (c .before .loop .inv) (c .loop-test .taken))
 
 is-congruence-requires : tie.Need-is-congruence-requires Inv-loop μ-loop
-is-congruence-requires c κs = (c .before .before .before .before .before .before .pre .0, turn-map (c .before .before .before .before .before .before .pre .1) (c .before .before .loop .inv) (c .before .loop-test .taken))
+is-congruence-requires c κs = (search needs, search turn-map)
 
 returns : tie.Need-returns Inv-loop μ-loop
-returns c = let t = c .before .before .before .before .loop .inv in let l = c .before .before .before .loop-test .taken in tested-fails t l (turn-both (c .before .before .before .before .before .before .before .before .pre .1) t l (isCongruence _) (c .before .is-congruence .ensures)) (c .if1 .taken)
+returns c = let k = c .before .before .before in let e = turn-both (k .before .before .before .before .before .pre .1) (k .before .loop .inv) (k .loop-test .taken) (isCongruence _) (c .before .is-congruence .ensures) in search tested-fails
 
 add-i : tie.Need-add-i Inv-loop μ-loop
 add-i c = search needs
@@ -44,10 +44,10 @@ loop-less : tie.Need-loop-less Inv-loop μ-loop
 loop-less c = search needs
 
 loop-again : tie.Need-loop-again Inv-loop μ-loop
-loop-again c = let t = c .before .before .before .before .loop .inv in let l = c .before .before .before .loop-test .taken in tested-more t l (turn-both (c .before .before .before .before .before .before .before .before .pre .1) t l (isCongruence _) (c .before .is-congruence .ensures)) (c .if1 .left)
+loop-again c = let k = c .before .before .before in let e = turn-both (k .before .before .before .before .before .pre .1) (k .before .loop .inv) (k .loop-test .taken) (isCongruence _) (c .before .is-congruence .ensures) in search tested-more
 
 returns-2 : tie.Need-returns-2 Inv-loop μ-loop
-returns-2 c = tested-all (c .before .loop .inv) (c .loop-test .left)
+returns-2 c = search tested-all
 
 pub all-congruences-spec : {M : Type 1} → statement M
 all-congruences-spec =
