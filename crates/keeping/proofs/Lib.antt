@@ -1,0 +1,4 @@
+pub mod PairPlaces
+pub mod Storing
+pub mod Keepings
+pub mod Closings

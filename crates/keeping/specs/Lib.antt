@@ -1,0 +1,2 @@
+pub mod InnerKeeping
+pub mod InnerPrincipal
