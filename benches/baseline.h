@@ -1,6 +1,7 @@
 /* The optimized implementation that the proved library is compared with: the
- * same four services as include/congruence.h, parameter for parameter, under
- * names of its own so that both can be linked into one program. */
+ * same four services as include/congruence.h, and the two of tests/PROBE.md that
+ * have no function there, parameter for parameter, under names of its own so
+ * that both can be linked into one program. */
 #ifndef BASELINE_H
 #define BASELINE_H
 
@@ -25,6 +26,18 @@ uint32_t baseline_separate(size_t n, const uint8_t *arities, size_t arities_len,
 uint32_t baseline_decompose(size_t n, const uint8_t *arities, size_t arities_len,
                             const uint8_t *cells, size_t cells_len,
                             uint8_t *out, size_t out_len);
+
+/* The tables of the quotient by a congruence: R + 256 blocks. */
+uint32_t baseline_quotient(size_t n, const uint8_t *arities, size_t arities_len,
+                           const uint8_t *cells, size_t cells_len,
+                           const uint8_t *map, size_t map_len,
+                           uint8_t *out, size_t out_len);
+
+/* Whether the maps are an irredundant list of factors: 256 for yes, 0 for no,
+ * else R. */
+uint32_t baseline_certify(size_t n, const uint8_t *arities, size_t arities_len,
+                          const uint8_t *cells, size_t cells_len,
+                          const uint8_t *maps, size_t maps_len);
 
 /* What a bench needs of them (see classwork_baseline.h). */
 
