@@ -2,9 +2,9 @@
  * that the comparisons can fail.
  *
  * The four services of include/congruence.h go to the optimized baseline; the
- * fifteen functions of tests/PROBE.md are written out plainly here. The environment
- * variable STANDIN_FAULT names one fault of the list below; without it there is
- * none. */
+ * fifteen functions of tests/PROBE.md are written out plainly here, but that the
+ * baseline says whether a quotient is irreducible. The environment variable
+ * STANDIN_FAULT names one fault of the list below; without it there is none. */
 #include <stdlib.h>
 #include <string.h>
 
@@ -45,7 +45,15 @@ static const char *const faults[] = {
     "space-scratch",        /* decompose: the lent bytes are written before 9 is said */
     "space-count",          /* decompose: 9 carries the count */
     "space-first",          /* decompose: 9 is tested before 1 to 6 */
-    "meet", "join", "prefer", "quotient", "certify",
+    "bound-stops",          /* separate: the search ends after the first row, with what is joined so far */
+    "bound-in-row",         /* separate: a pair that is refused bounds the row before its end */
+    "bound-other",          /* separate: the bound cuts off the block of v, not that of the row */
+    "bound-unrefined",      /* separate: the bound is no congruence, and it is answered */
+    "kept-open",            /* decompose: from the third congruence on, what a pair gives is closed once only */
+    "meet", "join", "prefer", "quotient",
+    "certify",              /* a factor may have any quotient */
+    "certify-two",          /* a quotient of two factors counts as irreducible */
+    "certify-three",        /* a quotient of three blocks counts as irreducible */
     "place-next",           /* the place of the pair behind it */
     "place-128",            /* a row's start is x * (128 - x) / 2 */
     "place-halved",         /* halved before it is multiplied */
@@ -407,23 +415,77 @@ uint32_t congruence_contained(size_t n, const uint8_t *arities, size_t arities_l
     return spoil(number, n, out, out_len);
 }
 
+/* The least congruence above the map that joins x and y. */
+static void joined(size_t n, const uint8_t *arities, size_t arities_len, const uint8_t *cells, size_t cells_len,
+                   const uint8_t *map, size_t x, size_t y, uint8_t *out)
+{
+    uint8_t pairs[2 * STRIDE + 2];
+    for (size_t z = 0; z < n; z++) {
+        pairs[2 * z] = (uint8_t)z;
+        pairs[2 * z + 1] = map[z];
+    }
+    pairs[2 * n] = (uint8_t)x;
+    pairs[2 * n + 1] = (uint8_t)y;
+    baseline_generate(n, arities, arities_len, cells, cells_len, pairs, 2 * n + 2, out, STRIDE);
+}
+
+/* Separate by rows, with a bound after each: what is inside `up` and holds the block of x together or apart
+ * from the rest. Without a fault it answers what the baseline does. */
+static void separate_bounded(size_t n, const uint8_t *arities, size_t arities_len, const uint8_t *cells,
+                             size_t cells_len, size_t v, size_t w, uint8_t *up)
+{
+    uint8_t map[STRIDE], next[STRIDE], cut[STRIDE];
+    baseline_generate(n, NULL, 0, NULL, 0, NULL, 0, map, STRIDE);
+    memset(up, 0, n);
+    for (size_t x = 0; up[v] == up[w]; x++) {
+        int refused = 0;
+        if (map[x] != x) {
+            continue;
+        }
+        for (size_t y = x + 1; y < n && !(refused && fault("bound-in-row")); y++) {
+            if (map[y] == y && up[x] == up[y]) {
+                joined(n, arities, arities_len, cells, cells_len, map, x, y, next);
+                refused |= next[v] == next[w];
+                if (next[v] != next[w]) {
+                    memcpy(map, next, n);
+                }
+            }
+        }
+        if (fault("bound-stops")) {
+            memcpy(up, map, n);
+            return;
+        }
+        const uint8_t alone = fault("bound-other") ? map[v] : (uint8_t)x;
+        size_t first[2] = {n, n};
+        for (size_t y = 0; y < n; y++) {
+            size_t *at = &first[map[y] == alone];
+            *at = *at == n ? y : *at;
+            cut[y] = (uint8_t)*at;
+        }
+        meet(n, next, up, cut);
+        if (fault("bound-unrefined")) {
+            memcpy(up, next, n);
+        } else {
+            baseline_contained(n, arities, arities_len, cells, cells_len, next, n, up, STRIDE);
+        }
+    }
+}
+
 uint32_t congruence_separate(size_t n, const uint8_t *arities, size_t arities_len,
                              const uint8_t *cells, size_t cells_len,
                              size_t v, size_t w, uint8_t *out, size_t out_len)
 {
     uint32_t number = baseline_separate(n, arities, arities_len, cells, cells_len, v, w, out, out_len);
+    if (number == 0 && (fault("bound-stops") || fault("bound-in-row") || fault("bound-other") ||
+                        fault("bound-unrefined"))) {
+        separate_bounded(n, arities, arities_len, cells, cells_len, v, w, out);
+    }
     if (number == 0 && fault("separate-turned")) {
-        uint8_t now[STRIDE], next[STRIDE], pairs[2 * STRIDE + 2];
+        uint8_t now[STRIDE], next[STRIDE];
         baseline_generate(n, arities, arities_len, cells, cells_len, NULL, 0, now, STRIDE);
         for (size_t x = n; x-- > 0;) {
             for (size_t y = n; y-- > x + 1;) {
-                for (size_t z = 0; z < n; z++) {
-                    pairs[2 * z] = (uint8_t)z;
-                    pairs[2 * z + 1] = now[z];
-                }
-                pairs[2 * n] = (uint8_t)x;
-                pairs[2 * n + 1] = (uint8_t)y;
-                baseline_generate(n, arities, arities_len, cells, cells_len, pairs, 2 * n + 2, next, STRIDE);
+                joined(n, arities, arities_len, cells, cells_len, now, x, y, next);
                 if (next[v] != next[w]) {
                     memcpy(now, next, n);
                 }
@@ -432,6 +494,75 @@ uint32_t congruence_separate(size_t n, const uint8_t *arities, size_t arities_le
         memcpy(out, now, n);
     }
     return spoil(number, n, out, out_len);
+}
+
+/* Whether the maps, one of them left out, meet in the identity. */
+static int meets_in_identity(size_t n, const uint8_t *maps, size_t count, size_t without)
+{
+    uint8_t now[STRIDE] = {0};
+    for (size_t i = 0; i < count; i++) {
+        if (i != without) {
+            uint8_t next[STRIDE];
+            meet(n, next, now, maps + i * n);
+            memcpy(now, next, n);
+        }
+    }
+    return blocks(n, now) == n;
+}
+
+/* Separate by joining what is kept for each pair: all congruences of pairs, or what one step of closing
+ * makes of a pair. */
+static void separate_kept(size_t n, const uint8_t *arities, size_t arities_len, const uint8_t *cells, size_t v, size_t w,
+                          int open, uint8_t *now)
+{
+    baseline_generate(n, NULL, 0, NULL, 0, NULL, 0, now, STRIDE);
+    for (size_t x = 0; x < n; x++) {
+        for (size_t y = x + 1; y < n; y++) {
+            uint8_t kept[STRIDE], next[STRIDE];
+            if (now[x] == now[y]) {
+                continue;
+            }
+            baseline_generate(n, NULL, 0, NULL, 0, NULL, 0, kept, STRIDE);
+            join_pair(n, kept, (uint8_t)x, (uint8_t)y);
+            while (pass(n, arities, arities_len, cells, kept, 1, 3) && !open) {
+            }
+            memcpy(next, now, n);
+            for (size_t z = 0; z < n; z++) {
+                join_pair(n, next, (uint8_t)z, kept[z]);
+            }
+            if (next[v] != next[w]) {
+                memcpy(now, next, n);
+            }
+        }
+    }
+}
+
+/* Decompose with pairs that are closed once only, from the third congruence on. */
+static uint32_t decompose_open(size_t n, const uint8_t *arities, size_t arities_len, const uint8_t *cells,
+                               uint8_t *maps)
+{
+    uint8_t now[STRIDE] = {0};
+    size_t count = 0;
+    for (size_t v = 0; v < n; v++) {
+        for (size_t w = v + 1; w < n; w++) {
+            if (now[v] == now[w]) {
+                uint8_t next[STRIDE];
+                separate_kept(n, arities, arities_len, cells, v, w, count >= 2, maps + count * n);
+                meet(n, next, now, maps + count * n);
+                memcpy(now, next, n);
+                count++;
+            }
+        }
+    }
+    for (size_t i = 0; i < count;) {
+        if (meets_in_identity(n, maps, count, i)) {
+            count--;
+            memmove(maps + i * n, maps + (i + 1) * n, (count - i) * n);
+        } else {
+            i++;
+        }
+    }
+    return 256 * (uint32_t)count;
 }
 
 /* How many congruences Decompose lists before the dropping. */
@@ -497,6 +628,9 @@ uint32_t congruence_decompose(size_t n, const uint8_t *arities, size_t arities_l
     }
     if ((number & 255) == 0 && fault("always-irreducible")) {
         return 11 + (1 << 24);
+    }
+    if ((number & 255) == 0 && number >> 8 > 2 && n <= 16 && fault("kept-open")) {
+        number = decompose_open(n, arities, arities_len, cells, maps);
     }
     const size_t wanted = wanted_space(number, n, arities, arities_len, cells, cells_len);
     number = hand_over(number, n, wanted, maps, out, out_len);
@@ -659,18 +793,23 @@ uint32_t probe_quotient(size_t n, const uint8_t *arities, size_t arities_len,
     return 256 * (uint32_t)b;
 }
 
-/* Whether the maps, one of them left out, meet in the identity. */
-static int meets_in_identity(size_t n, const uint8_t *maps, size_t count, size_t without)
+/* Whether the congruence is maximal for some pair: its quotient is irreducible. */
+static int is_maximal(size_t n, const uint8_t *arities, size_t arities_len, const uint8_t *cells, size_t cells_len,
+                      const uint8_t *m)
 {
-    uint8_t now[STRIDE] = {0};
-    for (size_t i = 0; i < count; i++) {
-        if (i != without) {
-            uint8_t next[STRIDE];
-            meet(n, next, now, maps + i * n);
-            memcpy(now, next, n);
-        }
+    static uint8_t tables[32768];
+    uint8_t factors[STRIDE * STRIDE];
+    const size_t b = blocks(n, m);
+    size_t wanted = 0;
+    for (size_t i = 0; i < arities_len; i++) {
+        wanted += power(b, arities[i]);
     }
-    return blocks(n, now) == n;
+    baseline_quotient(n, arities, arities_len, cells, cells_len, m, n, tables, sizeof tables);
+    const uint32_t number = baseline_decompose(b, arities, arities_len, tables, wanted, factors, sizeof factors);
+    if (b == 1 || fault("certify")) {
+        return b > 1;
+    }
+    return (number & 255) == 11 || (number >> 8 == 2 && fault("certify-two")) || (b == 3 && fault("certify-three"));
 }
 
 uint32_t probe_certify(size_t n, const uint8_t *arities, size_t arities_len,
@@ -693,25 +832,10 @@ uint32_t probe_certify(size_t n, const uint8_t *arities, size_t arities_len,
         return 0;
     }
     for (size_t i = 0; i < count; i++) {
-        uint8_t m[STRIDE], common[STRIDE] = {0};
+        uint8_t m[STRIDE];
         memcpy(m, maps + i * n, n);
-        if (pass(n, arities, arities_len, cells, m, 0, 3) || meets_in_identity(n, maps, count, i)) {
-            return 0;
-        }
-        for (size_t x = 0; x < n; x++) {
-            for (size_t y = x + 1; y < n; y++) {
-                uint8_t larger[STRIDE], next[STRIDE];
-                if (m[x] != m[y]) {
-                    memcpy(larger, m, n);
-                    join_pair(n, larger, (uint8_t)x, (uint8_t)y);
-                    while (pass(n, arities, arities_len, cells, larger, 1, 3)) {
-                    }
-                    meet(n, next, common, larger);
-                    memcpy(common, next, n);
-                }
-            }
-        }
-        if (memcmp(common, m, n) == 0 && !fault("certify")) {
+        if (pass(n, arities, arities_len, cells, m, 0, 3) || meets_in_identity(n, maps, count, i) ||
+            !is_maximal(n, arities, arities_len, cells, cells_len, m)) {
             return 0;
         }
     }

@@ -128,6 +128,56 @@ pub fn projection(n: usize, arity: usize, which: usize) -> Algebra {
     build(n, &[(arity, &|a| a[which])])
 }
 
+/// x + 1 if x = y, else x; past n - 1 it begins anew.
+pub fn next_if_equal(n: usize) -> Algebra {
+    build(n, &[(2, &|a| if a[0] == a[1] { (a[0] + 1) % n } else { a[0] })])
+}
+
+/// The same, but n - 1 stays.
+pub fn up_if_equal(n: usize) -> Algebra {
+    build(n, &[(2, &|a| if a[0] == a[1] { (a[0] + 1).min(n - 1) } else { a[0] })])
+}
+
+pub fn minimum_with_up(n: usize) -> Algebra {
+    build(n, &[(2, &|a| a[0].min(a[1])), (1, &|a| (a[0] + 1).min(n - 1))])
+}
+
+/// x + y, n - 1 at most, of so many arguments.
+pub fn saturated_sum(n: usize, arity: usize) -> Algebra {
+    build(n, &[(arity, &|a| a.iter().sum::<usize>().min(n - 1))])
+}
+
+/// Gödel's: n - 1 if x is at most y, else y.
+pub fn implication(n: usize) -> Algebra {
+    build(n, &[(2, &|a| if a[0] <= a[1] { n - 1 } else { a[1] })])
+}
+
+/// z if x = y, else x: simple.
+pub fn discriminator(n: usize) -> Algebra {
+    build(n, &[(3, &|a| if a[0] == a[1] { a[2] } else { a[0] })])
+}
+
+/// Classes of elements, which are so many pairs {2j, 2j + 1} and then single elements. A unary operation
+/// goes to the first member of the next class. For each mark o a binary one: for y in a pair its first
+/// member if x is in class o, else its second; for another y the first member of the class o behind.
+pub fn monoliths(n: usize, pairs: usize, marks: usize) -> Algebra {
+    let classes = n - pairs;
+    let class = move |x: usize| if x < 2 * pairs { x / 2 } else { x - pairs };
+    let first = move |c: usize| if c % classes < pairs { 2 * (c % classes) } else { c % classes + pairs };
+    let mut algebra = build(n, &[(1, &|a| first(class(a[0]) + 1))]);
+    for o in 0..marks {
+        let mark = |a: &[usize]| {
+            if a[1] < 2 * pairs {
+                a[1] / 2 * 2 + usize::from(class(a[0]) != o)
+            } else {
+                first(class(a[1]) + o)
+            }
+        };
+        algebra = together(&algebra, &build(n, &[(2, &mark)]));
+    }
+    algebra
+}
+
 pub fn unary(n: usize, count: usize, rng: &mut Rng) -> Algebra {
     let cells = (0..n * count).map(|_| rng.below(n) as u8).collect();
     Algebra { n, arities: vec![1; count], cells }
@@ -285,6 +335,49 @@ pub fn structured(limit: usize, rng: &mut Rng) -> Vec<Named> {
     let with_names: Vec<Named> =
         list.iter().map(|one| named(format!("{}, renamed", one.name), renamed(&one.algebra, rng))).collect();
     list.extend(with_names);
+    list
+}
+
+/// Algebras that are hard for the search of congruences, with n elements: in some all congruences but the
+/// identity hold a pair in common, in some there are many factors, some are simple, and in some a
+/// congruence is closed after many steps only.
+pub fn hard(n: usize, rng: &mut Rng) -> Vec<Named> {
+    let of = |name: &str, algebra: Algebra| named(format!("{name}, n = {n}"), algebra);
+    let mut list = vec![
+        of("monoliths, few pairs", monoliths(n, n.div_ceil(8).min(n / 2), 2)),
+        of("monoliths, all in pairs", monoliths(n, n / 2, 3)),
+        of("x + 1 if x = y", next_if_equal(n)),
+        of("x + 1 if x = y, saturated", up_if_equal(n)),
+        of("minimum with up", minimum_with_up(n)),
+        of("saturated sum", saturated_sum(n, 2)),
+        of("implication", implication(n)),
+        of("binary random", random(n, &[2], rng)),
+        of("3 unary", unary(n, 3, rng)),
+        of("1 unary", unary(n, 1, rng)),
+        of("1 unary, a tree", build(n, &[(1, &|a| a[0] / 2)])),
+        of("2 permutations", permutations(n, 2, rng)),
+        of("no operations", bare(n)),
+        of("chain", chain(n)),
+        of("projections", together(&projection(n, 2, 0), &projection(n, 2, 1))),
+    ];
+    if n >= 5 {
+        list.push(of("lattice of atoms", atoms(n - 2)));
+    }
+    if n % 2 == 0 && n > 2 {
+        list.push(of("two chains", product(&chain(2), &chain(n / 2))));
+        list.push(of("two saturated sums", product(&saturated_sum(2, 2), &saturated_sum(n / 2, 2))));
+    }
+    if n <= 16 {
+        list.push(of("median", median(n)));
+        list.push(of("ternary projection", projection(n, 3, 1)));
+        list.push(of("ternary saturated sum", saturated_sum(n, 3)));
+    }
+    if n <= 32 {
+        list.push(of("discriminator", discriminator(n)));
+    }
+    if n == 8 || n == 16 {
+        list.push(of("Boolean lattice", boolean(n.ilog2() as usize)));
+    }
     list
 }
 

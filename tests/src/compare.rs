@@ -12,7 +12,7 @@ use outside_tests::reference::service::{Answer, Reference};
 use outside_tests::reference::Engine;
 use outside_tests::report::{Run, Suite};
 
-use crate::ffi::Library;
+use crate::ffi::{Library, WithMaps, WithSlice};
 
 #[derive(Clone, Debug)]
 pub enum Question {
@@ -101,6 +101,26 @@ pub fn ask(library: &Library, call: &Call, rng: &mut Rng) -> (Answer, bool) {
     (answer, untouched && out.is_intact_around())
 }
 
+/// Quotient's answer, and whether all else was left alone.
+pub fn ask_quotient(f: WithSlice, a: &Algebra, given: &[u8], lent: &[u8], rng: &mut Rng) -> (Answer, bool) {
+    let (mut arities, mut cells) = (Guarded::new(&a.arities, rng), Guarded::new(&a.cells, rng));
+    let (mut map, mut out) = (Guarded::new(given, rng), Guarded::new(lent, rng));
+    let (al, cl, ml, ol) = (arities.len(), cells.len(), map.len(), out.len());
+    let (ar, ce, mp, tables) = (arities.pointer(), cells.pointer(), map.pointer(), out.pointer());
+    let number = unsafe { f(a.n, ar, al, ce, cl, mp, ml, tables, ol) };
+    let untouched = arities.is_intact() && cells.is_intact() && map.is_intact() && out.is_intact_around();
+    (Answer { number, lent: out.content() }, untouched)
+}
+
+/// Certify's number, and whether nothing was written.
+pub fn ask_certify(f: WithMaps, a: &Algebra, list: &[u8], rng: &mut Rng) -> (u32, bool) {
+    let (mut arities, mut cells) = (Guarded::new(&a.arities, rng), Guarded::new(&a.cells, rng));
+    let mut maps = Guarded::new(list, rng);
+    let (al, cl, ml) = (arities.len(), cells.len(), maps.len());
+    let number = unsafe { f(a.n, arities.pointer(), al, cells.pointer(), cl, maps.pointer(), ml) };
+    (number, arities.is_intact() && cells.is_intact() && maps.is_intact())
+}
+
 pub fn expected(reference: &mut Reference<Plain>, call: &Call) -> Answer {
     let (n, arities, cells, lent) = (call.n, &call.arities, &call.cells, &call.lent);
     match &call.question {
@@ -153,7 +173,7 @@ impl<'a> Comparison<'a> {
         }
     }
 
-    fn generate(&mut self, algebra: &Algebra) {
+    pub fn generate(&mut self, algebra: &Algebra) {
         let n = algebra.n;
         let count = match self.suite.rng.below(8) {
             0 => 0,
@@ -166,7 +186,7 @@ impl<'a> Comparison<'a> {
         self.of(algebra, Question::Generate(pairs), length);
     }
 
-    fn contained(&mut self, algebra: &Algebra) {
+    pub fn contained(&mut self, algebra: &Algebra) {
         let n = algebra.n;
         let most = *self.suite.rng.pick(&[1, 2, 3, n.div_ceil(2), n, n]);
         let map = self.suite.rng.map(n, most);
@@ -199,7 +219,7 @@ impl<'a> Comparison<'a> {
         }
     }
 
-    fn decompose(&mut self, algebra: &Algebra) {
+    pub fn decompose(&mut self, algebra: &Algebra) {
         let length = self.factor_length(algebra);
         let answer = self.of(algebra, Question::Decompose, length);
         match answer.number & 255 {
@@ -457,11 +477,13 @@ fn demand_three(library: Library, suite: &mut Suite, one: &Named) {
     }
 }
 
-/// All four services on a stack little more than what they may take.
+/// All services on a stack little more than what they may take.
 fn small_stack(library: Library, suite: &mut Suite) {
     // The rest is for the thread itself and its own frames.
     const STACK: usize = (256 + 24) * 1024;
-    for one in algebras::workloads(&mut suite.rng) {
+    let mut list = algebras::workloads(&mut suite.rng);
+    list.extend(algebras::hard(64, &mut suite.rng));
+    for one in list {
         let algebra = one.algebra.clone();
         let ask_all = move || {
             let (n, a, c) = (algebra.n, &algebra.arities, &algebra.cells);
@@ -470,11 +492,19 @@ fn small_stack(library: Library, suite: &mut Suite) {
             let (o, ol) = (out.as_mut_ptr(), out.len());
             let pairs = [0u8, 1];
             let all = vec![0u8; n];
+            let mut tables = vec![0u8; cl];
             unsafe {
                 (library.generate)(n, a, al, c, cl, pairs.as_ptr(), 2, o, ol);
                 (library.contained)(n, a, al, c, cl, all.as_ptr(), n, o, ol);
                 (library.separate)(n, a, al, c, cl, n - 2, n - 1, o, ol);
-                (library.decompose)(n, a, al, c, cl, o, ol)
+                if let Some(quotient) = library.quotient {
+                    quotient(n, a, al, c, cl, o, n, tables.as_mut_ptr(), cl);
+                }
+                let number = (library.decompose)(n, a, al, c, cl, o, ol);
+                if let (Some(certify), 0) = (library.certify, number & 255) {
+                    certify(n, a, al, c, cl, o, number as usize / 256 * n);
+                }
+                number
             }
         };
         let thread = std::thread::Builder::new().stack_size(STACK).spawn(ask_all).unwrap();
@@ -486,6 +516,7 @@ fn small_stack(library: Library, suite: &mut Suite) {
 /// Decompose of any accepted algebra takes less than a second.
 fn within_a_second(library: Library, suite: &mut Suite) {
     let mut list = algebras::workloads(&mut suite.rng);
+    list.extend(algebras::hard(64, &mut suite.rng));
     for _ in 0..60 {
         list.push(algebras::any(64, 32_768, &mut suite.rng));
     }

@@ -37,7 +37,18 @@ pub type Alone = unsafe extern "C" fn(
     out_len: usize,
 ) -> u32;
 
-/// The four services of one static library.
+/// certify: the algebra, the maps.
+pub type WithMaps = unsafe extern "C" fn(
+    n: usize,
+    arities: *const u8,
+    arities_len: usize,
+    cells: *const u8,
+    cells_len: usize,
+    maps: *const u8,
+    maps_len: usize,
+) -> u32;
+
+/// The services of one static library. The product has the last two in another one, the probe.
 #[derive(Clone, Copy)]
 pub struct Library {
     pub name: &'static str,
@@ -45,10 +56,12 @@ pub struct Library {
     pub contained: WithSlice,
     pub separate: WithElements,
     pub decompose: Alone,
+    pub certify: Option<WithMaps>,
+    pub quotient: Option<WithSlice>,
 }
 
 macro_rules! library {
-    ($name:literal, $generate:ident, $contained:ident, $separate:ident, $decompose:ident) => {{
+    ($name:literal, $generate:ident, $contained:ident, $separate:ident, $decompose:ident, $certify:expr, $quotient:expr) => {{
         extern "C" {
             fn $generate(
                 n: usize,
@@ -99,13 +112,45 @@ macro_rules! library {
             contained: $contained,
             separate: $separate,
             decompose: $decompose,
+            certify: $certify,
+            quotient: $quotient,
         }
     }};
 }
 
 #[cfg(have_baseline)]
 pub fn baseline() -> Option<Library> {
-    Some(library!("baseline", baseline_generate, baseline_contained, baseline_separate, baseline_decompose))
+    extern "C" {
+        fn baseline_certify(
+            n: usize,
+            arities: *const u8,
+            arities_len: usize,
+            cells: *const u8,
+            cells_len: usize,
+            maps: *const u8,
+            maps_len: usize,
+        ) -> u32;
+        fn baseline_quotient(
+            n: usize,
+            arities: *const u8,
+            arities_len: usize,
+            cells: *const u8,
+            cells_len: usize,
+            map: *const u8,
+            map_len: usize,
+            out: *mut u8,
+            out_len: usize,
+        ) -> u32;
+    }
+    Some(library!(
+        "baseline",
+        baseline_generate,
+        baseline_contained,
+        baseline_separate,
+        baseline_decompose,
+        Some(baseline_certify),
+        Some(baseline_quotient)
+    ))
 }
 
 #[cfg(not(have_baseline))]
@@ -115,12 +160,19 @@ pub fn baseline() -> Option<Library> {
 
 #[cfg(have_worksheet)]
 pub fn worksheet() -> Option<Library> {
+    #[cfg(have_probe)]
+    let (certify, quotient): (Option<WithMaps>, Option<WithSlice>) =
+        (Some(probe::probe_certify), Some(probe::probe_quotient));
+    #[cfg(not(have_probe))]
+    let (certify, quotient) = (None, None);
     Some(library!(
         "worksheet",
         congruence_generate,
         congruence_contained,
         congruence_separate,
-        congruence_decompose
+        congruence_decompose,
+        certify,
+        quotient
     ))
 }
 

@@ -12,6 +12,7 @@ mod bench;
 mod compare;
 mod desk;
 mod ffi;
+mod hard;
 mod probe;
 mod self_check;
 mod space;
@@ -61,6 +62,7 @@ fn main() {
             Some(library) => {
                 compare::suites(&mut run, library, share);
                 space::suites(&mut run, library, share);
+                hard::suites(&mut run, library, share);
             }
             None => run.left_out(name, "not linked", required(name)),
         }

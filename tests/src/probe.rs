@@ -21,8 +21,8 @@ mod linked {
     use outside_tests::report::{Run, Suite};
 
     use crate::bench;
-    use crate::compare::{ask_decompose, count_of, Guarded};
-    use crate::ffi::{probe, worksheet, Library};
+    use crate::compare::{ask_certify, ask_decompose, ask_quotient, count_of, Guarded};
+    use crate::ffi::{baseline, probe, worksheet, Library, WithMaps, WithSlice};
 
     /// A map, sometimes damaged into none.
     fn some_map(n: usize, rng: &mut Rng) -> Vec<u8> {
@@ -151,21 +151,10 @@ mod linked {
         s.same("pairs", next, 2016);
     }
 
-    /// Quotient's answer, and whether all else was left alone.
-    fn ask_quotient(a: &Algebra, given: &[u8], lent: &[u8], rng: &mut Rng) -> (Answer, bool) {
-        let (mut ar, mut ce) = (Guarded::new(&a.arities, rng), Guarded::new(&a.cells, rng));
-        let (mut mp, mut out) = (Guarded::new(given, rng), Guarded::new(lent, rng));
-        let (al, cl, ml, ol) = (ar.len(), ce.len(), mp.len(), out.len());
-        let (arities, cells, map, tables) = (ar.pointer(), ce.pointer(), mp.pointer(), out.pointer());
-        let number = unsafe { probe::probe_quotient(a.n, arities, al, cells, cl, map, ml, tables, ol) };
-        let untouched = ar.is_intact() && ce.is_intact() && mp.is_intact() && out.is_intact_around();
-        (Answer { number, lent: out.content() }, untouched)
-    }
-
-    fn quotients(s: &mut Suite) {
+    fn quotients(s: &mut Suite, f: WithSlice, rounds: usize) {
         let mut reference = Reference::<Plain>::default();
         let mut seen = [0u32; 256];
-        for round in 0..20_000 {
+        for round in 0..rounds {
             let (limit, cells) = if round % 100 == 0 { (64, 6000) } else { (7, 400) };
             let a = algebras::sometimes_damaged(limit, cells, &mut s.rng);
             let mut given = some_map(a.n, &mut s.rng);
@@ -184,7 +173,7 @@ mod linked {
             let lent = s.rng.bytes(length);
             let expected = reference.quotient(a.n, &a.arities, &a.cells, &given, &lent);
             seen[expected.number as usize & 255] += 1;
-            let (found, untouched) = ask_quotient(&a, &given, &lent, &mut s.rng);
+            let (found, untouched) = ask_quotient(f, &a, &given, &lent, &mut s.rng);
             s.check(found == expected && untouched, || {
                 format!("  {a:?}\n  map {given:?}, lent {lent:?}\n  found    {found:?}\n  expected {expected:?}\n  all else untouched: {untouched}")
             });
@@ -197,10 +186,10 @@ mod linked {
         }
     }
 
-    fn certificates(s: &mut Suite) {
+    fn certificates(s: &mut Suite, f: WithMaps, rounds: usize) {
         let mut reference = Reference::<Plain>::default();
         let mut seen = [0u32; 3];
-        for round in 0..20_000 {
+        for round in 0..rounds {
             let (limit, cells) = if round % 100 == 0 { (40, 3000) } else { (6, 300) };
             let a = algebras::sometimes_damaged(limit, cells, &mut s.rng);
             let n = a.n;
@@ -214,12 +203,7 @@ mod linked {
                 0 => 1,
                 _ => 2,
             }] += 1;
-            let (mut ar, mut ce) = (Guarded::new(&a.arities, &mut s.rng), Guarded::new(&a.cells, &mut s.rng));
-            let mut mp = Guarded::new(&maps, &mut s.rng);
-            let (al, cl, ml) = (ar.len(), ce.len(), mp.len());
-            let found =
-                unsafe { probe::probe_certify(n, ar.pointer(), al, ce.pointer(), cl, mp.pointer(), ml) };
-            let untouched = ar.is_intact() && ce.is_intact() && mp.is_intact();
+            let (found, untouched) = ask_certify(f, &a, &maps, &mut s.rng);
             s.check(found == expected && untouched, || {
                 format!(
                     "  {a:?}\n  maps {maps:?}\n  found {found}, expected {expected}, untouched {untouched}"
@@ -355,7 +339,7 @@ mod linked {
                 let b = map::blocks(factor);
                 let wanted = a.arities.iter().map(|&k| b.pow(k as u32)).sum();
                 let lent = s.rng.bytes(wanted);
-                let (divided, intact) = ask_quotient(a, factor, &lent, &mut s.rng);
+                let (divided, intact) = ask_quotient(probe::probe_quotient, a, factor, &lent, &mut s.rng);
                 let quotient = Algebra { n: b, arities: a.arities.clone(), cells: divided.lent };
                 let (again, untouched) = ask_decompose(&library, &quotient, 0, &mut s.rng);
                 let good = divided.number == 256 * b as u32 && again.number & 255 == 11;
@@ -378,8 +362,12 @@ mod linked {
         run.suite("probe: join", |s| two_maps(s, probe::probe_join, true));
         run.suite("probe: prefer", preferred);
         run.suite("probe: pair places", places);
-        run.suite("probe: quotient", quotients);
-        run.suite("probe: certify", certificates);
+        if let Some(library) = baseline() {
+            run.suite("baseline: quotient", |s| quotients(s, library.quotient.unwrap(), 5000));
+            run.suite("baseline: certify", |s| certificates(s, library.certify.unwrap(), 5000));
+        }
+        run.suite("probe: quotient", |s| quotients(s, probe::probe_quotient, 20_000));
+        run.suite("probe: certify", |s| certificates(s, probe::probe_certify, 20_000));
         bench::suites(run);
         if let Some(library) = worksheet() {
             run.suite("probe: demand 3 through the product's own calls", |s| demand_three(s, library));
