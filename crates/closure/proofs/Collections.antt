@@ -11,7 +11,7 @@ use lib.ListN.{length, set}
 use lib.Seq.{getD-set-same, getD-set-other}
 use Rattle.equivalence.specs.Equivalence.{byte}
 use Rattle.kernel.proofs.Names.{bit-most}
-use Rattle.kernel.specs.InnerKernel.{Filled, bit, names}
+use Rattle.kernel.specs.InnerKernel.{bit, names}
 use Rattle.closure.specs.InnerStarts.{Pushed, countOf, Collected}
 
 pub collected-none : (test : ℕ → Bool) (p : ℕ → ℕ) → Collected test 0 p 0
@@ -72,16 +72,6 @@ countOf-most test (suc n) = omega (arith, countOf-most test n, bit-most (test n)
 
 pub collected-most : {test : ℕ → Bool} {n k : ℕ} {p : ℕ → ℕ} → Collected test n p k → k ≤ n
 collected-most {test} {n} h = omega (arith, h .count, countOf-most test n)
-
--- a list that is copied
-pub collected-copied : {test : ℕ → Bool} {n k most : ℕ} {p p₀ p′ : ℕ → ℕ} → Collected test n p k → k ≤ most → Filled most p p₀ p′ → Collected test n p′ k
-collected-copied {test} h l d = record {
-  small = λ i li. omega (arith, d .first i (omega arith), h .small i li);
-  right = λ i li. ap test (d .first i (omega arith)) ∙ h .right i li;
-  all = λ x lx t. let r = h .all x lx t in (r .0, (r .1 .0, d .first (r .0) (omega (arith, r .1 .0)) ∙ r .1 .1));
-  once = λ i j li lj e. h .once i j li lj (sym (d .first i (omega arith)) ∙ e ∙ d .first j (omega arith));
-  count = h .count;
-}
 
 -- the names of a map, and the others
 pub countOf-names : (f : ℕ → ℕ) (n : ℕ) → countOf (λ x. eqb (f x) x) n ≡ names n f

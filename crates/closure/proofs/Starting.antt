@@ -8,8 +8,7 @@ use mathlib.Core.Path.{_≡_, refl, sym, ap, subst, _∙_}
 use native.Mathlib.Decide.{ℕ-discrete}
 use native.Mathlib.Omega.{arith}
 use lib.Dec.{eqb}
-use lib.ListN.{length, set}
-use lib.Seq.{getD-set-same, getD-set-other}
+use lib.ListN.{length}
 use borrow.Author.Tests.{eq-eqb, eqb-true, ne-eqb}
 use Rattle.equivalence.specs.Equivalence.{byte}
 use Rattle.kernel.specs.InnerKernel.{Canonical, Within, names}
@@ -19,13 +18,13 @@ use Rattle.algebra.specs.Algebra.{Algebra, algebraOf}
 use Rattle.translation.specs.InnerTranslations.{result, Compatible, Closed}
 use Rattle.algebra.proofs.Accepted.{accepted-wellFormed}
 use Rattle.translation.proofs.Translations.{result-below}
-use Rattle.closure.specs.InnerClosing.{Distinct, InUse, NamesInUse, Begun, Apart}
+use Rattle.closure.specs.InnerClosing.{InUse, NamesInUse, Begun, Apart}
 use Rattle.sweep.specs.InnerContexts.{Contexts}
 use Rattle.sweep.specs.InnerQueue.{QueueState, state, InQueue, Padded, Ready, Grown}
 use Rattle.sweep.specs.InnerSweeps.{TwoJoined, RefusedRightly, Sweeping, Swept}
 use Rattle.sweep.specs.declared.Stop.{Stop}
 use Rattle.closure.specs.InnerStarts.{Extends, Collected, Tried}
-use Rattle.closure.proofs.Collections.{countOf-others, countOf-names, collected-most}
+use Rattle.closure.proofs.Collections.{countOf-others, countOf-names}
 use Rattle.sweep.proofs.Sweeps.{each-more}
 
 -- ---- the pairs
@@ -112,21 +111,6 @@ identity-use {n} {live} {places} m a b h k = record {
   below = λ i l. omega (arith, h i (omega arith));
   placed = λ i l. ap (byte places) (h i (omega arith)) ∙ k i (omega arith);
 }
-
--- the names of a map are all different
-pub names-distinct : {n count : ℕ} (f : ℕ → ℕ) {live : List ℕ} → n ≤ 64 → length live ≡ 64 → Collected (λ x. eqb (f x) x) n (byte live) count → Distinct n live count
-names-distinct f m a h = record { most = m; live-room = a; few = omega (arith, collected-most h); below = h .small; once = h .once }
-
--- the place of one more is written
-pub placed-more : {n count i : ℕ} (live out : List ℕ) → Distinct n live count → i < count → length out ≡ 64 → ((j : ℕ) → j < i → byte out (byte live j) ≡ j)
-    → (j : ℕ) → j < i + 1 → byte (set out (byte live i) i) (byte live j) ≡ j
-placed-more {n} {count} {i} live out d l a h j lj = elim (ℕ-discrete j i) [
-  | yes e ↦ rw e (getD-set-same out (byte live i) i 0 (omega (arith, d .most, d .below i l)))
-  | no e ↦ let lt : j < i = omega arith in getD-set-other out (byte live i) (byte live j) i 0 (λ z. d .once j i lt l z) ∙ h j lt
-]
-
-pub placed-all : {n count i : ℕ} {live out : List ℕ} → Distinct n live count → length out ≡ 64 → count ≤ i → ((j : ℕ) → j < i → byte out (byte live j) ≡ j) → InUse n live out count
-placed-all d a l h = record { most = d .most; live-room = d .live-room; places-room = a; few = d .few; below = d .below; placed = λ j k. h j (omega arith) }
 
 -- above the identity every element is a context
 pub identity-begun : (a : Algebra) {s : QueueState} {live : List ℕ} → ((x : ℕ) → x < a .size → byte live x ≡ x) → ((x : ℕ) → x < a .size → (s .map x ≡ x) ⊎ InQueue s x)

@@ -11,14 +11,6 @@ use Rattle.translation.specs.InnerTranslations.{Compatible, Closed}
 use Rattle.sweep.specs.InnerQueue.{QueueState, InQueue}
 use Rattle.closure.specs.InnerStarts.{Extends, NamesListed}
 
--- the first `count` elements of a list of 64 bytes are elements, all different
-pub record Distinct (n : ℕ) (live : List ℕ) (count : ℕ) : Type 0 where
-  pub most : n ≤ 64
-  pub live-room : length live ≡ 64
-  pub few : count ≤ 64
-  pub below : (i : ℕ) → i < count → byte live i < n
-  pub once : (i j : ℕ) → i < j → j < count → byte live i ≡ byte live j → ⊥
-
 -- the first `count` elements of a list are elements, all different: `places` has where each stands
 pub record InUse (n : ℕ) (live places : List ℕ) (count : ℕ) : Type 0 where
   pub most : n ≤ 64

@@ -1,13 +1,11 @@
-// What a closure begins with: pairs joined, and lists of the names of a map and of the other elements.
+// What a closure begins with: pairs joined, and a list of the elements that are no names of a map.
 ghost use mathlib.Core.Bool.{not};
-ghost use mathlib.Core.Path.{_≡_};
 ghost use Prim.Native.Nat.{ℕ, _<_, _≤_};
 ghost use lib.Dec.{eqb};
 ghost use lib.ListN.{length};
 ghost use Rattle.equivalence.specs.Equivalence.{byte};
 ghost use Rattle.sweep.specs.InnerQueue.{state, Ready, Grown};
-ghost use Rattle.closure.specs.InnerStarts.{JoinsPairs, Pushed, Collected, NamesListed};
-ghost use Rattle.closure.specs.InnerClosing.{Distinct, InUse};
+ghost use Rattle.closure.specs.InnerStarts.{JoinsPairs, Pushed, Collected};
 
 // Joins the pairs of a flat list. How many elements are queued then.
 pub fn seed(m: &mut [u8], n: usize, queue: &mut [u8], pairs: &[u8]) -> usize
@@ -38,22 +36,6 @@ fn push(out: &mut [u8], len: usize, x: u8, wanted: bool) -> usize
     len + 1
 }
 
-// Lists the names of a map. How many there are.
-pub fn names(m: &[u8], n: usize, out: &mut [u8]) -> usize
-    requires { ⌜ n ≤ length (now m) ⌝ }
-    requires { ⌜ n ≤ length (now out) ⌝ }
-    requires { ⌜ n ≤ 64 ⌝ }
-    ensures { λ r. ⌜ NamesListed n (byte (now (m .entry))) (now (out .exit)) r ⌝ }
-{
-    let mut len = 0;
-    let mut x = 0;
-    while x < n {
-        len = push(out, len, x as u8, m[x] as usize == x);
-        x += 1;
-    }
-    len
-}
-
 // Lists the elements that are no names. How many there are.
 pub fn others(m: &[u8], n: usize, out: &mut [u8]) -> usize
     requires { ⌜ n ≤ length (now m) ⌝ }
@@ -68,17 +50,4 @@ pub fn others(m: &[u8], n: usize, out: &mut [u8]) -> usize
         x += 1;
     }
     len
-}
-
-// Where each of the first `count` elements stands, which are all different.
-pub fn places(live: &[u8], n: usize, count: usize, out: &mut [u8])
-    requires { ⌜ Distinct n (now live) count ⌝ }
-    requires { ⌜ length (now out) ≡ 64 ⌝ }
-    ensures { λ _. ⌜ InUse n (now (live .entry)) (now (out .exit)) count ⌝ }
-{
-    let mut i = 0;
-    while i < count {
-        out[live[i] as usize] = i as u8;
-        i += 1;
-    }
 }

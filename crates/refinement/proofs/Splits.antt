@@ -144,14 +144,6 @@ range-more {i} P h p k l m =
       | no e ↦ h k l (omega arith)
     ]
 
--- those below i, and those from i on
-pub kept-both : {i r : ℕ} {P : ℕ → Type 0} → ((k : ℕ) → k < i → P k) → ((k : ℕ) → i ≤ k → k < r → P k) → (k : ℕ) → k < r → P k
-kept-both {i} h d k l =
-    elim (decLt k i) [
-      | yes p ↦ h k p
-      | no p ↦ d k (omega arith) l
-    ]
-
 -- what was asked of every index is said of every listed element
 pub by-index : (list : List ℕ) (count : ℕ) (Q : ℕ → Type 0) → ((i : ℕ) → i < count → Q (byte list i)) → (x : ℕ) → Listed list count x → Q x
 by-index list count Q h x k = subst Q (k .1 .1) (h (k .0) (k .1 .0))

@@ -1,6 +1,7 @@
 -- Bounds of the search: one block is the first, a map that grows keeps its bound, a settled row tightens it (004, Lemma 10), a pair that it holds apart is refused, and
 -- once it holds v and w apart it is what was looked for.
-use Prim.Native.Nat.{ℕ, _+_, _<_}
+use Prim.Native.Nat.{ℕ, _+_, _*_, _<_}
+use mathlib.Core.Bool.{Bool, true, false}
 use mathlib.Core.Logic.{inl, inr}
 use mathlib.Core.Path.{_≡_, refl, sym, ap, _∙_}
 use native.Mathlib.Decide.{decLt, ℕ-discrete}
@@ -11,7 +12,7 @@ use Rattle.algebra.proofs.Accepted.{WellFormed}
 use Rattle.translation.specs.InnerTranslations.{Compatible, Refined}
 use Rattle.sweep.proofs.Images.{compatible-whole}
 use Rattle.separation.specs.InnerSearch.{KeepsBefore, Refused, Settled, TwoBlocks, Earliest}
-use Rattle.separation.specs.InnerBounds.{Bound, Tightened}
+use Rattle.separation.specs.InnerBounds.{Bound, Tightened, nextDue}
 
 -- e′ is the meet of e and t
 pub record Met (n : ℕ) (e t e′ : ℕ → ℕ) : Type 0 where
@@ -111,3 +112,13 @@ module _ (a : Algebra) (v w : ℕ) where
               b .holds g c up n x y (omega arith) k u
         ];
   }
+
+-- ---- when a bound is due
+
+pub due-made : (made : Bool) (trials due : ℕ) → made ≡ true → 2 * trials + 1 ≡ nextDue made trials due
+unfolding nextDue
+due-made made trials due e = rw (e, nextDue) refl
+
+pub due-kept : (made : Bool) (trials due : ℕ) → made ≡ false → due ≡ nextDue made trials due
+unfolding nextDue
+due-kept made trials due e = rw (e, nextDue) refl

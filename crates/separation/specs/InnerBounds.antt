@@ -1,6 +1,7 @@
 -- Bounds of the search: congruences that hold all that may still be found.
-use Prim.Native.Nat.{ℕ, _≤_}
+use Prim.Native.Nat.{ℕ, _+_, _*_, _≤_}
 use mathlib.Core.Path.{_≡_}
+use mathlib.Core.Bool.{Bool, true, false}
 use mathlib.Core.List.{List}
 use lib.ListN.{length}
 use Rattle.equivalence.specs.Equivalence.{byte}
@@ -26,3 +27,7 @@ pub record Tightened (a : Algebra) (v w x : ℕ) (f e e′ : ℕ → ℕ) : Type
   pub bound : Bound a v w f e′
   pub apart : x ≡ v → ¬ (e′ v ≡ e′ w)
   pub rest : KeptPast (a .size) e e′
+
+-- at how many trials the next bound is due: at more than twice as many as there were, where one is made
+unfoldable pub nextDue : Bool → ℕ → ℕ → ℕ
+nextDue made trials due = elim made [ true ↦ 2 * trials + 1 | false ↦ due ]

@@ -6,7 +6,7 @@ ghost use lib.ListN.{length};
 ghost use Rattle.equivalence.specs.Equivalence.{byte};
 ghost use Rattle.algebra.specs.Algebra.{algebraIn};
 ghost use Rattle.separation.specs.InnerSearch.{Standing};
-ghost use Rattle.separation.specs.InnerBounds.{BoundLent, Tightened};
+ghost use Rattle.separation.specs.InnerBounds.{BoundLent, Tightened, nextDue};
 use crate::blocks::two_blocks;
 use equivalence::Pair;
 
@@ -67,9 +67,10 @@ pub fn is_due(m: &[u8], n: usize, marked: Pair, x: usize, trials: usize, due: us
     due <= trials
 }
 
-// At how many trials the next bound is due: at twice as many, where one is made.
+// At how many trials the next bound is due: at more than twice as many, where one is made.
 pub fn next_due(made: bool, trials: usize, due: usize) -> usize
     requires { ⌜ trials ≤ 4096 ⌝ }
+    ensures { λ r. ⌜ r ≡ nextDue made trials due ⌝ }
 {
     if !made {
         return due;
