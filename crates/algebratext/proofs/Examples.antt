@@ -12,9 +12,9 @@ use Rattle.equivalence.specs.declared.Refusal.the-variants.{Size, Operations, A
 use Rattle.equivalence.specs.declared.Check.the-variants.{Passed, Failed}
 use Rattle.algebra.specs.Accepted.{algebraTests}
 use Rattle.algebra.specs.Algebra.{Algebra, algebraOf, cellCount, operationsOf, operations}
-use Rattle.reader.specs.Reading.{ascii, onward, _>>=_, mark, gap, begins, opened}
-use Rattle.reader.specs.Numbers.{digitAt, number}
-use Rattle.reader.specs.Tables.{cell, parted, bracket, table}
+use Rattle.numberreader.specs.Reading.{ascii, onward, _>>=_, mark, gap, begins, opened}
+use Rattle.numberreader.specs.Numbers.{digitAt, number}
+use Rattle.tablereader.specs.Tables.{cell, parted, bracket, table}
 use Rattle.reader.specs.Lines.{close, spacedNumber, sizeLine, tested, afterSize, sized, arity, lastTable, operationTests}
 use Rattle.reader.specs.Lines.{cellTest, withOperation, afterTable, afterArity, operation}
 use Rattle.writer.specs.Numerals.{digits, decimal}

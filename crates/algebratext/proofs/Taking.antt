@@ -17,15 +17,15 @@ use Rattle.equivalence.specs.Lists.{every}
 use Rattle.equivalence.proofs.Refusals.{lowest-none, space-refused, space-passed}
 use Rattle.equivalence.proofs.Tests.{pick-yes, pick-no, T-of, not-T-of}
 use Rattle.algebra.specs.Algebra.{Algebra}
-use Rattle.reader.specs.Reading.{ascii, begins}
+use Rattle.numberreader.specs.Reading.{ascii, begins}
 use Rattle.reader.specs.Lines.{Progress, defined, refused, tested, operation}
 use Rattle.reader.specs.InnerPromises.{RoomForCells}
 use Rattle.reader.specs.InnerTaking.{algebraSoFar, progressWith, Readable, SizeTaken, OperationTaken}
 use Rattle.reader.specs.declared.taking.AlgebraSoFar.{AlgebraSoFar}
 use Rattle.reader.specs.declared.taking.LineTaken.{LineTaken}
-use Rattle.reader.specs.Laying.{Laid}
-use Rattle.reader.proofs.RoomLeft.{room-of-cells}
-use Rattle.reader.proofs.Words.{begins-within}
+use Rattle.tablereader.specs.Laying.{Laid}
+use Rattle.reader.proofs.CellRoom.{room-of-cells}
+use Rattle.numberreader.proofs.Words.{begins-within}
 use Rattle.algebratext.specs.Whole.{operationLineAt, operationsToEnd, wholeAlgebra}
 use Rattle.algebratext.specs.Calls.{algebraRead, cellsRead, reading, readCall}
 use Rattle.algebratext.specs.InnerReading.{LinesTaken, wholeCall}

@@ -16,7 +16,7 @@ use Rattle.algebra.specs.Algebra.{Algebra, algebraOf, cellCount}
 use Rattle.algebra.specs.Accepted.{algebraTests, Accepted}
 use Rattle.algebra.proofs.Accepted.{accepted-wellFormed}
 use Rattle.algebra.proofs.Tested.{algebra-passes, of-checked, passed-accepted, all-pass, tests-passed, declined, granted}
-use Rattle.reader.specs.Laying.{Laid}
+use Rattle.tablereader.specs.Laying.{Laid}
 use Rattle.tablewriter.specs.Texts.{algebraText}
 use Rattle.tablewriter.specs.InnerFits.{TablesThere, LinesFit}
 use Rattle.tablewriter.specs.InnerLengths.{Measurable}

@@ -6,7 +6,7 @@ use lib.Dec.{leb}
 use lib.ListN.{length}
 use Rattle.equivalence.specs.declared.Refusal.the-variants.{Text}
 use Rattle.algebra.specs.Algebra.{Algebra}
-use Rattle.reader.specs.Reading.{ascii, begins}
+use Rattle.numberreader.specs.Reading.{ascii, begins}
 use Rattle.reader.specs.Lines.{Progress, defined, refused, sized, operation}
 
 -- the operation line at a place; any other line is 14

@@ -3,7 +3,7 @@ use crate::AlgebraRead;
 use algebra::MAX_OPERATIONS;
 use equivalence::Check;
 use equivalence::Refusal;
-use reader::reading::begins_with;
+use numberreader::begins_with;
 use reader::taking::LineTaken;
 use reader::taking::take_operation_line;
 use reader::taking::take_size_line;

@@ -20,9 +20,9 @@ use Rattle.sheet.specs.Sheet.{sheetWith, raisedBy}
 use Rattle.sheet.specs.declared.Sheet.{Sheet}
 use Rattle.bench.specs.Calls.{tallyTest, benched, handedTests, mapByAdd, lostByAdd, sheetByAdd, addCall}
 use Rattle.bench.specs.InnerGrowth.{MapGrown, SheetGrown}
-use Rattle.bench.specs.State.{sheetOf, withSheet, blocksLost}
+use Rattle.benchsheets.specs.State.{sheetOf, withSheet, blocksLost}
 use Rattle.bench.proofs.Testing.{benched-append}
-use Rattle.bench.specs.declared.Bench.{Bench}
+use Rattle.benchsheets.specs.declared.Bench.{Bench}
 
 -- bytes that begin with a map are canonical
 pub front-canonical : (n : ℕ) (l : List ℕ) → T (isMap n (take n l)) → Canonical n (byte l)

@@ -18,10 +18,10 @@ use Rattle.sheet.specs.declared.Point.{Point}
 use Rattle.sheet.specs.declared.Sheet.{Sheet}
 use Rattle.bench.specs.Calls.{sheetTest, benchTest, tallyTest, unknownTest, fullTest, benched, startCall, mapByAdd, lostByAdd, sheetByAdd, placeTests, handedTests, addCall}
 use Rattle.bench.specs.Calls.{clearTests, clearCall, setTests, setCall, knownTests, returnCall, forgetCall}
-use Rattle.bench.specs.State.{eightOf, zeroBench, freshBench, sheetOf, withSheet, withMap, blocksLost}
+use Rattle.benchsheets.specs.State.{eightOf, zeroBench, freshBench, sheetOf, withSheet, withMap, blocksLost}
 use Rattle.bench.proofs.Samples.{unary, named, low, high, faulty}
 use Rattle.bench.specs.declared.Answer.the-variants.{Done, Refused}
-use Rattle.bench.specs.declared.Bench.{Bench}
+use Rattle.benchsheets.specs.declared.Bench.{Bench}
 
 -- a fresh bench over n, but that t blocks were lost earlier, and as many by sheets 0, 6 and 7
 abbrev at : ℕ → ℕ → Bench

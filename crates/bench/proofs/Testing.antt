@@ -23,12 +23,12 @@ use Rattle.sheet.specs.Points.{isHeld, isFullFor, isFaultless}
 use Rattle.sheet.specs.Sheet.{noSheet}
 use Rattle.sheet.proofs.Faults.{of-faultless, Faultless as SheetFaultless}
 use Rattle.bench.specs.Calls.{sheetTest, benchTest, tallyTest, unknownTest, fullTest, startTests, placeTests, handedTests, clearTests, setTests, knownTests, benched}
-use Rattle.bench.specs.State.{sheetOf}
-use Rattle.bench.proofs.BenchSheets.{of-every-at}
+use Rattle.benchsheets.specs.State.{sheetOf}
+use Rattle.benchsheets.proofs.BenchSheets.{of-every-at}
 use Rattle.bench.proofs.Giving.{given-passed, given-failed, given-cases, given-answer, given-done, given-refused, given-no, given-yes}
 use Rattle.bench.specs.declared.Answer.{Answer}
 use Rattle.bench.specs.declared.Answer.the-variants.{Done, Refused}
-use Rattle.bench.specs.declared.Bench.{Bench}
+use Rattle.benchsheets.specs.declared.Bench.{Bench}
 use Rattle.bench.specs.declared.Benched.{Benched}
 
 abbrev pub doneWith : Bench → Benched

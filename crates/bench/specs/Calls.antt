@@ -13,9 +13,9 @@ use Rattle.theory.specs.Extremal.{extended}
 use Rattle.sheet.specs.Points.{isHeld, isFullFor, mapUnder, isFaultless, withPoint, withoutPoint}
 use Rattle.sheet.specs.Sheet.{mapOn, sheetWith, raisedBy}
 use Rattle.sheet.specs.declared.Sheet.{Sheet}
-use Rattle.bench.specs.State.{zeroBench, freshBench, sheetOf, withSheet, withMap, blocksLost}
+use Rattle.benchsheets.specs.State.{zeroBench, freshBench, sheetOf, withSheet, withMap, blocksLost}
 use Rattle.bench.specs.declared.Answer.the-variants.{Done, Refused}
-use Rattle.bench.specs.declared.Bench.{Bench}
+use Rattle.benchsheets.specs.declared.Bench.{Bench}
 use Rattle.bench.specs.declared.Benched.{Benched}
 
 -- 7: a sheet above 7

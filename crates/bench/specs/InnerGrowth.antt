@@ -8,7 +8,7 @@ use Rattle.algebra.specs.Algebra.{Algebra}
 use Rattle.theory.specs.Extremal.{extended}
 use Rattle.sheet.specs.Sheet.{mapOn, sheetWith}
 use Rattle.sheet.specs.declared.Sheet.{Sheet}
-use Rattle.bench.specs.State.{blocksLost}
+use Rattle.benchsheets.specs.State.{blocksLost}
 
 -- the first bytes of `old`, a map, became the least congruence that holds it and the pair, at the cost of `lost` blocks
 pub record MapGrown (a : Algebra) (x y : ℕ) (old new : List ℕ) (lost : ℕ) : Type 0 where

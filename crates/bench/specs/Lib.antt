@@ -1,4 +1,3 @@
-pub mod State
 pub mod Outcome
 pub mod Calls
 pub mod InnerGrowth

@@ -8,7 +8,6 @@ ghost use Rattle.bench.specs.Calls.{startTests, benchTest, clearTests, p
 ghost use Rattle.bench.specs.Calls.{setTests, knownTests};
 use super::Bench;
 use super::SHEETS;
-use super::sheets;
 use equivalence::Check;
 use equivalence::Refusal;
 use sheet::NAME_BYTES;
@@ -31,7 +30,7 @@ fn bench_check(bench: Bench, n: usize) -> Check
     if bench.n != n {
         return Check::Failed(Refusal::NotMap);
     }
-    if !sheets::all_faultless(bench, n) {
+    if !benchsheets::all_faultless(bench, n) {
         return Check::Failed(Refusal::NotMap);
     }
     Check::Passed
@@ -59,7 +58,7 @@ pub fn set_check(bench: Bench, k: usize, name: [u8; NAME_BYTES]) -> Check
     if let Check::Failed(reason) = check {
         return Check::Failed(reason);
     }
-    let sheet = sheets::nth(bench, k);
+    let sheet = benchsheets::nth(bench, k);
     if sheet::points::is_full_for(sheet, name) {
         return Check::Failed(Refusal::PointsFull);
     }
@@ -74,7 +73,7 @@ pub fn known_check(bench: Bench, k: usize, name: [u8; NAME_BYTES]) -> Check
     if let Check::Failed(reason) = check {
         return Check::Failed(reason);
     }
-    let sheet = sheets::nth(bench, k);
+    let sheet = benchsheets::nth(bench, k);
     if !sheet::points::is_held(sheet, name) {
         return Check::Failed(Refusal::UnknownName);
     }

@@ -8,28 +8,21 @@ ghost use Rattle.equivalence.specs.Refusal.{lowest};
 ghost use Rattle.equivalence.specs.declared.Check.the-variants.{Passed};
 ghost use Rattle.algebra.specs.Algebra.{algebraIn};
 ghost use Rattle.sheet.specs.Sheet.{raisedBy};
-ghost use Rattle.bench.specs.State.{withSheet};
+ghost use Rattle.benchsheets.specs.State.{withSheet};
 ghost use Rattle.bench.specs.Calls.{tallyTest, benched, startCall, handedTests, addCall, clearCall};
 ghost use Rattle.bench.specs.Calls.{setCall, returnCall, forgetCall};
+pub use benchsheets::Bench;
+pub use benchsheets::SHEETS;
 use equivalence::Check;
 use equivalence::Refusal;
 use sheet::NAME_BYTES;
 use sheet::Sheet;
 
 pub mod checks;
-pub mod sheets;
-
-// How many sheets a bench has.
-pub const SHEETS: usize = 8;
+mod sheets;
 
 // The top of a tally.
 const MAX_TALLY: u64 = 18446744073709551615;
-
-pub struct Bench {
-    pub n: usize,
-    pub earlier: u64,
-    pub sheets: [Sheet; SHEETS],
-}
 
 pub enum Answer {
     Done,
@@ -50,11 +43,11 @@ pub fn start(n: usize) -> Benched
     match check {
         Check::Failed(reason) => Benched {
             answer: Answer::Refused(reason),
-            bench: sheets::zeros(),
+            bench: benchsheets::zeros(),
         },
         Check::Passed => Benched {
             answer: Answer::Done,
-            bench: sheets::fresh(n),
+            bench: benchsheets::fresh(n),
         },
     }
 }
@@ -76,7 +69,7 @@ fn raised(bench: Bench, k: usize, sheet: Sheet, lost: usize) -> Benched
     next.tally = sheet.tally + lost as u64;
     Benched {
         answer: Answer::Done,
-        bench: sheets::with_sheet(bench, k, next),
+        bench: benchsheets::with_sheet(bench, k, next),
     }
 }
 
@@ -93,7 +86,7 @@ fn extend(
     requires { ⌜ lowest (handedTests bench (algebraIn n arities cells) k x y) ≡ Passed ⌝ }
     ensures { λ r. ⌜ r ≡ addCall bench (algebraIn n (arities .entry) (cells .entry)) k x y ⌝ }
 {
-    let old = sheets::nth(bench, k);
+    let old = benchsheets::nth(bench, k);
     let grown = sheets::extended(old, n, arities, cells, x, y);
     let new = grown.sheet;
     raised(bench, k, new, grown.lost)
@@ -133,7 +126,7 @@ pub fn clear(bench: Bench, sheet: usize) -> Benched
         },
         Check::Passed => Benched {
             answer: Answer::Done,
-            bench: sheets::cleared(bench, sheet),
+            bench: benchsheets::cleared(bench, sheet),
         },
     }
 }

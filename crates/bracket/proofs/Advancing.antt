@@ -9,7 +9,7 @@ use Rattle.equivalence.proofs.Tests.{pick}
 use Rattle.equivalence.specs.declared.Refusal.the-variants.{Text}
 use Rattle.algebra.specs.Accepted.{Accepted}
 use Rattle.algebra.specs.Algebra.{Algebra}
-use Rattle.reader.specs.Reading.{ascii, Read, found, fault, begins}
+use Rattle.numberreader.specs.Reading.{ascii, Read, found, fault, begins}
 use Rattle.reader.specs.Lines.{Progress, defined, refused, sized, operation, Request, request}
 use Rattle.reader.proofs.Accepting.{AcceptedBy, sized-accepted, operation-accepted}
 use Rattle.reader.proofs.Forward.{Past, Further, operation-further, request-forward}

@@ -10,7 +10,7 @@ use Rattle.bracket.specs.Standings.{Sound, Filling, unread, standingRoom
 use Rattle.bracket.specs.InnerSteps.{Lent}
 use Rattle.bracket.specs.declared.run.Standing.{Standing}
 use Rattle.bracket.specs.declared.run.Stepped.{Stepped}
-use Rattle.reader.proofs.Words.{and-left, and-right}
+use Rattle.numberreader.proofs.Words.{and-left, and-right}
 
 -- the tests in turn
 module _ (text : ℕ) (s : Standing) (arities room out : ℕ) where

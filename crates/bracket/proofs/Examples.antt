@@ -15,9 +15,9 @@ use Rattle.congruence.specs.Calls.{generateCall, containedCall, separateCall, c
 use Rattle.quotient.specs.Quotient.{quotientTable, quotientCells}
 use Rattle.theory.specs.Decompose.{added, gathered, pruned, listed, reducible, factorSpace, commonPair}
 use Rattle.theory.specs.Extremal.{holdsAll, above, generated, contained, separated}
-use Rattle.reader.specs.Reading.{ascii, onward, _>>=_, mark, gap, branch, behind, begins, opened}
-use Rattle.reader.specs.Numbers.{digitAt, number}
-use Rattle.reader.specs.Tables.{cell, parted, bracket, table, pair, itemsUpTo, items}
+use Rattle.numberreader.specs.Reading.{ascii, onward, _>>=_, mark, gap, branch, behind, begins, opened}
+use Rattle.numberreader.specs.Numbers.{digitAt, number}
+use Rattle.tablereader.specs.Tables.{cell, parted, bracket, table, pair, itemsUpTo, items}
 use Rattle.reader.specs.Lines.{close, spacedNumber, sizeLine, tested, afterSize, sized, arity, lastTable, operationTests}
 use Rattle.reader.specs.Lines.{cellTest, withOperation, afterTable, afterArity, operation, itemsToEnd, asksWith, twoNumbers, request}
 use Rattle.equivalence.specs.Outcome.{success, refusal, writtenOutcome}
@@ -25,7 +25,7 @@ use Rattle.congruence.specs.Outcome.{generatedOutcome, dividedOutcome, decompos
 use Rattle.writer.specs.Numerals.{digits, decimal}
 use Rattle.writer.specs.Lines.{gapBytes, spaced, bracketed, spacedBrackets, line, refusedNumbers, outcomeLine, refusedLine}
 use Rattle.tablewriter.specs.Texts.{partedTexts, tableText, sizeText, operationText, algebraText}
-use Rattle.bracket.specs.Answers.{mapLine, generatedLine, factorsLine, quotientLines, answer}
+use Rattle.answers.specs.Answers.{mapLine, generatedLine, factorsLine, quotientLines, answer}
 use Rattle.bracket.specs.Transcript.{afterLine, afterRequest, firstStep, operationStep, requestStep, step, output, run, transcript}
 
 -- the desk's output for an input is this

@@ -20,18 +20,18 @@ use Rattle.theory.proofs.Quotients.{quotientCells-length, cellCount-mono}
 use Rattle.congruence.specs.Calls.{quotientSpace}
 use Rattle.congruence.specs.Outcome.{dividedOutcome}
 use Rattle.congruence.proofs.Calls.{quotient-answer, quotient-bytes}
-use Rattle.reader.specs.Reading.{ascii, found, byteAt, done, failed, begins, opened}
-use Rattle.reader.specs.Tables.{cell, pair}
+use Rattle.numberreader.specs.Reading.{ascii, found, byteAt, done, failed, begins, opened}
+use Rattle.tablereader.specs.Tables.{cell, pair}
 use Rattle.reader.specs.Lines.{requestOf, asksWith, twoNumbers, request}
 use Rattle.reader.specs.declared.requests.Asked.the-variants.{Generate, Contained, Decompose, Quotient}
-use Rattle.reader.proofs.Readers.{opened-body, opened-other}
+use Rattle.numberreader.proofs.Readers.{opened-body, opened-other}
 use Rattle.writer.specs.Lines.{outcomeLine}
 use Rattle.writer.proofs.Numerals.{first-byte, later-bytes}
 use Rattle.tablewriter.specs.Texts.{sizeText, algebraText}
 use Rattle.tablewriter.proofs.AlgebraBack.{LineRead, lines-past, lines-turned, algebra-back}
 use Rattle.tablewriter.proofs.ReadBack.{begins-here}
 use Rattle.tablewriter.proofs.SpareCells.{text-spare}
-use Rattle.bracket.specs.Answers.{quotientLines, answer}
+use Rattle.answers.specs.Answers.{quotientLines, answer}
 use Rattle.bracket.specs.Transcript.{Step, textLimit, goes, afterLine, afterRequest, firstStep, operationStep, requestStep, step, output, run, transcript}
 use Rattle.bracket.specs.Fills.{Position, fresh, midway, due, positionAfter}
 use Rattle.bracket.specs.FedBack.{linesOn, beforeRequests, FedBack}

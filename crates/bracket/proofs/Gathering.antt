@@ -12,8 +12,8 @@ use lib.ListN.{length, take, drop, length-append, length-take, length-drop, drop
 use lib.Seq.{take-take, take-all, drop-drop, length-take-le}
 use Rattle.kernel.specs.InnerKernel.{bit}
 use Rattle.equivalence.specs.Lent.{written, laid}
-use Rattle.reader.specs.Laying.{Laid}
-use Rattle.reader.proofs.Laying.{laid-none, laid-more}
+use Rattle.tablereader.specs.Laying.{Laid}
+use Rattle.tablereader.proofs.Laying.{laid-none, laid-more}
 use Rattle.bracket.specs.Transcript.{State, goes}
 use Rattle.bracket.specs.Fills.{roomAt, Position, over, due, pieceOf, positionAfter, Fill, ended, short, takes}
 use Rattle.bracket.specs.Standings.{stateOf, positionBy, positionOf, roomFrom, standingRoom, Sound, Kept, Filling}

@@ -1,7 +1,5 @@
 pub mod Advancing
-pub mod Answering
 pub mod Calling
-pub mod Dividing
 pub mod Examples
 pub mod FedBack
 pub mod Fills

@@ -15,24 +15,26 @@ use Rattle.equivalence.specs.declared.Refusal.the-variants.{Text}
 use Rattle.equivalence.specs.declared.Check.{Check}
 use Rattle.equivalence.specs.declared.Check.the-variants.{Passed, Failed}
 use Rattle.algebra.specs.Algebra.{algebraOf}
-use Rattle.reader.specs.Reading.{ascii, begins}
+use Rattle.numberreader.specs.Reading.{ascii, begins}
 use Rattle.reader.specs.Lines.{Progress, sized, operation, request}
-use Rattle.reader.specs.InnerPromises.{RoomForCells, RoomForText, passes, Requested}
+use Rattle.tablereader.specs.InnerPromises.{RoomForText}
+use Rattle.reader.specs.InnerPromises.{RoomForCells, passes, Requested}
 use Rattle.reader.specs.InnerTaking.{algebraSoFar, progressWith, SizeTaken, OperationTaken}
-use Rattle.reader.specs.Laying.{Laid}
+use Rattle.tablereader.specs.Laying.{Laid}
 use Rattle.reader.specs.declared.requests.RequestLine.{RequestLine}
 use Rattle.reader.specs.declared.taking.AlgebraSoFar.{AlgebraSoFar}
 use Rattle.reader.specs.declared.taking.LineTaken.{LineTaken}
 use Rattle.reader.proofs.Forward.{requested-past}
-use Rattle.reader.proofs.Laying.{laid-none, laid-part, laid-front}
-use Rattle.reader.proofs.RoomLeft.{room-of-text}
-use Rattle.reader.proofs.Words.{begins-within}
+use Rattle.tablereader.proofs.Laying.{laid-none, laid-part, laid-front}
+use Rattle.tablereader.proofs.RoomLeft.{room-of-text}
+use Rattle.numberreader.proofs.Words.{begins-within}
 use Rattle.writer.specs.Lines.{refusedLine}
 use Rattle.bracket.specs.Transcript.{State, textLimit, afterLine, afterRequest, firstStep, operationStep, requestStep, step}
-use Rattle.bracket.specs.Fills.{lineRoom, due}
+use Rattle.answers.specs.Room.{lineRoom}
+use Rattle.bracket.specs.Fills.{due}
 use Rattle.bracket.specs.Standings.{stateOf, positionBy, positionOf, unread, roomFrom, standingRoom, Sound, Kept}
-use Rattle.bracket.specs.Answers.{answer}
-use Rattle.bracket.specs.InnerPromises.{LineFits}
+use Rattle.answers.specs.Answers.{answer}
+use Rattle.answers.specs.InnerPromises.{LineFits}
 use Rattle.bracket.specs.InnerSteps.{stepOf, Lent, Stepping, behindLines, pieceFor, AfterLine}
 use Rattle.bracket.specs.declared.run.Standing.{Standing}
 use Rattle.bracket.specs.declared.run.Stepped.{Stepped}

@@ -9,10 +9,10 @@ use Rattle.algebra.specs.Accepted.{Accepted}
 use Rattle.algebra.specs.Algebra.{Algebra}
 use Rattle.algebra.specs.Congruence.{Congruence}
 use Rattle.quotient.specs.Quotient.{quotient}
-use Rattle.reader.specs.Reading.{ascii}
+use Rattle.numberreader.specs.Reading.{ascii}
 use Rattle.reader.specs.declared.requests.Asked.the-variants.{Decompose, Quotient}
 use Rattle.tablewriter.specs.Texts.{algebraText}
-use Rattle.bracket.specs.Answers.{answer}
+use Rattle.answers.specs.Answers.{answer}
 use Rattle.bracket.specs.Transcript.{textLimit, State, run, transcript}
 use Rattle.bracket.specs.Fills.{Position, fresh, midway, due, positionAfter}
 

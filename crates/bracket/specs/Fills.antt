@@ -1,18 +1,11 @@
 -- A run in fills: lines are taken, and what they write is laid, until the run is over or the room gets short.
-use Prim.Native.Nat.{ℕ, _+_, _-_, _*_, _≤_, _<_}
+use Prim.Native.Nat.{ℕ, _-_, _≤_, _<_}
 use mathlib.Core.Bool.{true, false}
 use mathlib.Core.List.{List, [], _∷_, _++_}
 use lib.Dec.{leb}
 use lib.ListN.{length}
+use Rattle.answers.specs.Room.{lineRoom}
 use Rattle.bracket.specs.Transcript.{State, Step, goes, ends, firstStep, step}
-
--- the larger of two numbers
-abbrev pub larger : ℕ → ℕ → ℕ
-larger a b = a + (b - a)
-
--- the room that a line may want over n elements and so many cells: for n maps of 64 numbers, or for the lines of as many cells, and for its words
-abbrev pub lineRoom : ℕ → ℕ → ℕ
-lineRoom n cells = larger (258 * n) (4 * cells) + 256
 
 -- where a run stands: before its first line, before another, or at its end
 pub data Position : Type 0 where

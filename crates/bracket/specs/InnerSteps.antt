@@ -13,7 +13,7 @@ use Rattle.bracket.specs.Fills.{due, pieceOf, positionAfter}
 use Rattle.bracket.specs.Standings.{stateOf, positionOf, standingRoom, Sound, Kept, Filling}
 use Rattle.kernel.specs.InnerKernel.{bit}
 use Rattle.reader.specs.InnerPromises.{passes}
-use Rattle.reader.specs.Laying.{Laid}
+use Rattle.tablereader.specs.Laying.{Laid}
 use Rattle.reader.specs.declared.taking.AlgebraSoFar.{AlgebraSoFar}
 use Rattle.reader.specs.declared.taking.LineTaken.{LineTaken}
 use Rattle.writer.specs.Lines.{refusedLine}

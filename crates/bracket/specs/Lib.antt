@@ -1,8 +1,6 @@
-pub mod Answers
 pub mod Transcript
 pub mod Fills
 pub mod FedBack
 pub mod Standings
-pub mod InnerPromises
 pub mod InnerSteps
 pub mod InnerRemaining

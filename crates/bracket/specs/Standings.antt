@@ -8,8 +8,9 @@ use lib.Dec.{T, leb}
 use lib.ListN.{length, take, drop}
 use Rattle.algebra.specs.Algebra.{algebraOf}
 use Rattle.bracket.specs.Transcript.{State}
-use Rattle.bracket.specs.Fills.{lineRoom, Position, fresh, midway, over, Fill}
-use Rattle.reader.specs.Laying.{Laid}
+use Rattle.answers.specs.Room.{lineRoom}
+use Rattle.bracket.specs.Fills.{Position, fresh, midway, over, Fill}
+use Rattle.tablereader.specs.Laying.{Laid}
 use Rattle.bracket.specs.declared.run.Standing.{Standing}
 use Rattle.bracket.specs.declared.run.Stepped.{Stepped}
 

@@ -6,10 +6,10 @@ use lib.Dec.{leb, ltb}
 use lib.ListN.{length}
 use Rattle.equivalence.specs.declared.Refusal.the-variants.{Text}
 use Rattle.algebra.specs.Algebra.{Algebra}
-use Rattle.reader.specs.Reading.{ascii, Read, found, fault, begins}
+use Rattle.numberreader.specs.Reading.{ascii, Read, found, fault, begins}
 use Rattle.reader.specs.Lines.{Progress, defined, refused, sized, operation, Request, request}
 use Rattle.writer.specs.Lines.{refusedLine}
-use Rattle.bracket.specs.Answers.{answer}
+use Rattle.answers.specs.Answers.{answer}
 
 -- the longest text that is read
 abbrev pub textLimit : ℕ

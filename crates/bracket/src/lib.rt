@@ -1,5 +1,4 @@
 // Bracket text: what each line is answered with, and a run in fills; `reader` reads, `writer` writes.
 
-mod answers;
 pub mod run;
 mod steps;

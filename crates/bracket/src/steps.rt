@@ -1,15 +1,15 @@
 // The lines of a run, one by one: what each writes, and where the run stands after it.
-use crate::answers::answer;
 use crate::run::Standing;
 use crate::run::Stepped;
 use crate::run::unread;
-use reader::reading::begins_with;
+use answers::answer;
+use linewriter::write_refused;
+use numberreader::begins_with;
 use reader::requests::read_request;
 use reader::taking::AlgebraSoFar;
 use reader::taking::LineTaken;
 use reader::taking::take_operation_line;
 use reader::taking::take_size_line;
-use writer::write_refused;
 ghost use mathlib.Core.Bool.{true};
 ghost use mathlib.Core.Path.{_≡_};
 ghost use Prim.Native.Nat.{_+_, _≤_, _<_};

@@ -19,12 +19,12 @@ use Rattle.sheet.specs.Points.{isFaultless}
 use Rattle.sheet.specs.Sheet.{mapOn}
 use Rattle.sheet.specs.declared.Sheet.{Sheet}
 use Rattle.bench.specs.Calls.{benchTest, clearTests}
-use Rattle.bench.specs.State.{zeroBench}
+use Rattle.benchsheets.specs.State.{zeroBench}
 use Rattle.bench.proofs.Giving.{given-answer, given-done, given-refused, given-no, given-yes}
 use Rattle.bench.proofs.Testing.{doneWith, refused, benched-answer, benched-done, benched-refused, benched-no, benched-yes, sheet-next}
 use Rattle.bench.specs.declared.Answer.{Answer}
 use Rattle.bench.specs.declared.Answer.the-variants.{Done, Refused}
-use Rattle.bench.specs.declared.Bench.{Bench}
+use Rattle.benchsheets.specs.declared.Bench.{Bench}
 use Rattle.conversion.specs.Conversion.{mapsTest, convertTests, widened, zeroBenchV2, convertV1Call, unpointed, withoutPoints, zeroBenchV3, convertV2Call}
 use Rattle.conversion.specs.Conversion.{untallied, mapAlone, withTallies, faultsTest, convertV3Tests, convertV3Call}
 use Rattle.conversion.specs.declared.BenchV1.{BenchV1}

@@ -11,7 +11,7 @@ use Rattle.sheet.specs.Points.{sameName, pointIn, isNamed, isNamedBelow, isPoin
 use Rattle.sheet.specs.Sheet.{mapOn, zeroPoint, zeroSheet}
 use Rattle.sheet.specs.declared.Point.{Point}
 use Rattle.bench.specs.Calls.{benched}
-use Rattle.bench.specs.State.{eightOf, zeroBench, sheetOf}
+use Rattle.benchsheets.specs.State.{eightOf, zeroBench, sheetOf}
 use Rattle.bench.proofs.Samples.{low, faulty}
 use Rattle.bench.specs.declared.Answer.the-variants.{Done, Refused}
 use Rattle.conversion.specs.Conversion.{mapsTest, convertTests, zeroBenchV2, convertV1Call, unpointed, withoutPoints, zeroSheetV3, noSheetV3, zeroBenchV3, convertV2Call}

@@ -11,9 +11,9 @@ use Rattle.sheet.specs.Points.{isFaultless}
 use Rattle.sheet.specs.Sheet.{zeroPoint}
 use Rattle.sheet.specs.declared.Sheet.{Sheet}
 use Rattle.bench.specs.Calls.{benched}
-use Rattle.bench.specs.State.{zeroBench}
+use Rattle.benchsheets.specs.State.{zeroBench}
 use Rattle.bench.specs.declared.Answer.the-variants.{Done, Refused}
-use Rattle.bench.specs.declared.Bench.{Bench}
+use Rattle.benchsheets.specs.declared.Bench.{Bench}
 use Rattle.bench.specs.declared.Benched.{Benched}
 use Rattle.conversion.specs.declared.BenchV1.{BenchV1}
 use Rattle.conversion.specs.declared.BenchV2.{BenchV2}

@@ -269,7 +269,7 @@ pub fn convert_v3(old: BenchV3) -> Benched
     match check {
         Check::Failed(reason) => Benched {
             answer: Answer::Refused(reason),
-            bench: bench::sheets::zeros(),
+            bench: benchsheets::zeros(),
         },
         Check::Passed => Benched {
             answer: Answer::Done,

@@ -7,8 +7,8 @@ use native.Mathlib.Omega.{arith}
 use lib.Dec.{T}
 use lib.ListN.{length, take, drop, length-append, length-drop}
 use lib.Seq.{take-take, drop-drop, drop-append-seam}
-use Rattle.reader.specs.Laying.{Laid}
-use Rattle.reader.proofs.Laying.{laid-part, laid-before}
+use Rattle.tablereader.specs.Laying.{Laid}
+use Rattle.tablereader.proofs.Laying.{laid-part, laid-before}
 use Rattle.bracket.specs.Transcript.{output, transcript}
 use Rattle.bracket.specs.Fills.{due}
 use Rattle.bracket.specs.Standings.{positionOf, unread, roomFrom, canFill, Filling, FillPromise}

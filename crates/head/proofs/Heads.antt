@@ -10,8 +10,8 @@ use Rattle.equivalence.specs.declared.Check.{Check}
 use Rattle.equivalence.specs.declared.Check.the-variants.{Passed, Failed}
 use Rattle.equivalence.specs.declared.Refusal.{Refusal}
 use Rattle.equivalence.specs.declared.Refusal.the-variants.{Size, Operations, Arity, Cells, Length as CellsLength, Cell, Range, NotMap, Space, Equal, NotCongruence, Tally, Text, UnknownName, PointsFull}
-use Rattle.reader.specs.Laying.{Laid}
-use Rattle.reader.proofs.Laying.{laid-more}
+use Rattle.tablereader.specs.Laying.{Laid}
+use Rattle.tablereader.proofs.Laying.{laid-more}
 use Rattle.algebratext.specs.declared.AlgebraRead.{AlgebraRead}
 use Rattle.algebratext.specs.declared.TextWritten.{TextWritten}
 use Rattle.algebratext.specs.declared.TextWritten.the-variants.{Length, Refused}

@@ -15,10 +15,10 @@ use Rattle.theory.proofs.Above.{LeastJoining, extended-law}
 use Rattle.sheet.specs.Sheet.{mapOn, sheetWith, raisedBy}
 use Rattle.sheet.proofs.SheetMaps.{mapOn-sheetWith}
 use Rattle.bench.specs.Calls.{handedTests, addTests, mapByAdd, lostByAdd, sheetByAdd, addCall}
-use Rattle.bench.specs.State.{sheetOf, withSheet, withMap}
-use Rattle.bench.proofs.BenchSheets.{withSheet-same}
+use Rattle.benchsheets.specs.State.{sheetOf, withSheet, withMap}
+use Rattle.benchsheets.proofs.BenchSheets.{withSheet-same}
 use Rattle.bench.proofs.Testing.{doneWith, refused, call-cases, Addable, add-passed}
-use Rattle.bench.specs.declared.Bench.{Bench}
+use Rattle.benchsheets.specs.declared.Bench.{Bench}
 use Rattle.history.specs.Promises.{LeastExtension}
 
 -- the map of the sheet that got it

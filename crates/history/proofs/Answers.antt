@@ -20,7 +20,7 @@ use Rattle.conversion.proofs.Conversions.{first-answer, second-answer}
 use Rattle.bench.proofs.Giving.{done-never}
 use Rattle.bench.proofs.Testing.{benched-answer}
 use Rattle.bench.specs.declared.Answer.the-variants.{Done, Refused}
-use Rattle.bench.specs.declared.Bench.{Bench}
+use Rattle.benchsheets.specs.declared.Bench.{Bench}
 use Rattle.conversion.specs.declared.SheetV1.{SheetV1}
 use Rattle.conversion.specs.declared.SheetV3.{SheetV3}
 

@@ -14,9 +14,9 @@ use Rattle.theory.specs.Samples.{bare}
 use Rattle.sheet.specs.Points.{sameName, pointIn, isNamed, isNamedBelow, isPoint, isFaultless}
 use Rattle.sheet.specs.Sheet.{mapOn, zeroSheet, sheetWith, raisedBy}
 use Rattle.bench.specs.Calls.{sheetTest, benchTest, tallyTest, benched, startCall, mapByAdd, lostByAdd, sheetByAdd, placeTests, handedTests, addCall, clearTests, clearCall}
-use Rattle.bench.specs.State.{eightOf, freshBench, sheetOf, withSheet, withMap, blocksLost}
+use Rattle.benchsheets.specs.State.{eightOf, freshBench, sheetOf, withSheet, withMap, blocksLost}
 use Rattle.bench.proofs.Samples.{named, low, faulty}
-use Rattle.bench.specs.declared.Bench.{Bench}
+use Rattle.benchsheets.specs.declared.Bench.{Bench}
 use Rattle.conversion.specs.Conversion.{untallied, withTallies, faultsTest, convertV3Tests, convertV3Call}
 use Rattle.conversion.proofs.Edges.{third-kind}
 use Rattle.history.specs.Histories.{Call, Start, Add, Clear, Set, Return, Forget, called, Made, isDone, next, after, remapped, whereNamed, onSheet, sheetAfter}

@@ -29,14 +29,14 @@ use Rattle.bench.specs.Calls.{mapByAdd, lostByAdd, sheetByAdd, startTests, star
 use Rattle.history.specs.Histories.{Call, Start, Add, Clear, Set, Return, Forget, called, Made, History, isDone, next, after}
 use Rattle.history.specs.Histories.{SheetState, remapped, whereNamed, onSheet, sheetAfter, EachLeast, SheetRight, BenchRight, StartsAccepted, HistoryTheorem}
 use Rattle.history.specs.Promises.{OnlySheet, LeastExtension}
-use Rattle.bench.specs.State.{eightOf, freshBench, sheetOf, withSheet, withMap, blocksLost}
+use Rattle.benchsheets.specs.State.{eightOf, freshBench, sheetOf, withSheet, withMap, blocksLost}
 use Rattle.history.proofs.Adding.{afterAdd, add-cases, added-length, added-least}
-use Rattle.bench.proofs.BenchSheets.{withSheet-same}
+use Rattle.benchsheets.proofs.BenchSheets.{withSheet-same}
 use Rattle.history.proofs.Pointing.{Cases, Settable, Known, afterClear, afterSet, afterReturn, afterForget, clear-cases, set-cases, return-cases, forget-cases, stored-length}
 use Rattle.history.proofs.Pointing.{set-held, set-under, forget-held, forget-under}
 use Rattle.history.proofs.Promises.{withSheet-only, equal-sheet}
 use Rattle.bench.proofs.Testing.{doneWith, refused, benched-passed, Addable, Clearable}
-use Rattle.bench.specs.declared.Bench.{Bench}
+use Rattle.benchsheets.specs.declared.Bench.{Bench}
 use Rattle.bench.specs.declared.Benched.{Benched}
 
 abbrev made : Call → Bool → Made

@@ -16,11 +16,11 @@ use Rattle.equivalence.specs.declared.Check.{Check}
 use Rattle.equivalence.specs.declared.Check.the-variants.{Passed, Failed}
 use Rattle.sheet.specs.Points.{isFaultless}
 use Rattle.bench.specs.Calls.{benchTest, placeTests, handedTests, addTests, mapByAdd, lostByAdd, sheetByAdd, addCall}
-use Rattle.bench.specs.State.{sheetOf, withSheet}
-use Rattle.bench.proofs.BenchSheets.{withSheet-same}
+use Rattle.benchsheets.specs.State.{sheetOf, withSheet}
+use Rattle.benchsheets.proofs.BenchSheets.{withSheet-same}
 use Rattle.bench.proofs.Testing.{benched-passed, benched-failed, benched-answer, add-passed}
 use Rattle.bench.specs.declared.Answer.the-variants.{Done, Refused}
-use Rattle.bench.specs.declared.Bench.{Bench}
+use Rattle.benchsheets.specs.declared.Bench.{Bench}
 use Rattle.history.specs.Independence.{AllFaultless, ShareSheet, IndependenceTheorem}
 
 faultless-over : (b : Bench) → AllFaultless b → {n : ℕ} → b .n ≡ n → every (isFaultless n) (b .sheets) ≡ true

@@ -16,11 +16,11 @@ use Rattle.sheet.specs.Sheet.{mapOn}
 use Rattle.sheet.proofs.Faults.{Faultless}
 use Rattle.sheet.proofs.Storing.{place-room, under-length, set-names, set-stored, forget-names, forget-stored}
 use Rattle.bench.specs.Calls.{clearTests, clearCall, setTests, setCall, knownTests, returnCall, forgetCall}
-use Rattle.bench.specs.State.{sheetOf, withSheet, withMap}
+use Rattle.benchsheets.specs.State.{sheetOf, withSheet, withMap}
 use Rattle.history.proofs.Adding.{withMap-map}
-use Rattle.bench.proofs.BenchSheets.{withSheet-same}
+use Rattle.benchsheets.proofs.BenchSheets.{withSheet-same}
 use Rattle.bench.proofs.Testing.{doneWith, refused, call-cases, Clearable, clear-passed, set-passed, known-passed}
-use Rattle.bench.specs.declared.Bench.{Bench}
+use Rattle.benchsheets.specs.declared.Bench.{Bench}
 use Rattle.bench.specs.declared.Benched.{Benched}
 
 -- a call gave `after`, with what its tests left, or was refused

@@ -22,10 +22,10 @@ use Rattle.bench.specs.Calls.{startTests, startCall, mapByAdd, lostByAdd, sheet
 use Rattle.conversion.specs.Conversion.{withoutPoints, withTallies}
 use Rattle.history.specs.Promises.{OnlySheet, OnlyMap, OnlyPoints, Unaltered, StartPromise, AddPromise, ClearPromise}
 use Rattle.history.specs.Promises.{SetPromise, ReturnPromise, ForgetPromise, ConvertV1Promise, ConvertV2Promise, ConvertV3Promise}
-use Rattle.bench.specs.State.{eightOf, zeroBench, freshBench, sheetOf, withSheet, withMap}
+use Rattle.benchsheets.specs.State.{eightOf, zeroBench, freshBench, sheetOf, withSheet, withMap}
 use Rattle.history.proofs.Adding.{afterAdd, add-cases, added-length, afterAdd-sheet, byAdd-map, byAdd-tally, added-least}
 use Rattle.bench.proofs.Giving.{done-never}
-use Rattle.bench.proofs.BenchSheets.{withSheet-other, withSheet-count, withSheet-keeps}
+use Rattle.benchsheets.proofs.BenchSheets.{withSheet-other, withSheet-count, withSheet-keeps}
 use Rattle.conversion.proofs.Conversions.{convert-clear, convertV3-clear, first-answer, first-done, first-refused, second-answer, second-done, second-refused}
 use Rattle.conversion.proofs.Conversions.{third-answer, third-done, third-refused}
 use Rattle.history.proofs.Pointing.{clear-cases, set-cases, return-cases, forget-cases, cleared-map, stored-length, returned-map}
@@ -33,7 +33,7 @@ use Rattle.history.proofs.Pointing.{set-sheet, set-held, set-under, for
 use Rattle.bench.proofs.Testing.{doneWith, refused, benched-cases, benched-answer, start-passed, Addable}
 use Rattle.bench.specs.declared.Answer.{Answer}
 use Rattle.bench.specs.declared.Answer.the-variants.{Done, Refused}
-use Rattle.bench.specs.declared.Bench.{Bench}
+use Rattle.benchsheets.specs.declared.Bench.{Bench}
 use Rattle.bench.specs.declared.Benched.{Benched}
 use Rattle.conversion.specs.declared.BenchV1.{BenchV1}
 use Rattle.conversion.specs.declared.BenchV2.{BenchV2}

@@ -15,10 +15,10 @@ use Rattle.sheet.specs.Sheet.{mapOn, sheetWith, noSheet}
 use Rattle.sheet.specs.declared.Sheet.{Sheet}
 use Rattle.sheet.proofs.Storing.{point-tally, pointless-tally}
 use Rattle.bench.specs.Calls.{lostByAdd, sheetByAdd, addCall}
-use Rattle.bench.specs.State.{sheetOf, withSheet, withMap, blocksLost}
-use Rattle.bench.proofs.BenchSheets.{withSheet-keeps}
+use Rattle.benchsheets.specs.State.{sheetOf, withSheet, withMap, blocksLost}
+use Rattle.benchsheets.proofs.BenchSheets.{withSheet-keeps}
 use Rattle.bench.proofs.Testing.{doneWith, refused, Addable}
-use Rattle.bench.specs.declared.Bench.{Bench}
+use Rattle.benchsheets.specs.declared.Bench.{Bench}
 use Rattle.bench.specs.declared.Benched.{Benched}
 use Rattle.conversion.specs.Conversion.{untallied, withTallies, noSheetV3, convertV3Call}
 use Rattle.conversion.proofs.Conversions.{third-done}

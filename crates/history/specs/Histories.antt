@@ -16,10 +16,10 @@ use Rattle.sheet.specs.Sheet.{mapOn}
 use Rattle.sheet.specs.declared.Sheet.{Sheet}
 use Rattle.bench.specs.Calls.{startTests, startCall, addCall, clearCall, setCall, returnCall, forgetCall}
 use Rattle.history.specs.Promises.{LeastExtension}
-use Rattle.bench.specs.State.{sheetOf, blocksLost}
+use Rattle.benchsheets.specs.State.{sheetOf, blocksLost}
 use Rattle.bench.specs.declared.Answer.the-variants.{Done, Refused}
 use Rattle.bench.specs.declared.Answer.{Answer}
-use Rattle.bench.specs.declared.Bench.{Bench}
+use Rattle.benchsheets.specs.declared.Bench.{Bench}
 use Rattle.bench.specs.declared.Benched.{Benched}
 
 -- a call: Start n; Add of an algebra, a sheet and a pair; Clear of a sheet; Set, Return and Forget of a sheet and a name

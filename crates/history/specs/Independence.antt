@@ -7,8 +7,8 @@ use Rattle.algebra.specs.Algebra.{Algebra}
 use Rattle.equivalence.specs.Lists.{every}
 use Rattle.sheet.specs.Points.{isFaultless}
 use Rattle.bench.specs.Calls.{addCall}
-use Rattle.bench.specs.State.{sheetOf}
-use Rattle.bench.specs.declared.Bench.{Bench}
+use Rattle.benchsheets.specs.State.{sheetOf}
+use Rattle.benchsheets.specs.declared.Bench.{Bench}
 
 -- a bench of eight sheets, none with a fault over the bench's n
 pub record AllFaultless (b : Bench) : Type 0 where

@@ -13,9 +13,9 @@ use Rattle.sheet.specs.Points.{sameName, isHeld, mapUnder}
 use Rattle.sheet.specs.Sheet.{mapOn, zeroPoint}
 use Rattle.bench.specs.Calls.{startCall, addCall, clearCall, setCall, returnCall, forgetCall}
 use Rattle.conversion.specs.Conversion.{zeroBenchV2, convertV1Call, unpointed, zeroBenchV3, convertV2Call, untallied, mapAlone, convertV3Call}
-use Rattle.bench.specs.State.{zeroBench, sheetOf, blocksLost}
+use Rattle.benchsheets.specs.State.{zeroBench, sheetOf, blocksLost}
 use Rattle.bench.specs.declared.Answer.the-variants.{Done, Refused}
-use Rattle.bench.specs.declared.Bench.{Bench}
+use Rattle.benchsheets.specs.declared.Bench.{Bench}
 use Rattle.bench.specs.declared.Benched.{Benched}
 use Rattle.conversion.specs.declared.BenchV1.{BenchV1}
 use Rattle.conversion.specs.declared.BenchV2.{BenchV2}

@@ -6,7 +6,7 @@ use mathlib.Core.List.{List}
 use Rattle.bench.specs.Calls.{startTests, startCall, addTests, addCall, clearTests, clearCall, setTests, setCall, knownTests, returnCall, forgetCall}
 use Rattle.conversion.specs.Conversion.{convertTests, convertV1Call, convertV2Call, convertV3Tests, convertV3Call}
 use Rattle.bench.specs.declared.Answer.the-variants.{Refused}
-use Rattle.bench.specs.declared.Bench.{Bench}
+use Rattle.benchsheets.specs.declared.Bench.{Bench}
 use Rattle.conversion.specs.declared.BenchV1.{BenchV1}
 use Rattle.conversion.specs.declared.BenchV2.{BenchV2}
 use Rattle.conversion.specs.declared.BenchV3.{BenchV3}

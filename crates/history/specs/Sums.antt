@@ -7,9 +7,9 @@ use mathlib.Core.Path.{_≡_}
 use lib.ListN.{length}
 use Rattle.sheet.specs.Sheet.{mapOn}
 use Rattle.bench.specs.Calls.{addCall}
-use Rattle.bench.specs.State.{sheetOf, blocksLost}
+use Rattle.benchsheets.specs.State.{sheetOf, blocksLost}
 use Rattle.bench.specs.declared.Answer.the-variants.{Done}
-use Rattle.bench.specs.declared.Bench.{Bench}
+use Rattle.benchsheets.specs.declared.Bench.{Bench}
 use Rattle.conversion.specs.Conversion.{convertV3Call}
 use Rattle.conversion.specs.declared.BenchV3.{BenchV3}
 use Rattle.history.specs.Histories.{Call, Start, Add, Clear, Set, Return, Forget, called, isDone, after}

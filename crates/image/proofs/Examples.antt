@@ -8,8 +8,8 @@ use Rattle.equivalence.specs.Lent.{written}
 use Rattle.sheet.specs.Sheet.{zeroPoint, zeroSheet, sheetWith}
 use Rattle.sheet.specs.declared.Point.{Point}
 use Rattle.sheet.specs.declared.Sheet.{Sheet}
-use Rattle.bench.specs.State.{eightOf, freshBench}
-use Rattle.bench.specs.declared.Bench.{Bench}
+use Rattle.benchsheets.specs.State.{eightOf, freshBench}
+use Rattle.benchsheets.specs.declared.Bench.{Bench}
 use Rattle.conversion.specs.declared.BenchV1.{BenchV1}
 use Rattle.conversion.specs.declared.BenchV2.{BenchV2}
 use Rattle.conversion.specs.declared.BenchV3.{BenchV3}

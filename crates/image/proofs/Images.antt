@@ -6,7 +6,7 @@ use native.Mathlib.Omega.{arith}
 use lib.ListN.{length, getD, length-append, length-map, List·getD-map}
 use Rattle.sheet.specs.Sheet.{noSheet}
 use Rattle.sheet.specs.declared.Sheet.{Sheet}
-use Rattle.bench.specs.declared.Bench.{Bench}
+use Rattle.benchsheets.specs.declared.Bench.{Bench}
 use Rattle.conversion.specs.Conversion.{noSheetV1, noSheetV3}
 use Rattle.conversion.specs.declared.BenchV2.{BenchV2}
 use Rattle.conversion.specs.declared.BenchV3.{BenchV3}

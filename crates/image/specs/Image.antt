@@ -9,7 +9,7 @@ use Rattle.equivalence.specs.Equivalence.{Map}
 use Rattle.equivalence.specs.Lists.{upTo, concat}
 use Rattle.sheet.specs.Sheet.{noSheet}
 use Rattle.sheet.specs.declared.Sheet.{Sheet}
-use Rattle.bench.specs.declared.Bench.{Bench}
+use Rattle.benchsheets.specs.declared.Bench.{Bench}
 use Rattle.conversion.specs.Conversion.{noSheetV3}
 use Rattle.conversion.specs.declared.BenchV1.{BenchV1}
 use Rattle.conversion.specs.declared.BenchV2.{BenchV2}

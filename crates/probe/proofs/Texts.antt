@@ -9,7 +9,7 @@ use Rattle.algebratext.specs.declared.AlgebraRead.{AlgebraRead}
 use Rattle.algebratext.specs.declared.TextWritten.{TextWritten}
 use Rattle.head.specs.Head.{textNumber, readNumber, headOf}
 use Rattle.probe.specs.Calls.{headCall}
-use Rattle.probe.proofs.Probes.{right-length, other-length}
+use Rattle.imagecalls.proofs.Images.{right-length, other-length}
 
 pub text-called : (a : Algebra) (lent after : List ℕ) (r : TextWritten) (number : ℕ) → (r, after) ≡ writeCall a lent → number ≡ textNumber r
     → (number ≡ textNumber (writeCall a lent .0)) × (after ≡ writeCall a lent .1)

@@ -17,10 +17,11 @@ use Rattle.equivalence.proofs.Tests.{T?, or-left, or-right, eq→eqb}
 use Rattle.algebra.specs.Accepted.{Accepted}
 use Rattle.algebra.specs.Algebra.{Algebra, algebraOf, cellCount}
 use Rattle.algebra.proofs.Accepted.{WellFormed, every-at, accepted-wellFormed, wellFormed-accepted}
-use Rattle.reader.specs.Reading.{Read, found, fault}
+use Rattle.numberreader.specs.Reading.{Read, found, fault}
 use Rattle.reader.specs.Lines.{Progress, defined, refused, sizeLine, tested, afterSize, sized, arity, lastTable, operationTests, cellTest, withOperation, afterTable, afterArity, operation}
 use Rattle.reader.proofs.Judging.{Fitting, fitting}
-use Rattle.reader.proofs.Lengths.{IfFound, Long, last-table-long}
+use Rattle.tablereader.proofs.Lengths.{IfFound, Long}
+use Rattle.reader.proofs.CellRoom.{last-table-long}
 
 cells-append : (n : ℕ) (arities : List ℕ) (s : ℕ) → cellCount n (arities ++ (s ∷ [])) ≡ cellCount n arities + n ^ s
 unfolding cellCount

@@ -8,20 +8,22 @@ use borrow.Author.Tests.{not-true, not-false}
 use lib.Dec.{T, ltb}
 use lib.ListN.{length}
 use Rattle.equivalence.specs.Lists.{every}
-use Rattle.reader.specs.Reading.{ascii, Read, found, fault, Reader, onward, _>>=_, _>>_, done, failed, begins, opened}
-use Rattle.reader.specs.Tables.{items}
+use Rattle.numberreader.specs.Reading.{ascii, Read, found, fault, Reader, onward, _>>=_, _>>_, done, failed, begins, opened}
+use Rattle.tablereader.specs.Tables.{items}
 use Rattle.reader.specs.Lines.{close, spacedNumber, Request, requestOf, separating, itemsToEnd, asksWith, twoNumbers}
-use Rattle.reader.specs.InnerPromises.{readOf, NumberRead, RoomForText, Stored, Requested, RequestRead}
-use Rattle.reader.specs.declared.reading.Number.{Number}
-use Rattle.reader.specs.declared.reading.Spot.{Spot}
+use Rattle.numberreader.specs.InnerPromises.{readOf, NumberRead}
+use Rattle.tablereader.specs.InnerPromises.{RoomForText, Stored}
+use Rattle.reader.specs.InnerPromises.{Requested, RequestRead}
+use Rattle.numberreader.specs.declared.Number.{Number}
+use Rattle.tablereader.specs.declared.Spot.{Spot}
 use Rattle.reader.specs.declared.requests.Asked.{Asked}
 use Rattle.reader.specs.declared.requests.Asked.the-variants.{Separate, Decompose}
 use Rattle.reader.specs.declared.requests.RequestLine.{RequestLine}
-use Rattle.reader.proofs.Laying.{laid-none}
-use Rattle.reader.proofs.Readers.{then-found, then-fault, opened-body, opened-other}
+use Rattle.tablereader.proofs.Laying.{laid-none}
+use Rattle.numberreader.proofs.Readers.{then-found, then-fault, opened-body, opened-other}
 use Rattle.reader.proofs.SpacedNumbers.{close-found, close-fault, found-number, missing-number}
-use Rattle.reader.proofs.Storing.{spot, stored-found, stored-missing, stored-fault}
-use Rattle.reader.proofs.Words.{begins-within}
+use Rattle.tablereader.proofs.Storing.{spot, stored-found, stored-missing, stored-fault}
+use Rattle.numberreader.proofs.Words.{begins-within}
 
 -- a request line, and the places after it
 abbrev asking : Bool → Asked → ℕ → ℕ → RequestLine

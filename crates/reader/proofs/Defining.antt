@@ -16,20 +16,22 @@ use Rattle.equivalence.specs.declared.Refusal.the-variants.{Cell, Text}
 use Rattle.equivalence.specs.declared.Check.{Check}
 use Rattle.equivalence.specs.declared.Check.the-variants.{Passed, Failed}
 use Rattle.algebra.specs.Algebra.{algebraOf}
-use Rattle.reader.specs.Reading.{ascii, found, fault, _>>_, done, begins}
-use Rattle.reader.specs.Tables.{table}
+use Rattle.numberreader.specs.Reading.{ascii, found, fault, _>>_, done, begins}
+use Rattle.tablereader.specs.Tables.{table}
 use Rattle.reader.specs.Lines.{close, tested, arity, lastTable, operationTests, cellTest, withOperation, afterTable, afterArity, operation}
-use Rattle.reader.specs.InnerPromises.{NumberRead, RoomFor, RoomForCells, Stored, tableProgress, TableRead, operationProgress, OperationRead}
+use Rattle.numberreader.specs.InnerPromises.{NumberRead}
+use Rattle.tablereader.specs.InnerPromises.{RoomFor, Stored}
+use Rattle.reader.specs.InnerPromises.{RoomForCells, tableProgress, TableRead, operationProgress, OperationRead}
 use Rattle.reader.specs.declared.lines.OperationLine.{OperationLine}
-use Rattle.reader.specs.declared.reading.Number.{Number}
-use Rattle.reader.specs.declared.reading.Spot.{Spot}
+use Rattle.numberreader.specs.declared.Number.{Number}
+use Rattle.tablereader.specs.declared.Spot.{Spot}
 use Rattle.reader.proofs.Judging.{fitting}
-use Rattle.reader.proofs.Laying.{laid-part, laid-before, laid-front}
-use Rattle.reader.proofs.Readers.{then-found, then-fault}
-use Rattle.reader.proofs.RoomLeft.{table-count}
-use Rattle.reader.proofs.Storing.{stored-found, stored-missing}
+use Rattle.tablereader.proofs.Laying.{laid-part, laid-before, laid-front}
+use Rattle.numberreader.proofs.Readers.{then-found, then-fault}
+use Rattle.tablereader.proofs.RoomLeft.{table-count}
+use Rattle.tablereader.proofs.Storing.{stored-found, stored-missing}
 use Rattle.reader.proofs.SpacedNumbers.{close-found, close-fault, found-number, missing-number}
-use Rattle.reader.proofs.Words.{begins-within}
+use Rattle.numberreader.proofs.Words.{begins-within}
 
 -- a refused line, which leaves the place and the count of cells
 abbrev refusal : Refusal → ℕ → ℕ → ℕ → OperationLine

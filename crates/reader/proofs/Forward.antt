@@ -12,13 +12,14 @@ use Rattle.equivalence.specs.Refusal.{lowest}
 use Rattle.equivalence.specs.declared.Check.{Check}
 use Rattle.equivalence.specs.declared.Check.the-variants.{Passed, Failed}
 use Rattle.algebra.specs.Algebra.{Algebra}
-use Rattle.reader.specs.Reading.{ascii, Read, found, fault, Reader, byteAt, onward, _>>=_, _>>_, done, failed, mark, gap, branch, behind, begins, opened}
-use Rattle.reader.specs.Numbers.{digitAt, threeAt, number}
-use Rattle.reader.specs.Tables.{cell, parted, bracket, table, pair, itemsUpTo, items}
+use Rattle.numberreader.specs.Reading.{ascii, Read, found, fault, Reader, byteAt, onward, _>>=_, _>>_, done, failed, mark, gap, branch, behind, begins, opened}
+use Rattle.numberreader.specs.Numbers.{digitAt, threeAt, number}
+use Rattle.tablereader.specs.Tables.{cell, parted, bracket, table, pair, itemsUpTo, items}
 use Rattle.reader.specs.Lines.{Progress, defined, refused, close, spacedNumber, tested, arity, lastTable, cellTest, operationTests, withOperation}
 use Rattle.reader.specs.Lines.{afterTable, afterArity, operation, requestOf, separating, itemsToEnd, asksWith, twoNumbers, request}
 use Rattle.kernel.specs.InnerKernel.{bit}
-use Rattle.reader.specs.InnerPromises.{readOf, Requested}
+use Rattle.numberreader.specs.InnerPromises.{readOf}
+use Rattle.reader.specs.InnerPromises.{Requested}
 use Rattle.reader.specs.declared.requests.Asked.{Asked}
 use Rattle.reader.specs.declared.requests.Asked.the-variants.{Generate, Contained, Decompose, Quotient}
 use Rattle.reader.specs.declared.requests.RequestLine.{RequestLine}

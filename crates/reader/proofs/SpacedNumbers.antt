@@ -9,13 +9,13 @@ use borrow.Author.Tests.{not-true, not-false, eqb-true, eq-eqb}
 use lib.Dec.{eqb}
 use lib.ListN.{length}
 use Rattle.equivalence.specs.Lists.{every}
-use Rattle.reader.specs.Reading.{ascii, Read, found, fault, Reader, byteAt, _>>=_, _>>_, done, failed, mark, gap, begins}
-use Rattle.reader.specs.Numbers.{number}
+use Rattle.numberreader.specs.Reading.{ascii, Read, found, fault, Reader, byteAt, _>>=_, _>>_, done, failed, mark, gap, begins}
+use Rattle.numberreader.specs.Numbers.{number}
 use Rattle.reader.specs.Lines.{close, spacedNumber, sizeLine, arity}
-use Rattle.reader.specs.InnerPromises.{readOf, GapRead, NumberRead}
-use Rattle.reader.specs.declared.reading.Number.{Number}
-use Rattle.reader.proofs.Readers.{then-found, then-fault, marked, unmarked, mark-found, mark-fault, opened-body, opened-other, gapped, ungapped}
-use Rattle.reader.proofs.Words.{and-left, and-right, begins-within}
+use Rattle.numberreader.specs.InnerPromises.{readOf, GapRead, NumberRead}
+use Rattle.numberreader.specs.declared.Number.{Number}
+use Rattle.numberreader.proofs.Readers.{then-found, then-fault, marked, unmarked, mark-found, mark-fault, opened-body, opened-other, gapped, ungapped}
+use Rattle.numberreader.proofs.Words.{and-left, and-right, begins-within}
 
 -- no number
 abbrev pub none : ℕ → Number

@@ -17,10 +17,11 @@ use Rattle.equivalence.specs.declared.Refusal.the-variants.{Size, Text}
 use Rattle.equivalence.specs.declared.Check.{Check}
 use Rattle.equivalence.specs.declared.Check.the-variants.{Passed, Failed}
 use Rattle.reader.specs.Lines.{sizeLine, tested, afterSize, sized, operation}
-use Rattle.reader.specs.InnerPromises.{NumberRead, RoomForCells, passes, progressOf, operationProgress, OperationRead}
+use Rattle.numberreader.specs.InnerPromises.{NumberRead}
+use Rattle.reader.specs.InnerPromises.{RoomForCells, passes, progressOf, operationProgress, OperationRead}
 use Rattle.reader.specs.InnerTaking.{algebraSoFar, Readable, SizeTaken, OperationTaken}
 use Rattle.reader.specs.declared.lines.OperationLine.{OperationLine}
-use Rattle.reader.specs.declared.reading.Number.{Number}
+use Rattle.numberreader.specs.declared.Number.{Number}
 use Rattle.reader.specs.declared.taking.AlgebraSoFar.{AlgebraSoFar}
 use Rattle.reader.specs.declared.taking.LineTaken.{LineTaken}
 use Rattle.reader.proofs.SpacedNumbers.{found-number, missing-number}

@@ -11,9 +11,9 @@ use Rattle.equivalence.specs.declared.Refusal.the-variants.{Operations, Arity, 
 use Rattle.equivalence.specs.declared.Check.{Check}
 use Rattle.equivalence.specs.declared.Check.the-variants.{Passed, Failed}
 use Rattle.algebra.specs.Algebra.{Algebra, algebraOf}
-use Rattle.reader.specs.Reading.{ascii, Read, found, fault, Reader, _>>=_, _>>_, done, failed, mark, gap, opened}
-use Rattle.reader.specs.Numbers.{number}
-use Rattle.reader.specs.Tables.{cell, table, pair, items}
+use Rattle.numberreader.specs.Reading.{ascii, Read, found, fault, Reader, _>>=_, _>>_, done, failed, mark, gap, opened}
+use Rattle.numberreader.specs.Numbers.{number}
+use Rattle.tablereader.specs.Tables.{cell, table, pair, items}
 use Rattle.reader.specs.declared.requests.Asked.{Asked}
 use Rattle.reader.specs.declared.requests.Asked.the-variants.{Generate, Contained, Separate, Decompose, Quotient}
 

@@ -1,10 +1,10 @@
 // Reading the lines of an algebra: its size line and its operation lines.
-use crate::reading::Number;
-use crate::reading::begins_with;
-use crate::reading::gap_end;
-use crate::reading::read_number;
-use crate::reading::read_table;
 use algebra::largest;
+use numberreader::Number;
+use numberreader::begins_with;
+use numberreader::gap_end;
+use numberreader::read_number;
+use tablereader::read_table;
 ghost use mathlib.Core.Path.{_≡_};
 ghost use Prim.Native.Nat.{_+_, _^_, _≤_, _<_};
 ghost use lib.Dec.{ltb};
@@ -13,7 +13,9 @@ ghost use Rattle.equivalence.specs.Lists.{every};
 ghost use Rattle.kernel.specs.InnerKernel.{bit};
 ghost use Rattle.equivalence.specs.Refusal.{lowest};
 ghost use Rattle.reader.specs.Lines.{spacedNumber, sizeLine, arity, operationTests};
-ghost use Rattle.reader.specs.InnerPromises.{passes, NumberRead, RoomFor, RoomForCells, TableRead, OperationRead};
+ghost use Rattle.numberreader.specs.InnerPromises.{NumberRead};
+ghost use Rattle.tablereader.specs.InnerPromises.{RoomFor};
+ghost use Rattle.reader.specs.InnerPromises.{passes, RoomForCells, TableRead, OperationRead};
 
 // What an operation line came to: its arity, the place after it, and how many cells there are with its own; or a refusal.
 pub struct OperationLine {

@@ -1,13 +1,14 @@
 // Reading request lines. The numbers that a request lists are stored as bytes.
 use crate::lines::read_spaced_number;
-use crate::reading::Spot;
-use crate::reading::begins_with;
-use crate::reading::read_items;
+use numberreader::begins_with;
+use tablereader::Spot;
+use tablereader::read_items;
 ghost use Prim.Native.Nat.{_≤_, _<_};
 ghost use lib.ListN.{length};
-ghost use Rattle.reader.specs.Tables.{table};
+ghost use Rattle.tablereader.specs.Tables.{table};
 ghost use Rattle.reader.specs.Lines.{itemsToEnd, asksWith, twoNumbers, request};
-ghost use Rattle.reader.specs.InnerPromises.{RoomForText, StoredBy, RequestedBy, RequestRead};
+ghost use Rattle.tablereader.specs.InnerPromises.{RoomForText, StoredBy};
+ghost use Rattle.reader.specs.InnerPromises.{RequestedBy, RequestRead};
 
 // What a request asks: Generate, Contained or Quotient with the numbers that were stored, Separate with two elements, Decompose.
 pub enum Asked {

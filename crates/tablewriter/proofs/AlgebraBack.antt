@@ -11,9 +11,9 @@ use Rattle.equivalence.specs.Lists.{concat}
 use Rattle.algebra.specs.Accepted.{Accepted}
 use Rattle.algebra.specs.Algebra.{Algebra, Operation, algebraOf, cellCount, operationsOf, operations}
 use Rattle.algebra.proofs.Accepted.{WellFormed, accepted-wellFormed}
-use Rattle.reader.specs.Reading.{ascii, begins}
+use Rattle.numberreader.specs.Reading.{ascii, begins}
 use Rattle.reader.specs.Lines.{defined, sized, withOperation, operation}
-use Rattle.reader.proofs.Readers.{within-text}
+use Rattle.numberreader.proofs.Readers.{within-text}
 use Rattle.writer.proofs.Numerals.{first-byte}
 use Rattle.tablewriter.specs.Texts.{sizeText, operationText, algebraText}
 use Rattle.tablewriter.proofs.ReadBack.{begins-left, begins-right, begins-here, below-drop}

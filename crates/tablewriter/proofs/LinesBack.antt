@@ -13,11 +13,11 @@ use Rattle.equivalence.specs.declared.Check.the-variants.{Passed}
 use Rattle.equivalence.proofs.Refusals.{lowest-none, lowest-next, sizeTest-of}
 use Rattle.algebra.specs.Algebra.{Algebra, Operation, algebraOf}
 use Rattle.algebra.proofs.Accepted.{every-by, not-yes}
-use Rattle.reader.specs.Reading.{ascii, found, _>>=_, _>>_, done, failed, gap, begins}
-use Rattle.reader.specs.Numbers.{number}
-use Rattle.reader.specs.Tables.{table}
+use Rattle.numberreader.specs.Reading.{ascii, found, _>>=_, _>>_, done, failed, gap, begins}
+use Rattle.numberreader.specs.Numbers.{number}
+use Rattle.tablereader.specs.Tables.{table}
 use Rattle.reader.specs.Lines.{close, spacedNumber, sizeLine, defined, tested, afterSize, sized, arity, lastTable, operationTests, cellTest, withOperation, afterTable, afterArity, operation}
-use Rattle.reader.proofs.Readers.{then-found, opened-body}
+use Rattle.numberreader.proofs.Readers.{then-found, opened-body}
 use Rattle.reader.proofs.SpacedNumbers.{close-found}
 use Rattle.reader.proofs.Judging.{Fitting, passed}
 use Rattle.writer.specs.Numerals.{decimal}

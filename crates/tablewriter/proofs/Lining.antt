@@ -10,9 +10,9 @@ use Rattle.equivalence.specs.Lists.{concat}
 use Rattle.equivalence.proofs.Stretches.{concat-append}
 use Rattle.algebra.specs.Algebra.{Operation, algebraOf, cellCount, operationsOf, operations}
 use Rattle.algebra.proofs.Tables.{start-next, start-first, start-room}
-use Rattle.reader.specs.Reading.{ascii}
-use Rattle.reader.specs.Laying.{Laid}
-use Rattle.reader.proofs.Laying.{laid-none, laid-more}
+use Rattle.numberreader.specs.Reading.{ascii}
+use Rattle.tablereader.specs.Laying.{Laid}
+use Rattle.tablereader.proofs.Laying.{laid-none, laid-more}
 use Rattle.writer.specs.Lines.{gapBytes, spaced, line}
 use Rattle.writer.proofs.Digits.{decimal-some}
 use Rattle.writer.proofs.Lengths.{one-digit-long}

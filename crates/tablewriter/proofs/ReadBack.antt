@@ -9,12 +9,12 @@ use borrow.Author.Tests.{eq-eqb}
 use lib.ListN.{length, getD, take, drop, length-append, length-drop}
 use lib.Seq.{getD-append-seam, append-snoc, getD-drop, take-add}
 use Rattle.writer.specs.InnerRoom.{NumbersBelow}
-use Rattle.reader.specs.Reading.{ascii, found, Reader, byteAt, _>>=_, _>>_, done, gap, begins}
-use Rattle.reader.specs.Numbers.{digitAt, number}
-use Rattle.reader.specs.Tables.{cell, parted, bracket, table}
-use Rattle.reader.proofs.Readers.{then-found, mark-found}
-use Rattle.reader.proofs.Digits.{digit-below, digit-above}
-use Rattle.reader.proofs.Storing.{bracket-closed}
+use Rattle.numberreader.specs.Reading.{ascii, found, Reader, byteAt, _>>=_, _>>_, done, gap, begins}
+use Rattle.numberreader.specs.Numbers.{digitAt, number}
+use Rattle.tablereader.specs.Tables.{cell, parted, bracket, table}
+use Rattle.numberreader.proofs.Readers.{then-found, mark-found}
+use Rattle.numberreader.proofs.Digits.{digit-below, digit-above}
+use Rattle.tablereader.proofs.Storing.{bracket-closed}
 use Rattle.writer.specs.Numerals.{decimal}
 use Rattle.writer.specs.Lines.{gapBytes}
 use Rattle.writer.proofs.Numerals.{first-byte, later-bytes, stands-number}

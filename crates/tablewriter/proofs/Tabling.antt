@@ -8,10 +8,10 @@ use native.Mathlib.Numerals.{sub-one}
 use native.Mathlib.Omega.{arith}
 use lib.ListN.{length, getD, take, drop, length-append, length-drop}
 use lib.Seq.{drop-drop, length-take-le, take-all}
-use Rattle.reader.specs.Reading.{ascii}
-use Rattle.reader.specs.Laying.{Laid}
-use Rattle.reader.proofs.Laying.{laid-more}
-use Rattle.reader.proofs.RoomLeft.{part-less}
+use Rattle.numberreader.specs.Reading.{ascii}
+use Rattle.tablereader.specs.Laying.{Laid}
+use Rattle.tablereader.proofs.Laying.{laid-more}
+use Rattle.tablereader.proofs.RoomLeft.{part-less}
 use Rattle.writer.specs.Numerals.{decimal}
 use Rattle.writer.specs.Lines.{gapBytes, spaced, bracketed}
 use Rattle.kernel.specs.InnerLargest.{Largest}

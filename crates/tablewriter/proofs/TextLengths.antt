@@ -8,7 +8,7 @@ use lib.ListN.{length, getD, take, drop, length-append, length-drop}
 use lib.Seq.{take-add, take-take, length-take-le}
 use Rattle.equivalence.specs.Lists.{concat}
 use Rattle.algebra.specs.Algebra.{algebraOf, cellCount, operationsOf, operations}
-use Rattle.reader.specs.Reading.{ascii}
+use Rattle.numberreader.specs.Reading.{ascii}
 use Rattle.writer.specs.Numerals.{decimal}
 use Rattle.writer.specs.Lines.{gapBytes, spaced, line}
 use Rattle.writer.proofs.Lengths.{one-digit-long, spaced-length}

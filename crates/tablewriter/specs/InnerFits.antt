@@ -4,7 +4,7 @@ use mathlib.Core.List.{List, [], _∷_, _++_, map}
 use lib.ListN.{length, getD}
 use Rattle.equivalence.specs.Lists.{concat}
 use Rattle.algebra.specs.Algebra.{Algebra, Operation, algebraOf, operations, cellCount}
-use Rattle.reader.specs.Reading.{ascii}
+use Rattle.numberreader.specs.Reading.{ascii}
 use Rattle.writer.specs.Lines.{gapBytes, spaced}
 use Rattle.tablewriter.specs.Texts.{partedTexts, tableText, operationText, algebraText}
 

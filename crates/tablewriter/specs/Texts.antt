@@ -4,7 +4,7 @@ use mathlib.Core.List.{List, [], _∷_, _++_, map}
 use lib.ListN.{getD, drop}
 use Rattle.equivalence.specs.Lists.{concat}
 use Rattle.algebra.specs.Algebra.{Algebra, Operation, operations}
-use Rattle.reader.specs.Reading.{ascii}
+use Rattle.numberreader.specs.Reading.{ascii}
 use Rattle.writer.specs.Numerals.{decimal}
 use Rattle.writer.specs.Lines.{gapBytes, spaced, line}
 

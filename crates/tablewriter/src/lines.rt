@@ -8,7 +8,7 @@ use writer::write_word;
 ghost use Prim.Native.Nat.{_+_, _≤_};
 ghost use lib.ListN.{length};
 ghost use Rattle.algebra.specs.Algebra.{algebraIn};
-ghost use Rattle.reader.specs.Laying.{Laid};
+ghost use Rattle.tablereader.specs.Laying.{Laid};
 ghost use Rattle.tablewriter.specs.Texts.{sizeText, operationText, algebraText};
 ghost use Rattle.tablewriter.specs.InnerFits.{operationOf, arityText, operationsText, OperationFits, OperationsFit, LinesFit};
 

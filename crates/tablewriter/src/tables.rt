@@ -1,4 +1,4 @@
-// Writing tables: `reader::reading` reads them back.
+// Writing tables: `tablereader` reads them back.
 use algebra::largest;
 use algebra::power;
 use writer::write_bracketed;
@@ -7,7 +7,7 @@ use writer::write_gap;
 use writer::write_number;
 use writer::write_row;
 ghost use Prim.Native.Nat.{_^_};
-ghost use Rattle.reader.specs.Laying.{Laid};
+ghost use Rattle.tablereader.specs.Laying.{Laid};
 ghost use Rattle.tablewriter.specs.Texts.{partedTexts, tableText};
 ghost use Rattle.tablewriter.specs.InnerFits.{RowsFit, TableFits};
 

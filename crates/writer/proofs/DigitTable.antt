@@ -7,7 +7,7 @@ use lib.Dec.{eqb, eqb→eq}
 use lib.ListN.{getD}
 use Rattle.equivalence.specs.Lists.{upTo, every}
 use Rattle.equivalence.proofs.Lists.{of-below}
-use Rattle.reader.specs.Reading.{ascii}
+use Rattle.numberreader.specs.Reading.{ascii}
 use Rattle.writer.specs.InnerRoom.{DigitTable}
 
 -- the table, as the code has it

@@ -6,8 +6,8 @@ use native.Mathlib.Decide.{decLt}
 use native.Mathlib.Omega.{arith}
 use lib.ListN.{length, getD, take, drop, length-append, take-append-drop}
 use lib.Seq.{drop-cons}
-use Rattle.reader.specs.Reading.{ascii}
-use Rattle.reader.specs.Laying.{Laid}
+use Rattle.numberreader.specs.Reading.{ascii}
+use Rattle.tablereader.specs.Laying.{Laid}
 use Rattle.writer.specs.Numerals.{decimal}
 use Rattle.writer.specs.Lines.{gapBytes, spaced, bracketed}
 use Rattle.writer.proofs.Digits.{decimal-one, decimal-two, decimal-three, decimal-some}

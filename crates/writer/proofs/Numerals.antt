@@ -8,12 +8,12 @@ use native.Mathlib.Omega.{arith}
 use borrow.Author.Tests.{eq-eqb, eqb-true}
 use lib.Dec.{eqb}
 use lib.ListN.{length}
-use Rattle.reader.specs.Reading.{Read, found, fault, byteAt, begins}
-use Rattle.reader.specs.Numbers.{digitAt, number}
-use Rattle.reader.proofs.Digits.{digit-below, digit-above, digit-here, number-none, number-zero, number-one, number-two, number-large, number-three}
+use Rattle.numberreader.specs.Reading.{Read, found, fault, byteAt, begins}
+use Rattle.numberreader.specs.Numbers.{digitAt, number}
+use Rattle.numberreader.proofs.Digits.{digit-below, digit-above, digit-here, number-none, number-zero, number-one, number-two, number-large, number-three}
 use Rattle.writer.specs.Numerals.{decimal}
 use Rattle.writer.proofs.Digits.{decimal-one, decimal-two, decimal-three}
-use Rattle.reader.proofs.Words.{and-left, and-right}
+use Rattle.numberreader.proofs.Words.{and-left, and-right}
 
 -- a digit's byte
 digit-byte : (text : List ℕ) (at : ℕ) → digitAt text at ≤ 9 → byteAt text at ≡ 48 + digitAt text at

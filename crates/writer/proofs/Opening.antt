@@ -7,8 +7,8 @@ use lib.ListN.{length, getD, take, drop, set, length-append}
 use lib.Seq.{set-getD, set-set, set-append-seam, length-take-le}
 use Rattle.equivalence.specs.Lent.{laid}
 use Rattle.equivalence.proofs.Laying.{laid-parts, laid-byte, laid-length, laid-laid}
-use Rattle.reader.specs.Laying.{Laid}
-use Rattle.reader.proofs.Laying.{laid-more}
+use Rattle.tablereader.specs.Laying.{Laid}
+use Rattle.tablereader.proofs.Laying.{laid-more}
 use Rattle.writer.specs.InnerRoom.{LaidOpen}
 
 -- the byte that stands there laid again

@@ -13,11 +13,11 @@ use Rattle.equivalence.specs.Outcome.{refusal}
 use Rattle.equivalence.specs.Refusal.{numberOf}
 use Rattle.equivalence.specs.declared.Refusal.{Refusal}
 use Rattle.equivalence.specs.declared.Refusal.the-variants.{Size, Operations, Arity, Cells, Length, Cell, Range, NotMap, Space, Equal, NotCongruence, Tally, Text, UnknownName, PointsFull}
-use Rattle.reader.specs.Reading.{ascii}
+use Rattle.numberreader.specs.Reading.{ascii}
 use Rattle.writer.specs.Numerals.{decimal}
 use Rattle.writer.specs.Lines.{gapBytes, spaced, bracketed, spacedBrackets, line, refusedNumbers, outcomeLine, refusedLine}
-use Rattle.reader.specs.Laying.{Laid}
-use Rattle.reader.proofs.Laying.{laid-none, laid-more}
+use Rattle.tablereader.specs.Laying.{Laid}
+use Rattle.tablereader.proofs.Laying.{laid-none, laid-more}
 use Rattle.writer.specs.InnerRoom.{LaidOpen, DigitTable}
 use Rattle.writer.proofs.Opening.{laid-cut, open-of, open-closed, open-more, first-replaced}
 use Rattle.writer.proofs.Digits.{decimal-one, decimal-two, decimal-three}

@@ -5,7 +5,7 @@ use mathlib.Core.Path.{_≡_}
 use denote.Ref.{RefT, now}
 use lib.ListN.{length, getD}
 use Rattle.equivalence.specs.Lent.{laid}
-use Rattle.reader.specs.Laying.{Laid}
+use Rattle.tablereader.specs.Laying.{Laid}
 use Rattle.writer.specs.Lines.{line}
 
 -- a line of this word, with what follows it, was laid in a lent slice, from its start to this place

@@ -5,7 +5,7 @@ use mathlib.Core.List.{List, [], _∷_, _++_}
 use lib.Dec.{eqb}
 use Rattle.equivalence.specs.Outcome.{Outcome, refusal}
 use Rattle.equivalence.specs.declared.Refusal.{Refusal}
-use Rattle.reader.specs.Reading.{ascii}
+use Rattle.numberreader.specs.Reading.{ascii}
 use Rattle.writer.specs.Numerals.{decimal}
 
 -- what is written between two items

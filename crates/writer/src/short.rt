@@ -4,7 +4,7 @@ use crate::write_gap;
 ghost use mathlib.Core.List.{[], _∷_};
 ghost use Prim.Native.Nat.{_+_, _*_, _≤_, _<_};
 ghost use lib.ListN.{length};
-ghost use Rattle.reader.specs.Laying.{Laid};
+ghost use Rattle.tablereader.specs.Laying.{Laid};
 ghost use Rattle.writer.specs.Lines.{spaced};
 ghost use Rattle.writer.specs.InnerRoom.{LaidOpen, NumbersBelow};
 

@@ -1,6 +1,6 @@
 -- `bench::extend` meets its contract.
 use mathlib.Core.Path.{_∙_}
-use Rattle.bench.specs.State.{sheetOf}
+use Rattle.benchsheets.specs.State.{sheetOf}
 use Rattle.bench.proofs.Adding.{grown-call}
 use Rattle.bench.proofs.Testing.{add-passed}
 use Rattle.bench.proofs.extend.Statement.{statement}

@@ -10,7 +10,7 @@ use borrow.Author.Tests.{not-true, not-false}
 use Rattle.equivalence.specs.Equivalence.{isMap}
 use Rattle.equivalence.proofs.Tests.{T-of, not-T-of, true-is, false-is}
 use Rattle.conversion.specs.Conversion.{noSheetV1}
-use Rattle.bench.proofs.BenchSheets.{every-at, of-every-at}
+use Rattle.benchsheets.proofs.BenchSheets.{every-at, of-every-at}
 use Rattle.conversion.proofs.all_have_maps.Statement.{statement}
 use Rattle.conversion.proofs.all_have_maps.Tie as tie
 

@@ -4,9 +4,6 @@ use Rattle.probe.proofs.Texts.{head-other, head-called}
 use Rattle.probe.proofs.probe_read.Statement.{statement}
 use Rattle.probe.proofs.probe_read.Tie as tie
 
-cast-result : tie.Need-cast-result
-cast-result c = search needs
-
 returns : tie.Need-returns
 returns c = search head-other
 
@@ -32,7 +29,6 @@ pub probe-read-spec : {M : Type 1} → statement M
 probe-read-spec =
     tie.close
     (tie.spec
-    cast-result
     returns
     read-algebra-requires
     write-head-requires

@@ -1,5 +1,5 @@
 -- `write_byte` meets its contract, by the laws of Laying.
-use Rattle.reader.proofs.Laying.{laid-one}
+use Rattle.tablereader.proofs.Laying.{laid-one}
 use borrow.Author.Needs.{needs}
 use Rattle.writer.proofs.write_byte.Statement.{statement}
 use Rattle.writer.proofs.write_byte.Tie as tie

@@ -1,5 +1,5 @@
 -- `write_close` meets its contract.
-use Rattle.reader.specs.Reading.{ascii}
+use Rattle.numberreader.specs.Reading.{ascii}
 use borrow.Author.Needs.{needs}
 use Rattle.writer.proofs.write_close.Statement.{statement}
 use Rattle.writer.proofs.write_close.Tie as tie

@@ -1,6 +1,6 @@
 -- `write_gap` meets its contract: the gap is one byte.
 use native.Mathlib.Omega.{arith}
-use Rattle.reader.specs.Reading.{ascii}
+use Rattle.numberreader.specs.Reading.{ascii}
 use Rattle.writer.specs.Lines.{gapBytes}
 use borrow.Author.Needs.{needs}
 use Rattle.writer.proofs.write_gap.Statement.{statement}

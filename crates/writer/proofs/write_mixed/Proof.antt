@@ -1,5 +1,5 @@
 -- `write_mixed` meets its contract: its table has the digits that it should.
-use Rattle.reader.specs.Reading.{ascii}
+use Rattle.numberreader.specs.Reading.{ascii}
 use Rattle.writer.proofs.DigitTable.{digit-table}
 use borrow.Author.Needs.{needs}
 use Rattle.writer.proofs.write_mixed.Statement.{statement}

@@ -1,5 +1,5 @@
 -- `write_word` meets its contract, by the laws of Laying.
-use Rattle.reader.proofs.Laying.{LaidSoFar, laid-so-far-none, laid-so-far-more, laid-so-far-all}
+use Rattle.tablereader.proofs.Laying.{LaidSoFar, laid-so-far-none, laid-so-far-more, laid-so-far-all}
 use borrow.Author.Needs.{needs}
 use Prim.Native.Nat.{_-_}
 use lib.ListN.{length}

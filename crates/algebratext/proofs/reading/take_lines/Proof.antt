@@ -3,7 +3,7 @@ use Prim.Native.Nat.{_-_}
 use mathlib.Core.Path.{_≡_, refl}
 use native.Mathlib.Omega.{arith}
 use lib.ListN.{length}
-use Rattle.reader.specs.Reading.{ascii}
+use Rattle.numberreader.specs.Reading.{ascii}
 use borrow.Author.Needs.{needs}
 use Rattle.algebratext.proofs.Taking.{LinesSoFar, size-line-declined, lines-begin, lines-end, line-other, line-room, operation-line-refused, line-past, lines-go-on}
 use Rattle.algebratext.proofs.reading.take_lines.Statement.{statement}

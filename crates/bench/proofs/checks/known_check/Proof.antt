@@ -4,7 +4,7 @@ use mathlib.Core.Path.{sym, ap, _∙_}
 use borrow.Author.Needs.{needs}
 use Rattle.sheet.specs.Points.{isHeld}
 use Rattle.bench.specs.Calls.{unknownTest, knownTests}
-use Rattle.bench.specs.State.{sheetOf}
+use Rattle.benchsheets.specs.State.{sheetOf}
 use Rattle.bench.proofs.Testing.{clear-passed, behind-failed, more-applies, more-passes}
 use Rattle.bench.proofs.checks.known_check.Statement.{statement}
 use Rattle.bench.proofs.checks.known_check.Tie as tie

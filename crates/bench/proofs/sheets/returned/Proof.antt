@@ -1,6 +1,6 @@
 -- `bench::sheets::returned` meets its contract.
 use native.Mathlib.Omega.{arith}
-use Rattle.bench.specs.State.{withMap, sheetOf}
+use Rattle.benchsheets.specs.State.{withMap, sheetOf}
 use Rattle.bench.proofs.Testing.{known-passed}
 use Rattle.bench.proofs.sheets.returned.Statement.{statement}
 use Rattle.bench.proofs.sheets.returned.Tie as tie

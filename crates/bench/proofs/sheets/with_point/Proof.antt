@@ -1,7 +1,7 @@
 -- `bench::sheets::with_point` meets its contract.
 use native.Mathlib.Omega.{arith}
 use Rattle.sheet.proofs.Storing.{place-room}
-use Rattle.bench.specs.State.{sheetOf}
+use Rattle.benchsheets.specs.State.{sheetOf}
 use Rattle.bench.proofs.Testing.{set-passed}
 use Rattle.bench.proofs.sheets.with_point.Statement.{statement}
 use Rattle.bench.proofs.sheets.with_point.Tie as tie

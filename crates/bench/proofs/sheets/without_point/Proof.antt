@@ -1,6 +1,6 @@
 -- `bench::sheets::without_point` meets its contract.
 use native.Mathlib.Omega.{arith}
-use Rattle.bench.specs.State.{sheetOf}
+use Rattle.benchsheets.specs.State.{sheetOf}
 use Rattle.bench.proofs.Testing.{known-passed}
 use Rattle.bench.proofs.sheets.without_point.Statement.{statement}
 use Rattle.bench.proofs.sheets.without_point.Tie as tie

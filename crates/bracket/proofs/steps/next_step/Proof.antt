@@ -1,5 +1,5 @@
 -- `steps::next_step` meets its contract, by the laws of Stepping.
-use Rattle.reader.specs.Reading.{ascii}
+use Rattle.numberreader.specs.Reading.{ascii}
 use Rattle.bracket.proofs.Stepping.{room-for-refusal, step-first, step-requested, step-operation, step-request, first-keeps, operation-room}
 use native.Mathlib.Omega.{arith}
 use borrow.Author.Needs.{needs}

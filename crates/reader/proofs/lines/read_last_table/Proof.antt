@@ -1,6 +1,6 @@
 -- `lines::read_last_table` meets its contract, by the laws of Defining.
 use denote.Ref.{now}
-use Rattle.reader.specs.Reading.{ascii}
+use Rattle.numberreader.specs.Reading.{ascii}
 use Rattle.reader.proofs.Defining.{table-faulty, table-open, table-cell-above, table-defined}
 use borrow.Author.Needs.{needs}
 use Rattle.reader.proofs.lines.read_last_table.Statement.{statement}

@@ -2,7 +2,7 @@
 use native.Mathlib.Omega.{arith}
 use Rattle.reader.proofs.Judging.{few-still}
 use Rattle.reader.proofs.Defining.{arity-faulty, operation-refused, operation-read}
-use Rattle.reader.proofs.RoomLeft.{room-for-table}
+use Rattle.reader.proofs.CellRoom.{room-for-table}
 use borrow.Author.Needs.{needs}
 use Rattle.reader.proofs.lines.read_operation.Statement.{statement}
 use Rattle.reader.proofs.lines.read_operation.Tie as tie

@@ -1,6 +1,6 @@
 -- `lines::read_size` meets its contract, by the laws of SpacedNumbers.
 use Rattle.reader.proofs.SpacedNumbers.{size-unopened, size-room, size-missing, size-unclosed, size-closed}
-use Rattle.reader.specs.Reading.{ascii}
+use Rattle.numberreader.specs.Reading.{ascii}
 use borrow.Author.Needs.{needs}
 use Rattle.reader.proofs.lines.read_size.Statement.{statement}
 use Rattle.reader.proofs.lines.read_size.Tie as tie

@@ -1,5 +1,5 @@
 -- `requests::read_items_to_end` meets its contract, by the laws of Asking.
-use Rattle.reader.specs.Reading.{ascii}
+use Rattle.numberreader.specs.Reading.{ascii}
 use Rattle.reader.proofs.Asking.{to-end-fault, to-end-open, to-end-closed}
 use borrow.Author.Needs.{needs}
 use Rattle.reader.proofs.requests.read_items_to_end.Statement.{statement}

@@ -1,13 +1,13 @@
 -- `requests::read_request` meets its contract, by the laws of Asking and RoomLeft.
 use mathlib.Core.Path.{sym, _∙_}
 use Rattle.equivalence.specs.Lists.{every}
-use Rattle.reader.specs.Reading.{ascii}
-use Rattle.reader.specs.Tables.{table, pair}
+use Rattle.numberreader.specs.Reading.{ascii}
+use Rattle.tablereader.specs.Tables.{table, pair}
 use Rattle.reader.specs.Lines.{request}
 use Rattle.reader.specs.declared.requests.Asked.the-variants.{Decompose}
 use Rattle.reader.proofs.Asking.{word-stands, word-missing, words-missing, word-alone, request-unstored, request-none}
-use Rattle.reader.proofs.RoomLeft.{room-behind}
-use Rattle.reader.proofs.Words.{begins-within}
+use Rattle.tablereader.proofs.RoomLeft.{room-behind}
+use Rattle.numberreader.proofs.Words.{begins-within}
 use borrow.Author.Needs.{needs}
 use Rattle.reader.proofs.requests.read_request.Statement.{statement}
 use Rattle.reader.proofs.requests.read_request.Tie as tie

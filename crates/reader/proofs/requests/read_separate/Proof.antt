@@ -1,5 +1,5 @@
 -- `requests::read_separate` meets its contract, by the laws of Asking.
-use Rattle.reader.specs.Reading.{ascii}
+use Rattle.numberreader.specs.Reading.{ascii}
 use Rattle.reader.proofs.Asking.{separate-none, separate-one, separate-open, separate-read}
 use borrow.Author.Needs.{needs}
 use Rattle.reader.proofs.requests.read_separate.Statement.{statement}

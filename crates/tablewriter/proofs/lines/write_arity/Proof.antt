@@ -1,6 +1,6 @@
 -- `lines::write_arity` meets its contract, by the laws of Lining.
 use borrow.Author.Needs.{needs}
-use Rattle.reader.specs.Reading.{ascii}
+use Rattle.numberreader.specs.Reading.{ascii}
 use Rattle.tablewriter.proofs.Lining.{arity-gap-fits, arity-written}
 use Rattle.tablewriter.proofs.lines.write_arity.Statement.{statement}
 use Rattle.tablewriter.proofs.lines.write_arity.Tie as tie

@@ -1,6 +1,6 @@
 -- `lines::write_size` meets its contract, by the laws of Lining.
 use borrow.Author.Needs.{needs}
-use Rattle.reader.specs.Reading.{ascii}
+use Rattle.numberreader.specs.Reading.{ascii}
 use Rattle.tablewriter.proofs.Lining.{size-word-fits, size-number-fits, size-close-fits, size-written}
 use Rattle.tablewriter.proofs.lines.write_size.Statement.{statement}
 use Rattle.tablewriter.proofs.lines.write_size.Tie as tie

@@ -1,0 +1,3 @@
+pub mod Readers
+pub mod Words
+pub mod Digits

@@ -1,0 +1,56 @@
+-- `numberreader::begins_with` meets its contract, by the laws of Words.
+use Prim.Native.Nat.{_-_}
+use lib.ListN.{length}
+use borrow.Author.Needs.{needs}
+use Rattle.numberreader.proofs.Words.{Matched, matched-none, matched-not, matched-more, matched-all}
+use Rattle.numberreader.proofs.begins_with.Statement.{statement}
+use Rattle.numberreader.proofs.begins_with.Tie as tie
+
+abbrev Inv-loop : tie.InvT-loop
+Inv-loop text at word i₀ i = Matched text at word i
+
+abbrev μ-loop : tie.MeasureT-loop
+μ-loop text at word i₀ i = length word - i
+
+loop-holds : tie.Need-loop-holds Inv-loop μ-loop
+loop-holds c = search matched-none
+
+add-byte-at : tie.Need-add-byte-at Inv-loop μ-loop
+add-byte-at c = search needs
+
+byte-at-requires : tie.Need-byte-at-requires Inv-loop μ-loop
+byte-at-requires c κs = search needs
+
+shared-slice-read-if1 : tie.Need-shared-slice-read-if1 Inv-loop μ-loop
+shared-slice-read-if1 c = search needs
+
+returns : tie.Need-returns Inv-loop μ-loop
+returns c = search matched-not
+
+add-i : tie.Need-add-i Inv-loop μ-loop
+add-i c = search needs
+
+loop-less : tie.Need-loop-less Inv-loop μ-loop
+loop-less c = search needs
+
+loop-again : tie.Need-loop-again Inv-loop μ-loop
+loop-again c = search matched-more
+
+returns-2 : tie.Need-returns-2 Inv-loop μ-loop
+returns-2 c = search matched-all
+
+pub begins-with-spec : {M : Type 1} → statement M
+begins-with-spec =
+    tie.close
+    (tie.spec
+    Inv-loop
+    μ-loop
+    loop-holds
+    add-byte-at
+    byte-at-requires
+    shared-slice-read-if1
+    returns
+    add-i
+    loop-less
+    loop-again
+    returns-2)

@@ -1,0 +1,9 @@
+pub mod Laying
+pub mod Lengths
+pub mod RoomLeft
+pub mod Storing
+pub mod Parted
+pub mod Begun
+pub mod Pairs
+pub mod ShortRows
+pub mod Items

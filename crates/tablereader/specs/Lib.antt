@@ -1,0 +1,4 @@
+pub mod Tables
+pub mod Laying
+pub mod InnerPromises
+pub mod InnerRows
