@@ -1,5 +1,5 @@
 -- How a closure starts and what it promises.
-use Prim.Native.Nat.{ℕ, zero, suc, _+_, _*_, _<_}
+use Prim.Native.Nat.{ℕ, zero, suc, _+_, _*_, _≤_, _<_}
 use mathlib.Core.Path.{_≡_}
 use mathlib.Core.Bool.{Bool, true}
 use mathlib.Core.List.{List}
@@ -11,8 +11,10 @@ use Rattle.algebra.specs.Algebra.{Algebra}
 use Rattle.translation.specs.InnerTranslations.{Compatible}
 use Rattle.sweep.specs.InnerSweeps.{Unless, RefusedRightly}
 
--- 64 bytes for the map, for the queue, for the list of elements in use and for their places
-pub record Rooms (m queue live places : List ℕ) : Type 0 where
+-- 64 bytes for the map, for the queue, for the list of elements in use and for their places; there are elements, and no more
+pub record Rooms (n : ℕ) (m queue live places : List ℕ) : Type 0 where
+  pub some : 0 < n
+  pub most : n ≤ 64
   pub map-room : length m ≡ 64
   pub queue-room : length queue ≡ 64
   pub live-room : length live ≡ 64

@@ -30,7 +30,7 @@ fn close_pairs_in(
     places: &mut [u8],
 ) -> usize
     requires { ⌜ Accepted (algebraIn n arities cells) ⌝ }
-    requires { ⌜ Rooms (now m) (now queue) (now live) (now places) ⌝ }
+    requires { ⌜ Rooms n (now m) (now queue) (now live) (now places) ⌝ }
     requires { ⌜ ((i : ℕ) → i < length (now pairs) → byte (now pairs) i < n) ⌝ }
     ensures { λ _. ⌜ Closed (algebraIn n (arities .entry) (cells .entry)) (JoinsPairs (now (pairs .entry))) (byte (now (m .exit))) ⌝ }
     ensures { λ r. ⌜ r + names n (byte (now (m .exit))) ≡ n ⌝ }
@@ -100,7 +100,7 @@ fn close_with_in(
     places: &mut [u8],
 ) -> usize
     requires { ⌜ Accepted (algebraIn n arities cells) ⌝ }
-    requires { ⌜ Rooms (now m) (now queue) (now live) (now places) ⌝ }
+    requires { ⌜ Rooms n (now m) (now queue) (now live) (now places) ⌝ }
     requires { ⌜ Padded n (byte (now m)) ⌝ }
     requires { ⌜ Canonical n (byte (now m)) ⌝ }
     requires { ⌜ x < n ⌝ }
@@ -185,7 +185,7 @@ fn close_apart_in(
     queue: &mut [u8],
 ) -> usize
     requires { ⌜ Accepted (algebraIn n arities cells) ⌝ }
-    requires { ⌜ Rooms (now m) (now queue) (now live) (now places) ⌝ }
+    requires { ⌜ Rooms n (now m) (now queue) (now live) (now places) ⌝ }
     requires { ⌜ Padded n (byte (now m)) ⌝ }
     requires { ⌜ Canonical n (byte (now m)) ⌝ }
     requires { ⌜ Compatible (algebraIn n arities cells) (byte (now m)) ⌝ }

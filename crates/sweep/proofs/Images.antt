@@ -7,10 +7,9 @@ use mathlib.Core.Path.{_≡_, refl, sym, ap, subst, _∙_, subst₂}
 use native.Mathlib.Omega.{arith}
 use lib.ListN.{length, getD}
 use Rattle.equivalence.specs.Equivalence.{byte}
-use Rattle.kernel.specs.InnerKernel.{Within, Listed}
+use Rattle.kernel.specs.InnerKernel.{Within, Listed, bit}
 use Rattle.algebra.specs.Accepted.{Accepted}
 use Rattle.algebra.specs.Algebra.{Algebra, algebraOf, place}
-use Rattle.translation.specs.InnerLines.{lineAt}
 use Rattle.translation.specs.InnerTranslations.{AllBelow, tableStart, result, Compatible}
 use Rattle.algebra.proofs.Accepted.{WellFormed, accepted-wellFormed}
 use Rattle.translation.proofs.Places.{place-one, place-two, place-three}
@@ -18,8 +17,7 @@ use Rattle.translation.proofs.Translations.{result-below}
 use Rattle.algebra.proofs.Tables.{start-room}
 use Rattle.sweep.specs.declared.Stop.{Stop}
 use Rattle.sweep.specs.declared.ImagePair.{ImagePair}
-use Rattle.sweep.specs.declared.PlanePair.{PlanePair}
-use Rattle.sweep.specs.InnerContexts.{All, ImagesIn, OperationsIn, JoinsLine, JoinsPlane, JoinsCells, JoinsTable, Contexts, TableInside, linesOf, planesOf}
+use Rattle.sweep.specs.InnerContexts.{All, ImagesIn, OperationsIn, JoinsAt, JoinsLine, JoinsRows, JoinsCells, JoinsTable, Contexts, TableInside, linesOf}
 use Rattle.sweep.specs.InnerQueue.{QueueState}
 use Rattle.sweep.specs.InnerSweeps.{Yes, Halts, Sweeping, SweptTo, Swept}
 use Rattle.sweep.proofs.Sweeps.{each-more, swept-none, swept-more, swept-halted, swept-as}
@@ -35,53 +33,52 @@ module _ (a : Algebra) (j : ℕ) (live : List ℕ) (count x y : ℕ) (g : ℕ �
   unfolding result
   cell-at xs k e = ap (λ (i : ℕ). g (byte (a .cells) i)) e
 
-  -- one other argument, behind or before
-  last-line : JoinsLine (a .cells) live count (linesOf (imagesAt a j x y) 1 (a .size)) g → (c : ℕ) → Listed live count c
-      → g (result a j (c ∷ x ∷ [])) ≡ g (result a j (c ∷ y ∷ []))
+  -- a cell of either table, where x or y stands last, in the middle or first
+  last-place : (b d z : ℕ) → g (result a j (b ∷ d ∷ z ∷ [])) ≡ g (byte (a .cells) (tableStart a j + b * (a .size * a .size) + z * 1 + d * a .size))
+  last-place b d z = cell-at (b ∷ d ∷ z ∷ []) (tableStart a j + b * (a .size * a .size) + z * 1 + d * a .size) (omega (arith, place-three (a .size) b d z))
+
+  middle-place : (b d z : ℕ) → g (result a j (b ∷ z ∷ d ∷ [])) ≡ g (byte (a .cells) (tableStart a j + b * (a .size * a .size) + z * a .size + d * 1))
+  middle-place b d z = cell-at (b ∷ z ∷ d ∷ []) (tableStart a j + b * (a .size * a .size) + z * a .size + d * 1) (omega (arith, place-three (a .size) b z d))
+
+  first-place : (b d z : ℕ) → g (result a j (z ∷ b ∷ d ∷ [])) ≡ g (byte (a .cells) (tableStart a j + b * a .size + z * (a .size * a .size) + d * 1))
+  first-place b d z = cell-at (z ∷ b ∷ d ∷ []) (tableStart a j + b * a .size + z * (a .size * a .size) + d * 1) (omega (arith, place-three (a .size) z b d))
+
+  flat-last : (d z : ℕ) → g (result a j (d ∷ z ∷ [])) ≡ g (byte (a .cells) (tableStart a j + 0 * (a .size * a .size) + z * 1 + d * a .size))
+  flat-last d z = cell-at (d ∷ z ∷ []) (tableStart a j + 0 * (a .size * a .size) + z * 1 + d * a .size) (omega (arith, place-two (a .size) d z))
+
+  flat-first : (d z : ℕ) → g (result a j (z ∷ d ∷ [])) ≡ g (byte (a .cells) (tableStart a j + 0 * (a .size * a .size) + z * a .size + d * 1))
+  flat-first d z = cell-at (z ∷ d ∷ []) (tableStart a j + 0 * (a .size * a .size) + z * a .size + d * 1) (omega (arith, place-two (a .size) z d))
+
+  -- one other argument, before or behind
+  last-line : JoinsCells (a .size) (a .cells) live count 2 (imagesAt a j x y) g → (c : ℕ) → Listed live count c → g (result a j (c ∷ x ∷ [])) ≡ g (result a j (c ∷ y ∷ []))
   last-line h c m =
       subst (λ (c : ℕ). g (result a j (c ∷ x ∷ [])) ≡ g (result a j (c ∷ y ∷ []))) (m .1 .1)
-      (let b = byte live (m .0) in
-      cell-at (b ∷ x ∷ []) (tableStart a j + x * 1 + b * a .size) (omega (arith, place-two (a .size) b x)) ∙ h .each (m .0) (m .1 .0) .joined
-      ∙ sym (cell-at (b ∷ y ∷ []) (tableStart a j + y * 1 + b * a .size) (omega (arith, place-two (a .size) b y))))
+      (flat-last (byte live (m .0)) x ∙ h .each 0 (omega arith) .plane .last-line .each (m .0) (m .1 .0) .joined ∙ sym (flat-last (byte live (m .0)) y))
 
-  first-line : JoinsLine (a .cells) live count (linesOf (imagesAt a j x y) (a .size) 1) g → (c : ℕ) → Listed live count c
-      → g (result a j (x ∷ c ∷ [])) ≡ g (result a j (y ∷ c ∷ []))
+  first-line : JoinsCells (a .size) (a .cells) live count 2 (imagesAt a j x y) g → (c : ℕ) → Listed live count c → g (result a j (x ∷ c ∷ [])) ≡ g (result a j (y ∷ c ∷ []))
   first-line h c m =
       subst (λ (c : ℕ). g (result a j (x ∷ c ∷ [])) ≡ g (result a j (y ∷ c ∷ []))) (m .1 .1)
-      (let b = byte live (m .0) in
-      cell-at (x ∷ b ∷ []) (tableStart a j + x * a .size + b * 1) (omega (arith, place-two (a .size) x b)) ∙ h .each (m .0) (m .1 .0) .joined
-      ∙ sym (cell-at (y ∷ b ∷ []) (tableStart a j + y * a .size + b * 1) (omega (arith, place-two (a .size) y b))))
+      (flat-first (byte live (m .0)) x ∙ h .each 0 (omega arith) .plane .first-line .each (m .0) (m .1 .0) .joined ∙ sym (flat-first (byte live (m .0)) y))
 
-  -- two other arguments, behind, around or before
-  third-plane : JoinsPlane (a .cells) live count count (planesOf (imagesAt a j x y) 1 (a .size * a .size) (a .size)) g → (c d : ℕ) → Listed live count c → Listed live count d
-      → g (result a j (c ∷ d ∷ x ∷ [])) ≡ g (result a j (c ∷ d ∷ y ∷ []))
-  third-plane h c d m k =
-      subst₂ (λ (c d : ℕ). g (result a j (c ∷ d ∷ x ∷ [])) ≡ g (result a j (c ∷ d ∷ y ∷ []))) (m .1 .1) (k .1 .1)
-      (let b = byte live (m .0) in
-      let e = byte live (k .0) in
-      cell-at (b ∷ e ∷ x ∷ []) (tableStart a j + x * 1 + b * (a .size * a .size) + e * a .size) (omega (arith, place-three (a .size) b e x))
-      ∙ h .each (m .0) (m .1 .0) .each (k .0) (k .1 .0) .joined
-      ∙ sym (cell-at (b ∷ e ∷ y ∷ []) (tableStart a j + y * 1 + b * (a .size * a .size) + e * a .size) (omega (arith, place-three (a .size) b e y))))
+  -- two other arguments, before, around or behind
+  module _ (h : JoinsCells (a .size) (a .cells) live count 3 (imagesAt a j x y) g) (c d : ℕ) (m : Listed live count c) (k : Listed live count d) where
+    third-plane : g (result a j (c ∷ d ∷ x ∷ [])) ≡ g (result a j (c ∷ d ∷ y ∷ []))
+    third-plane =
+        subst₂ (λ (c d : ℕ). g (result a j (c ∷ d ∷ x ∷ [])) ≡ g (result a j (c ∷ d ∷ y ∷ []))) (m .1 .1) (k .1 .1)
+        (last-place (byte live (m .0)) (byte live (k .0)) x ∙ h .each (m .0) (m .1 .0) .plane .last-line .each (k .0) (k .1 .0) .joined
+        ∙ sym (last-place (byte live (m .0)) (byte live (k .0)) y))
 
-  second-plane : JoinsPlane (a .cells) live count count (planesOf (imagesAt a j x y) (a .size) (a .size * a .size) 1) g → (c d : ℕ) → Listed live count c → Listed live count d
-      → g (result a j (c ∷ x ∷ d ∷ [])) ≡ g (result a j (c ∷ y ∷ d ∷ []))
-  second-plane h c d m k =
-      subst₂ (λ (c d : ℕ). g (result a j (c ∷ x ∷ d ∷ [])) ≡ g (result a j (c ∷ y ∷ d ∷ []))) (m .1 .1) (k .1 .1)
-      (let b = byte live (m .0) in
-      let e = byte live (k .0) in
-      cell-at (b ∷ x ∷ e ∷ []) (tableStart a j + x * a .size + b * (a .size * a .size) + e * 1) (omega (arith, place-three (a .size) b x e))
-      ∙ h .each (m .0) (m .1 .0) .each (k .0) (k .1 .0) .joined
-      ∙ sym (cell-at (b ∷ y ∷ e ∷ []) (tableStart a j + y * a .size + b * (a .size * a .size) + e * 1) (omega (arith, place-three (a .size) b y e))))
+    second-plane : g (result a j (c ∷ x ∷ d ∷ [])) ≡ g (result a j (c ∷ y ∷ d ∷ []))
+    second-plane =
+        subst₂ (λ (c d : ℕ). g (result a j (c ∷ x ∷ d ∷ [])) ≡ g (result a j (c ∷ y ∷ d ∷ []))) (m .1 .1) (k .1 .1)
+        (middle-place (byte live (m .0)) (byte live (k .0)) x ∙ h .each (m .0) (m .1 .0) .plane .first-line .each (k .0) (k .1 .0) .joined
+        ∙ sym (middle-place (byte live (m .0)) (byte live (k .0)) y))
 
-  first-plane : JoinsPlane (a .cells) live count count (planesOf (imagesAt a j x y) (a .size * a .size) (a .size) 1) g → (c d : ℕ) → Listed live count c → Listed live count d
-      → g (result a j (x ∷ c ∷ d ∷ [])) ≡ g (result a j (y ∷ c ∷ d ∷ []))
-  first-plane h c d m k =
-      subst₂ (λ (c d : ℕ). g (result a j (x ∷ c ∷ d ∷ [])) ≡ g (result a j (y ∷ c ∷ d ∷ []))) (m .1 .1) (k .1 .1)
-      (let b = byte live (m .0) in
-      let e = byte live (k .0) in
-      cell-at (x ∷ b ∷ e ∷ []) (tableStart a j + x * (a .size * a .size) + b * a .size + e * 1) (omega (arith, place-three (a .size) x b e))
-      ∙ h .each (m .0) (m .1 .0) .each (k .0) (k .1 .0) .joined
-      ∙ sym (cell-at (y ∷ b ∷ e ∷ []) (tableStart a j + y * (a .size * a .size) + b * a .size + e * 1) (omega (arith, place-three (a .size) y b e))))
+    first-plane : g (result a j (x ∷ c ∷ d ∷ [])) ≡ g (result a j (y ∷ c ∷ d ∷ []))
+    first-plane =
+        subst₂ (λ (c d : ℕ). g (result a j (x ∷ c ∷ d ∷ [])) ≡ g (result a j (y ∷ c ∷ d ∷ []))) (m .1 .1) (k .1 .1)
+        (first-place (byte live (m .0)) (byte live (k .0)) x ∙ h .each (m .0) (m .1 .0) .across refl .each (k .0) (k .1 .0) .joined
+        ∙ sym (first-place (byte live (m .0)) (byte live (k .0)) y))
 
   -- from a table to its operation's images, by arity
   around : (s : ℕ) → s ≤ 3 → JoinsCells (a .size) (a .cells) live count s (imagesAt a j x y) g → (pre post : List ℕ) → length pre + 1 + length post ≡ s
@@ -92,19 +89,19 @@ module _ (a : Algebra) (j : ℕ) (live : List ℕ) (count x y : ℕ) (g : ℕ �
   around (suc zero) l h [] (c ∷ post) e p q = absurd (omega arith)
   around (suc zero) l h (c ∷ pre) post e p q = absurd (omega arith)
   around (suc (suc zero)) l h [] [] e p q = absurd (omega arith)
-  around (suc (suc zero)) l h [] (c ∷ []) e p q = first-line (h .1) c (q .0)
+  around (suc (suc zero)) l h [] (c ∷ []) e p q = first-line h c (q .0)
   around (suc (suc zero)) l h [] (c ∷ d ∷ post) e p q = absurd (omega arith)
-  around (suc (suc zero)) l h (c ∷ []) [] e p q = last-line (h .0) c (p .0)
+  around (suc (suc zero)) l h (c ∷ []) [] e p q = last-line h c (p .0)
   around (suc (suc zero)) l h (c ∷ []) (d ∷ post) e p q = absurd (omega arith)
   around (suc (suc zero)) l h (c ∷ d ∷ pre) post e p q = absurd (omega arith)
   around (suc (suc (suc zero))) l h [] [] e p q = absurd (omega arith)
   around (suc (suc (suc zero))) l h [] (c ∷ []) e p q = absurd (omega arith)
-  around (suc (suc (suc zero))) l h [] (c ∷ d ∷ []) e p q = first-plane (h .1 .1) c d (q .0) (q .1 .0)
+  around (suc (suc (suc zero))) l h [] (c ∷ d ∷ []) e p q = first-plane h c d (q .0) (q .1 .0)
   around (suc (suc (suc zero))) l h [] (c ∷ d ∷ b ∷ post) e p q = absurd (omega arith)
   around (suc (suc (suc zero))) l h (c ∷ []) [] e p q = absurd (omega arith)
-  around (suc (suc (suc zero))) l h (c ∷ []) (d ∷ []) e p q = second-plane (h .1 .0) c d (p .0) (q .0)
+  around (suc (suc (suc zero))) l h (c ∷ []) (d ∷ []) e p q = second-plane h c d (p .0) (q .0)
   around (suc (suc (suc zero))) l h (c ∷ []) (d ∷ b ∷ post) e p q = absurd (omega arith)
-  around (suc (suc (suc zero))) l h (c ∷ d ∷ []) [] e p q = third-plane (h .0) c d (p .0) (p .1 .0)
+  around (suc (suc (suc zero))) l h (c ∷ d ∷ []) [] e p q = third-plane h c d (p .0) (p .1 .0)
   around (suc (suc (suc zero))) l h (c ∷ d ∷ []) (b ∷ post) e p q = absurd (omega arith)
   around (suc (suc (suc zero))) l h (c ∷ d ∷ b ∷ pre) post e p q = absurd (omega arith)
   around (suc (suc (suc (suc s)))) l h pre post e p q = absurd (omega arith)
@@ -116,50 +113,45 @@ module _ (a : Algebra) (j : ℕ) (live : List ℕ) (count x y : ℕ) (g : ℕ �
   listed : (i : ℕ) → i < count → Listed live count (byte live i)
   listed i l = (i, (l, refl))
 
-  plane-of : (planes : PlanePair) → ((i : ℕ) → i < count → (k : ℕ) → k < count → g (lineAt (a .cells) (planes .p + byte live i * planes .row) (planes .stride) (byte live k))
-      ≡ g (lineAt (a .cells) (planes .q + byte live i * planes .row) (planes .stride) (byte live k))) → JoinsPlane (a .cells) live count count planes g
-  plane-of planes h = record { each = λ i li. record { each = λ k lk. record { joined = h i li k lk } } }
-
   table-of : (s : ℕ) → s ≤ 3 → s ≡ getD (a .arities) j 0 → ImagesIn a j (Listed live count) x y g → JoinsCells (a .size) (a .cells) live count s (imagesAt a j x y) g
   table-of zero l e h = tt
   table-of (suc zero) l e h =
       sym (cell-at (x ∷ []) (tableStart a j + x) (omega (arith, place-one (a .size) x))) ∙ h [] [] (omega arith) tt tt
       ∙ cell-at (y ∷ []) (tableStart a j + y) (omega (arith, place-one (a .size) y))
-  table-of (suc (suc zero)) l e h = (
-    record {
-      each = λ i li. let b = byte live i in
-          record {
-            joined = sym (cell-at (b ∷ x ∷ []) (tableStart a j + x * 1 + b * a .size) (omega (arith, place-two (a .size) b x))) ∙ h (b ∷ []) [] (omega arith) (listed i li, tt) tt
-                ∙ cell-at (b ∷ y ∷ []) (tableStart a j + y * 1 + b * a .size) (omega (arith, place-two (a .size) b y));
+  table-of (suc (suc zero)) l e h = record {
+    each = λ r lr. record {
+      plane = record {
+        last-line = record {
+          each = λ i li. let b = byte live i in
+              record { joined = sym (flat-last b x) ∙ h (b ∷ []) [] (omega arith) (listed i li, tt) tt ∙ flat-last b y };
+        };
+        first-line = record {
+          each = λ i li. let b = byte live i in
+              record { joined = sym (flat-first b x) ∙ h [] (b ∷ []) (omega arith) tt (listed i li, tt) ∙ flat-first b y };
+        };
+      };
+      across = λ f. absurd (omega (arith, ap bit f));
+    };
+  }
+  table-of (suc (suc (suc zero))) l e h = record {
+    each = λ r lr. let b = byte live r in
+        record {
+          plane = record {
+            last-line = record {
+              each = λ i li. let d = byte live i in
+                  record { joined = sym (last-place b d x) ∙ h (b ∷ d ∷ []) [] (omega arith) (listed r lr, (listed i li, tt)) tt ∙ last-place b d y };
+            };
+            first-line = record {
+              each = λ i li. let d = byte live i in
+                  record { joined = sym (middle-place b d x) ∙ h (b ∷ []) (d ∷ []) (omega arith) (listed r lr, tt) (listed i li, tt) ∙ middle-place b d y };
+            };
           };
-    },
-    record {
-      each = λ i li. let b = byte live i in
-          record {
-            joined = sym (cell-at (x ∷ b ∷ []) (tableStart a j + x * a .size + b * 1) (omega (arith, place-two (a .size) x b))) ∙ h [] (b ∷ []) (omega arith) tt (listed i li, tt)
-                ∙ cell-at (y ∷ b ∷ []) (tableStart a j + y * a .size + b * 1) (omega (arith, place-two (a .size) y b));
+          across = λ f. record {
+            each = λ i li. let d = byte live i in
+                record { joined = sym (first-place b d x) ∙ h [] (b ∷ d ∷ []) (omega arith) tt (listed r lr, (listed i li, tt)) ∙ first-place b d y };
           };
-    },
-  )
-  table-of (suc (suc (suc zero))) l e h = (
-    plane-of (planesOf (imagesAt a j x y) 1 (a .size * a .size) (a .size)) (λ i li k lk. let b = byte live i in
-        let d = byte live k in
-        sym (cell-at (b ∷ d ∷ x ∷ []) (tableStart a j + x * 1 + b * (a .size * a .size) + d * a .size) (omega (arith, place-three (a .size) b d x)))
-        ∙ h (b ∷ d ∷ []) [] (omega arith) (listed i li, (listed k lk, tt)) tt
-        ∙ cell-at (b ∷ d ∷ y ∷ []) (tableStart a j + y * 1 + b * (a .size * a .size) + d * a .size) (omega (arith, place-three (a .size) b d y))),
-    (
-      plane-of (planesOf (imagesAt a j x y) (a .size) (a .size * a .size) 1) (λ i li k lk. let b = byte live i in
-          let d = byte live k in
-          sym (cell-at (b ∷ x ∷ d ∷ []) (tableStart a j + x * a .size + b * (a .size * a .size) + d * 1) (omega (arith, place-three (a .size) b x d)))
-          ∙ h (b ∷ []) (d ∷ []) (omega arith) (listed i li, tt) (listed k lk, tt)
-          ∙ cell-at (b ∷ y ∷ d ∷ []) (tableStart a j + y * a .size + b * (a .size * a .size) + d * 1) (omega (arith, place-three (a .size) b y d))),
-      plane-of (planesOf (imagesAt a j x y) (a .size * a .size) (a .size) 1) (λ i li k lk. let b = byte live i in
-          let d = byte live k in
-          sym (cell-at (x ∷ b ∷ d ∷ []) (tableStart a j + x * (a .size * a .size) + b * a .size + d * 1) (omega (arith, place-three (a .size) x b d)))
-          ∙ h [] (b ∷ d ∷ []) (omega arith) tt (listed i li, (listed k lk, tt))
-          ∙ cell-at (y ∷ b ∷ d ∷ []) (tableStart a j + y * (a .size * a .size) + b * a .size + d * 1) (omega (arith, place-three (a .size) y b d))),
-    ),
-  )
+        };
+  }
   table-of (suc (suc (suc (suc s)))) l e h = absurd (omega arith)
 
   pub images-table : getD (a .arities) j 0 ≤ 3 → ImagesIn a j (Listed live count) x y g → JoinsTable (a .size) (a .cells) live count (getD (a .arities) j 0) (imagesAt a j x y) g

@@ -1,3 +1,5 @@
 pub mod Queues
 pub mod Sweeps
+pub mod Crossings
+pub mod TableLaws
 pub mod Images

@@ -19,14 +19,6 @@ pub struct LinePair {
     pub stride: usize,
 }
 
-// Two planes of a table that are compared: they begin at p and q, and their lines are `row` apart.
-pub struct PlanePair {
-    pub p: usize,
-    pub q: usize,
-    pub row: usize,
-    pub stride: usize,
-}
-
 // The table at o, of which the results with x and with y in the same place are compared.
 pub struct ImagePair {
     pub o: usize,

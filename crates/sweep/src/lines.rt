@@ -1,14 +1,13 @@
-// The cells of two lines or planes, joined two by two in the map. The other arguments run through the first `count` elements of `live`.
+// The cells of two lines, or of two pairs of lines at once, joined two by two in the map. The other argument runs through the first `count` elements of `live`.
 ghost use mathlib.Core.Path.{_≡_};
 ghost use Prim.Native.Nat.{_+_, _*_, _<_, _≤_};
 ghost use lib.ListN.{length};
 ghost use Rattle.equivalence.specs.Equivalence.{byte};
 ghost use Rattle.translation.specs.InnerLines.{lineAt};
 ghost use Rattle.sweep.specs.InnerQueue.{state};
-ghost use Rattle.sweep.specs.InnerContexts.{JoinsAt, JoinsLine, JoinsPlane, Contexts, LinesInside, PlanesInside, Passed, lineOf};
+ghost use Rattle.sweep.specs.InnerContexts.{JoinsAt, JoinsLine, JoinsBoth, JoinsCross, Contexts, LinesInside, Passed, PassedBoth};
 ghost use Rattle.sweep.specs.InnerSweeps.{Yes, Sweeping, Swept};
 use crate::LinePair;
-use crate::PlanePair;
 use crate::Stop;
 use crate::step::halted;
 use crate::step::step;
@@ -141,22 +140,60 @@ pub fn line(
     len
 }
 
-// The lines of two planes at c.
-fn line_of(planes: PlanePair, c: u8) -> LinePair
-    requires { ⌜ planes .p + c * planes .row < 32768 ⌝ }
-    requires { ⌜ planes .q + c * planes .row < 32768 ⌝ }
-    ensures { λ r. ⌜ r ≡ lineOf planes c ⌝ }
+// Whether m joins the cells of both pairs of lines at element number i.
+fn joins_both(
+    m: &[u8],
+    n: usize,
+    cells: &[u8],
+    live: &[u8],
+    count: usize,
+    last: LinePair,
+    first: LinePair,
+    i: usize,
+) -> bool
+    requires { ⌜ n ≤ length (now m) ⌝ }
+    requires { ⌜ Contexts n (now cells) (now live) count ⌝ }
+    requires { ⌜ LinesInside n (now cells) last ⌝ }
+    requires { ⌜ LinesInside n (now cells) first ⌝ }
+    requires { ⌜ i < count ⌝ }
+    ensures { λ r. ⌜ Yes r (JoinsBoth (now (cells .entry)) last first (byte (now (live .entry)) i) (byte (now (m .entry)))) ⌝ }
 {
-    let shift = c as usize * planes.row;
-    LinePair {
-        p: planes.p + shift,
-        q: planes.q + shift,
-        stride: planes.stride,
+    if !joins_at(m, n, cells, live, count, last, i) {
+        return false;
     }
+    joins_at(m, n, cells, live, count, first, i)
 }
 
-// Two other arguments: two planes, line by line.
-pub fn plane(
+// The first index from `start` on at which the cells of one of the pairs of lines are apart in m, or `count`.
+fn apart_on_one(
+    m: &[u8],
+    n: usize,
+    cells: &[u8],
+    live: &[u8],
+    count: usize,
+    last: LinePair,
+    first: LinePair,
+    start: usize,
+) -> usize
+    requires { ⌜ n ≤ length (now m) ⌝ }
+    requires { ⌜ Contexts n (now cells) (now live) count ⌝ }
+    requires { ⌜ LinesInside n (now cells) last ⌝ }
+    requires { ⌜ LinesInside n (now cells) first ⌝ }
+    requires { ⌜ start ≤ count ⌝ }
+    ensures { λ r. ⌜ PassedBoth (now (cells .entry)) (now (live .entry)) count last first start r (byte (now (m .entry))) ⌝ }
+{
+    let mut i = start;
+    while i < count {
+        if !joins_both(m, n, cells, live, count, last, first, i) {
+            return i;
+        }
+        i += 1;
+    }
+    count
+}
+
+// Joins the cells of both pairs of lines at element number i.
+fn step_both(
     m: &mut [u8],
     n: usize,
     queue: &mut [u8],
@@ -164,24 +201,95 @@ pub fn plane(
     cells: &[u8],
     live: &[u8],
     count: usize,
-    planes: PlanePair,
+    last: LinePair,
+    first: LinePair,
+    i: usize,
     refused: &[u8],
     stop: Stop,
 ) -> usize
     requires { ⌜ Sweeping n stop (state (now m) (now queue) start) ⌝ }
     requires { ⌜ Contexts n (now cells) (now live) count ⌝ }
-    requires { ⌜ PlanesInside n (now cells) planes ⌝ }
-    ensures { λ r. ⌜ Swept n (now (refused .entry)) stop (JoinsPlane (now (cells .entry)) (now (live .entry)) count count planes) (state (now (m .entry)) (now (queue .entry)) start) (state (now (m .exit)) (now (queue .exit)) r) ⌝ }
+    requires { ⌜ LinesInside n (now cells) last ⌝ }
+    requires { ⌜ LinesInside n (now cells) first ⌝ }
+    requires { ⌜ i < count ⌝ }
+    ensures { λ r. ⌜ Swept n (now (refused .entry)) stop (JoinsBoth (now (cells .entry)) last first (byte (now (live .entry)) i)) (state (now (m .entry)) (now (queue .entry)) start) (state (now (m .exit)) (now (queue .exit)) r) ⌝ }
+{
+    let len = step_at(
+        m,
+        n,
+        queue,
+        start,
+        cells,
+        live,
+        count,
+        last,
+        i,
+        refused,
+        stop,
+    );
+    if halted(m, len, stop) {
+        return len;
+    }
+    step_at(
+        m,
+        n,
+        queue,
+        len,
+        cells,
+        live,
+        count,
+        first,
+        i,
+        refused,
+        stop,
+    )
+}
+
+// One other argument, on two pairs of lines: each element is looked at on both before the next, so that a loop and an end serve for two.
+pub fn cross(
+    m: &mut [u8],
+    n: usize,
+    queue: &mut [u8],
+    start: usize,
+    cells: &[u8],
+    live: &[u8],
+    count: usize,
+    last: LinePair,
+    first: LinePair,
+    refused: &[u8],
+    stop: Stop,
+) -> usize
+    requires { ⌜ Sweeping n stop (state (now m) (now queue) start) ⌝ }
+    requires { ⌜ Contexts n (now cells) (now live) count ⌝ }
+    requires { ⌜ LinesInside n (now cells) last ⌝ }
+    requires { ⌜ LinesInside n (now cells) first ⌝ }
+    ensures { λ r. ⌜ Swept n (now (refused .entry)) stop (JoinsCross (now (cells .entry)) (now (live .entry)) count last first) (state (now (m .entry)) (now (queue .entry)) start) (state (now (m .exit)) (now (queue .exit)) r) ⌝ }
 {
     let mut len = start;
     let mut i = 0;
     while i < count {
+        let j = apart_on_one(m, n, cells, live, count, last, first, i);
+        if j >= count {
+            return len;
+        }
+        len = step_both(
+            m,
+            n,
+            queue,
+            len,
+            cells,
+            live,
+            count,
+            last,
+            first,
+            j,
+            refused,
+            stop,
+        );
         if halted(m, len, stop) {
             return len;
         }
-        let lines = line_of(planes, live[i]);
-        len = line(m, n, queue, len, cells, live, count, lines, refused, stop);
-        i += 1;
+        i = j + 1;
     }
     len
 }

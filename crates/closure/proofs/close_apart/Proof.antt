@@ -14,9 +14,11 @@ slice-aggregate-close-apart-in c = search needs
 
 close-apart-in-requires : tie.Need-close-apart-in-requires
 close-apart-in-requires c κs =
-    let p = c .before .before .before .before .before .before .before .before .before .before .pre in
+    let s = c .before .before .before .before .before .before .before .before .before .before in
+    let p = s .pre in
     let held = p .1 .1 .1 .1 .1 .0 .in-use in
-    (p .0, (record { map-room = p .1 .0; queue-room = omega arith; live-room = held .live-room; places-room = held .places-room }, p .1 .1))
+    let w = accepted-wellFormed (algebraOf (s .args .n) (s .args .arities .now) (s .args .cells .now)) (p .0) in
+    (p .0, (record { some = w .some; most = w .most; map-room = p .1 .0; queue-room = omega arith; live-room = held .live-room; places-room = held .places-room }, p .1 .1))
 
 slice-read-if1 : tie.Need-slice-read-if1
 slice-read-if1 c = let s = c .before .before .before .before .before .before .before .before .before .before .before .before .before .before .before .before .before .before .before in let w = accepted-wellFormed (algebraOf (s .args .n) (s .args .arities .now) (s .args .cells .now)) (s .pre .0) in omega (arith, c .before .before .before .before .before .before .before .before .close-apart-in .kept, s .pre .1 .0, s .pre .1 .1 .1 .1 .1 .1 .1 .1 .0, w .most)

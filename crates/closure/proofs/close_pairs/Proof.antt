@@ -24,7 +24,10 @@ slice-aggregate-close-pairs-in-4 : tie.Need-slice-aggregate-close-pairs-in-4
 slice-aggregate-close-pairs-in-4 c = search needs
 
 close-pairs-in-requires : tie.Need-close-pairs-in-requires
-close-pairs-in-requires c κs = let p = c .before .before .before .before .before .before .before .before .pre in (p .0, (record { map-room = omega arith; queue-room = omega arith; live-room = omega arith; places-room = omega arith }, p .1 .1))
+close-pairs-in-requires c κs =
+    let s = c .before .before .before .before .before .before .before .before in
+    let w = accepted-wellFormed (algebraOf (s .args .n) (s .args .arities .now) (s .args .cells .now)) (s .pre .0) in
+    (s .pre .0, (record { some = w .some; most = w .most; map-room = omega arith; queue-room = omega arith; live-room = omega arith; places-room = omega arith }, s .pre .1 .1))
 
 slice-aggregate-copy : tie.Need-slice-aggregate-copy
 slice-aggregate-copy c = search needs

@@ -27,7 +27,7 @@ seed-requires c κs =
     (identity-ready (d .last .1 .0) (s .args .queue .now) (accepted-wellFormed (algebraOf (s .args .n) (s .args .arities .now) (s .args .cells .now)) (s .pre .0) .most) (omega (arith, d .kept, s .pre .1 .0)) (s .pre .1 .0 .queue-room) (d .ensures .first), s .pre .1 .1)
 
 sub-t23 : tie.Need-sub-t23
-sub-t23 c = let s = c .before .before .before .before .before .before .before .before .before .before .before .before .before .before .before .before .before .before .before .before .before .before .before .before .before .before in omega (arith, accepted-wellFormed (algebraOf (s .args .n) (s .args .arities .now) (s .args .cells .now)) (s .pre .0) .some)
+sub-t23 c = omega arith
 
 slice-aggregate-close : tie.Need-slice-aggregate-close
 slice-aggregate-close c = search needs

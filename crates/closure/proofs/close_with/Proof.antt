@@ -40,7 +40,8 @@ close-with-in-requires c κs =
     let start = at-identity .before .before .before .before .before in
     let i = at-identity .identity in
     let k = at-copy .copy in
-    (start .pre .0, (record { map-room = omega (arith, i .kept, k .kept); queue-room = omega arith; live-room = omega arith; places-room = omega arith }, (λ x l h. k .ensures .rest x l ∙ i .ensures .first x h, (canonical-copied (k .ensures .first) (start .pre .1 .1 .0), (start .pre .1 .1 .1 .0, start .pre .1 .1 .1 .1)))))
+    let w = accepted-wellFormed (algebraOf (start .args .n) (start .args .arities .now) (start .args .cells .now)) (start .pre .0) in
+    (start .pre .0, (record { some = w .some; most = w .most; map-room = omega (arith, i .kept, k .kept); queue-room = omega arith; live-room = omega arith; places-room = omega arith }, (λ x l h. k .ensures .rest x l ∙ i .ensures .first x h, (canonical-copied (k .ensures .first) (start .pre .1 .1 .0), (start .pre .1 .1 .1 .0, start .pre .1 .1 .1 .1)))))
 
 slice-aggregate-copy-2 : tie.Need-slice-aggregate-copy-2
 slice-aggregate-copy-2 c = search needs

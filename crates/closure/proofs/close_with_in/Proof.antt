@@ -19,13 +19,13 @@ identity-requires-2 : tie.Need-identity-requires-2
 identity-requires-2 c κs = search needs
 
 others-requires : tie.Need-others-requires
-others-requires c κs = let s = c .before .before .before .before .before .before .before .before .before .before .before .before .before .before .before .before in let w = accepted-wellFormed (algebraOf (s .args .n) (s .args .arities .now) (s .args .cells .now)) (s .pre .0) in (omega (arith, w .most, s .pre .1 .0), (omega (arith, w .most, s .pre .1 .0), w .most))
+others-requires c κs = (omega arith, (omega arith, omega arith))
 
 cast-merge-queued : tie.Need-cast-merge-queued
-cast-merge-queued c = let s = c .before .before .before .before .before .before .before .before .before .before .before .before .before .before .before .before .before .before .before .before .before in omega (arith, s .pre .1 .1 .1 .1 .0, accepted-wellFormed (algebraOf (s .args .n) (s .args .arities .now) (s .args .cells .now)) (s .pre .0) .most)
+cast-merge-queued c = omega arith
 
 cast-merge-queued-2 : tie.Need-cast-merge-queued-2
-cast-merge-queued-2 c = let s = c .before .before .before .before .before .before .before .before .before .before .before .before .before .before .before .before .before .before .before .before .before in omega (arith, s .pre .1 .1 .1 .1 .1, accepted-wellFormed (algebraOf (s .args .n) (s .args .arities .now) (s .args .cells .now)) (s .pre .0) .most)
+cast-merge-queued-2 c = omega arith
 
 merge-queued-requires : tie.Need-merge-queued-requires
 merge-queued-requires c κs =
@@ -35,7 +35,7 @@ merge-queued-requires c κs =
     (others-ready (s .args .m .now) (old .last .1 .1 .0) (accepted-wellFormed (algebraOf (s .args .n) (s .args .arities .now) (s .args .cells .now)) (s .pre .0) .most) (s .pre .1 .0 .map-room) (omega (arith, old .kept, s .pre .1 .0)) (p .0) (p .1 .0) (old .ensures), (p .1 .1 .0, p .1 .1 .1))
 
 sub-t30 : tie.Need-sub-t30
-sub-t30 c = let s = c .before .before .before .before .before .before .before .before .before .before .before .before .before .before .before .before .before .before .before .before .before .before .before .before .before .before in omega (arith, accepted-wellFormed (algebraOf (s .args .n) (s .args .arities .now) (s .args .cells .now)) (s .pre .0) .some)
+sub-t30 c = omega arith
 
 slice-aggregate-close : tie.Need-slice-aggregate-close
 slice-aggregate-close c = search needs
@@ -71,7 +71,7 @@ close-requires c κs =
     )
 
 sub-result : tie.Need-sub-result
-sub-result c = omega (arith, c .before .before .before .before .before .before .before .before .before .before .before .before .before .before .before .before .before .before .merge-queued .ensures .0 .longer, c .before .before .before .before .before .before .before .before .close .ensures .0 .grown .longer)
+sub-result c = omega arith
 
 same-length : tie.Need-same-length
 same-length c = search needs

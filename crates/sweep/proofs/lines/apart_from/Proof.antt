@@ -1,7 +1,7 @@
 -- `apart_from`: the indices passed are joined.
 use Prim.Native.Nat.{_-_}
 use borrow.Author.Tests.{not-false}
-use Rattle.sweep.proofs.Sweeps.{passed-none, passed-more, passed-all}
+use Rattle.sweep.proofs.Crossings.{passed-none, passed-more, passed-all}
 use Rattle.sweep.specs.InnerContexts.{Passed}
 use Rattle.equivalence.specs.Equivalence.{byte}
 use borrow.Author.Needs.{needs}

@@ -1,5 +1,5 @@
 -- `joins_at`: the two cells are elements, and the test compares their names.
-use Rattle.sweep.proofs.Sweeps.{left-place, right-place, left-named, right-named, joins-yes}
+use Rattle.sweep.proofs.Crossings.{left-place, right-place, left-named, right-named, joins-yes}
 use borrow.Author.Needs.{needs}
 use Rattle.sweep.proofs.lines.joins_at.Statement.{statement}
 use Rattle.sweep.proofs.lines.joins_at.Tie as tie

@@ -1,6 +1,6 @@
 -- `line`: the places passed are joined, unless v and w are, and everything that joins all of them, and heeds the marks, has made the merges.
 use Prim.Native.Nat.{_-_, _≤_}
-use Rattle.sweep.proofs.Sweeps.{line-none, line-rest, line-more, line-halted, line-all}
+use Rattle.sweep.proofs.Crossings.{line-none, line-rest, line-more, line-halted, line-all}
 use Rattle.sweep.specs.InnerContexts.{JoinsLine}
 use Rattle.sweep.specs.InnerQueue.{state}
 use Rattle.sweep.specs.InnerSweeps.{SweptTo}

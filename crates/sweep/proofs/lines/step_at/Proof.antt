@@ -1,5 +1,5 @@
 -- `step_at`: a step with the two cells.
-use Rattle.sweep.proofs.Sweeps.{left-place, right-place, left-cell, right-cell, joins-step}
+use Rattle.sweep.proofs.Crossings.{left-place, right-place, left-cell, right-cell, joins-step}
 use borrow.Author.Needs.{needs}
 use Rattle.sweep.proofs.lines.step_at.Statement.{statement}
 use Rattle.sweep.proofs.lines.step_at.Tie as tie

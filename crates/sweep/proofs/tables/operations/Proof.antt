@@ -52,8 +52,8 @@ table-requires c κs =
     let p = start .pre .1 in
     (search, (p .0, (operation-inside (start .args .arities .now) (p .1 .0) k (at-loop .loop .inv .1) (p .1 .1 .0) (p .1 .1 .1), accepted-wellFormed (algebraOf (start .args .n) (start .args .arities .now) (start .args .cells .now)) (start .pre .1 .1 .0) .arity _ k)))
 
-power-requires : tie.Need-power-requires Inv-loop μ-loop
-power-requires c κs =
+cells-of-requires : tie.Need-cells-of-requires Inv-loop μ-loop
+cells-of-requires c κs =
     let s = c .before .before .before .before .before .before .before .before .before .before .before .before .before .before .before .before .before .before .before in
     let ok = accepted-wellFormed (algebraOf (s .args .n) (s .args .arities .now) (s .args .cells .now)) (s .pre .1 .1 .0) in
     (ok .most, ok .arity _ (c .before .before .before .before .before .before .before .before .before .before .before .loop-test .taken))
@@ -65,7 +65,7 @@ add-o c =
     let start = at-loop .before .before .before .before .before .before .before in
     let ok = accepted-wellFormed (algebraOf (start .args .n) (start .args .arities .now) (start .args .cells .now)) (start .pre .1 .1 .0) in
     let l = at-loop .loop in
-    omega (arith, c .power .ensures, l .inv .1, ok .room, start-room (start .args .n) (start .args .arities .now) (l .j) (at-loop-test .loop-test .taken))
+    omega (arith, c .cells-of .ensures, l .inv .1, ok .room, start-room (start .args .n) (start .args .arities .now) (l .j) (at-loop-test .loop-test .taken))
 
 add-j : tie.Need-add-j Inv-loop μ-loop
 add-j c = let s = c .before .before .before .before .before .before .before .before .before .before .before .before .before .before .before .before .before .before .before .before in let ok = accepted-wellFormed (algebraOf (s .args .n) (s .args .arities .now) (s .args .cells .now)) (s .pre .1 .1 .0) in omega (arith, c .before .before .before .before .before .before .before .before .before .before .before .before .loop-test .taken, ok .operations)
@@ -82,7 +82,7 @@ loop-again c =
     let l = at-loop .loop in
     let k = at-loop-test .loop-test .taken in (
       omega (arith, k),
-      omega (arith, c .power .ensures, l .inv .1, start-next (start .args .n) (start .args .arities .now) (l .j) k),
+      omega (arith, c .cells-of .ensures, l .inv .1, start-next (start .args .n) (start .args .arities .now) (l .j) k),
       operations-more (start .args .arities .now) (start .pre .1 .0) (start .pre .1 .1 .0) k (l .inv .1) (l .inv .2) (at-table .table .ensures),
     )
 
@@ -109,7 +109,7 @@ operations-spec =
     shared-slice-read-s
     cast-s
     table-requires
-    power-requires
+    cells-of-requires
     add-o
     add-j
     loop-less
