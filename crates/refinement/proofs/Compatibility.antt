@@ -5,7 +5,6 @@ use mathlib.Core.Bool.{Bool, true, false}
 use mathlib.Core.List.{List, [], _∷_, _++_}
 use mathlib.Core.Path.{_≡_, refl, sym, ap, subst, _∙_}
 use native.Mathlib.Omega.{arith}
-use lib.Dec.{T}
 use lib.ListN.{length, getD}
 use Rattle.equivalence.specs.Equivalence.{Map, byte}
 use Rattle.kernel.specs.InnerKernel.{Canonical, Within, Listed}
@@ -18,7 +17,7 @@ use Rattle.algebra.proofs.Tables.{start-room}
 use Rattle.translation.proofs.Places.{place-one, place-two, place-three}
 use Rattle.translation.proofs.Translations.{result-below}
 use Rattle.refinement.specs.InnerSplitting.{Keeps, KeepsOn, Any, Chosen, Table, MapLent, Represented}
-use Rattle.refinement.proofs.Splits.{keeps-by-first}
+use Rattle.refinement.proofs.Splits.{never, keeps-by-first}
 use Rattle.kernel.proofs.Names.{name-back}
 
 -- ---- results as cells of a line
@@ -82,9 +81,6 @@ pub compatible-tables : (a : Algebra) → WellFormed a → (g : ℕ → ℕ) →
 compatible-tables a w g c j l = compatible-table a w g c j l (getD (a .arities) j 0) refl
 
 -- ---- the listed elements stand for all
-
-never : {A : Type 0} → false ≡ true → A
-never e = absurd (subst T (sym e) tt)
 
 module _ (a : Algebra) (w : WellFormed a) {live : List ℕ} {used : ℕ} (g : ℕ → ℕ) (c : Canonical (a .size) g) (s : Represented a live used g) where
   -- the listed elements, and those of them that stand before the varied argument

@@ -1,14 +1,19 @@
 -- Naming the elements of a block anew: the table of those first seen, by the block to which the line takes them.
 use Prim.Native.Nat.{ℕ, _+_, _*_, _≤_, _<_}
 use mathlib.Core.List.{List}
-use mathlib.Core.Path.{_≡_, refl, sym, ap, _∙_}
+use mathlib.Core.Path.{_≡_, refl, sym, ap, subst, _∙_}
 use native.Mathlib.Decide.{decLt, ℕ-discrete}
 use native.Mathlib.Omega.{arith}
-use lib.ListN.{length, set}
+use mir.Syntax.{w64}
+use mir.Val.{Fits}
+use lib.ListN.{length, set, length-set}
 use lib.Seq.{getD-set-same, getD-set-other}
+use Rattle.equivalence.specs.Equivalence.{byte}
+use Rattle.translation.specs.InnerLines.{lineAt}
 use Rattle.equivalence.proofs.Meeting.{seenOr-yes, seenOr-no}
 use Rattle.kernel.specs.InnerKernel.{Canonical, seenOr}
-use Rattle.refinement.specs.InnerSplitting.{Alike, FirstInto, FirstsSeen, rowAt, OtherRows, Cleared, Begun, RowsSeen, Renamed}
+use Rattle.refinement.proofs.Splits.{each-written}
+use Rattle.refinement.specs.InnerSplitting.{Only, Every, Alike, FirstInto, FirstsSeen, LineLent, Seen, rowAt, RowsSeen, Renamed}
 
 -- nothing is seen yet
 pub firstsSeen-none : {t f seen : ℕ → ℕ} {name : ℕ} → ((v : ℕ) → v < 64 → seen v ≡ 64) → FirstsSeen t f name 0 seen
@@ -20,7 +25,8 @@ firstsSeen-none e = record {
 
 module _ {n : ℕ} {t f : ℕ → ℕ} {name x : ℕ} (c : Canonical n f) (l : x < n) where
   -- an element of another block keeps its name
-  pub alike-elsewhere : ¬ (f x ≡ name) → Alike t f (λ v. v ≡ name) x (f x)
+  pub alike-elsewhere : ¬ (f x ≡ name) → Alike t f (Only name) x (f x)
+  unfolding Only
   alike-elsewhere h = record {
     low = c .below x l;
     before = c .named x l;
@@ -40,7 +46,8 @@ module _ {n : ℕ} {t f : ℕ → ℕ} {name x : ℕ} (c : Canonical n f) (l : x
   }
 
   -- an element whose image was met before is named by the first with that image
-  pub alike-seen : {seen : ℕ → ℕ} → f x ≡ name → FirstsSeen t f name x seen → f (t x) < 64 → seen (f (t x)) < 64 → Alike t f (λ v. v ≡ name) x (seen (f (t x)))
+  pub alike-seen : {seen : ℕ → ℕ} → f x ≡ name → FirstsSeen t f name x seen → f (t x) < 64 → seen (f (t x)) < 64 → Alike t f (Only name) x (seen (f (t x)))
+  unfolding Only
   alike-seen e s k q =
       let r = s .first (f (t x)) k q in
       record {
@@ -68,7 +75,8 @@ module _ {n : ℕ} {t f : ℕ → ℕ} {name x : ℕ} (c : Canonical n f) (l : x
   first-into : {seen : ℕ → ℕ} → f x ≡ name → FirstsSeen t f name x seen → f (t x) < 64 → 64 ≤ seen (f (t x)) → FirstInto t f name (f (t x)) x
   first-into e s k q = record { block = e; image = refl; first = λ z lz p i. s .none (f (t x)) k q z lz p i }
 
-  pub alike-first : {seen : ℕ → ℕ} → f x ≡ name → FirstsSeen t f name x seen → f (t x) < 64 → 64 ≤ seen (f (t x)) → Alike t f (λ v. v ≡ name) x x
+  pub alike-first : {seen : ℕ → ℕ} → f x ≡ name → FirstsSeen t f name x seen → f (t x) < 64 → 64 ≤ seen (f (t x)) → Alike t f (Only name) x x
+  unfolding Only
   alike-first e s k q = record {
     low = omega arith;
     before = refl;
@@ -111,100 +119,122 @@ seen-same same s = record {
   none = λ v l k. s .none v l (omega (arith, same v l));
 }
 
--- no element below x is in a block that begins at x
-seen-begun : {n : ℕ} {t f seen : ℕ → ℕ} {x : ℕ} → Canonical n f → x < n → ((v : ℕ) → v < 64 → seen v ≡ 64) → FirstsSeen t f x x seen
-seen-begun c lx e = record {
-  below = λ v l k. absurd (omega (arith, e v l));
-  first = λ v l k. absurd (omega (arith, e v l));
-  none = λ v l k z lz p i. omega (arith, c .below z (omega arith));
-}
+-- what is asked of x before it is looked up
+pub line-seen : {n : ℕ} {m cells seen : List ℕ} {base stride row x : ℕ} → LineLent n m cells base stride → x < n → row * 64 + 64 ≤ length seen
+    → FirstsSeen (lineAt cells base stride) (byte m) (byte m x) x (rowAt seen row) → Seen n m cells base stride row x seen
+line-seen {x = x} p l r s =
+    let v = p .map .below _ (p .line .inside x l) in
+    record {
+      canonical = p .map .canonical;
+      small = p .map .small;
+      room = p .map .room;
+      element = l;
+      inside = p .line .inside x l;
+      below = v;
+      image = omega (arith, p .map .canonical .below _ v);
+      row-inside = r;
+      firsts = s;
+    }
 
-module _ {n : ℕ} {t f : ℕ → ℕ} {name x : ℕ} {seen : List ℕ} (c : Canonical n f) (l : x < n) (s : FirstsSeen t f name x (rowAt seen name)) where
-  pub renamed-elsewhere : ¬ (f x ≡ name) → Renamed t f name x seen seen (f x)
-  renamed-elsewhere h = record { alike = alike-elsewhere c l h; row = seen-elsewhere c l h s; others = λ b v p q. refl }
+-- what was seen in the row of its block, or x
+pub seen-renamed : {n : ℕ} {m cells seen : List ℕ} {base stride row x y : ℕ} → Seen n m cells base stride row x seen → y ≡ seenOr (rowAt seen row (byte m (lineAt cells base stride x))) x
+    → Renamed (lineAt cells base stride) (byte m) row x seen (set seen (row * 64 + byte m (lineAt cells base stride x)) y) y
+seen-renamed {n} {m} {cells} {seen} {base} {stride} {row} {x} {y} i h =
+    elim (decLt (rowAt seen row image) 64) [
+      | yes k ↦
+          let p : y ≡ rowAt seen row image = h ∙ seenOr-yes _ x k in
+          record {
+            alike = rw p (alike-seen (i .canonical) (i .element) refl (i .firsts) (omega (arith, i .image, i .small)) k);
+            firsts = seen-same (λ v q. elim (ℕ-discrete v image) [ yes o ↦ rw o (new ∙ p) | no o ↦ old v o ]) (seen-seen (i .canonical) (i .element) refl (i .firsts) (omega (arith, i .image, i .small)) k);
+            others = apart;
+          }
+      | no k ↦
+          let p : y ≡ x = h ∙ seenOr-no _ x (omega arith) in
+          record {
+            alike = rw p (alike-first (i .canonical) (i .element) refl (i .firsts) (omega (arith, i .image, i .small)) (omega arith));
+            firsts = seen-first (i .canonical) (i .element) refl (omega (arith, i .element, i .small)) (i .firsts) (omega (arith, i .image, i .small)) (omega arith) (new ∙ p) old;
+            others = apart;
+          }
+    ]
+  where
+    image : ℕ
+    image = byte m (lineAt cells base stride x)
 
-  pub renamed-here : {y : ℕ} → f x ≡ name → x < 64 → name < 64 → f (t x) < 64 → 4096 ≤ length seen → y ≡ seenOr (rowAt seen name (f (t x))) x
-      → Renamed t f name x seen (set seen (name * 64 + f (t x)) y) y
-  renamed-here {y} e lx ln lv long h =
-      elim (decLt (rowAt seen name (f (t x))) 64) [
-        | yes k ↦
-            let p : y ≡ rowAt seen name (f (t x)) = h ∙ seenOr-yes _ x k in
-            record {
-              alike = rw p (alike-seen c l e s lv k);
-              row = seen-same (λ v q. elim (ℕ-discrete v (f (t x))) [ yes o ↦ rw o (new ∙ p) | no o ↦ old v o ]) (seen-seen c l e s lv k);
-              others = apart;
-            }
-        | no k ↦
-            let p : y ≡ x = h ∙ seenOr-no _ x (omega arith) in
-            record { alike = rw p (alike-first c l e s lv (omega arith)); row = seen-first c l e lx s lv (omega arith) (new ∙ p) old; others = apart }
-      ]
-    where
-      new : rowAt (set seen (name * 64 + f (t x)) y) name (f (t x)) ≡ y
-      new = getD-set-same seen (name * 64 + f (t x)) y 0 (omega arith)
+    new : rowAt (set seen (row * 64 + image) y) row image ≡ y
+    new = getD-set-same seen (row * 64 + image) y 0 (omega (arith, i .image, i .small, i .row-inside))
 
-      old : (v : ℕ) → ¬ (v ≡ f (t x)) → rowAt (set seen (name * 64 + f (t x)) y) name v ≡ rowAt seen name v
-      old v o = getD-set-other seen (name * 64 + f (t x)) (name * 64 + v) y 0 (λ q. o (omega arith))
+    old : (v : ℕ) → ¬ (v ≡ image) → rowAt (set seen (row * 64 + image) y) row v ≡ rowAt seen row v
+    old v o = getD-set-other seen (row * 64 + image) (row * 64 + v) y 0 (λ q. o (omega arith))
 
-      apart : (b v : ℕ) → (b ≡ name → ⊥) → v < 64 → rowAt (set seen (name * 64 + f (t x)) y) b v ≡ rowAt seen b v
-      apart b v p q = getD-set-other seen (name * 64 + f (t x)) (b * 64 + v) y 0 (λ o. p (omega arith))
+    apart : (b v : ℕ) → (b ≡ row → ⊥) → v < 64 → rowAt (set seen (row * 64 + image) y) b v ≡ rowAt seen b v
+    apart b v p q = getD-set-other seen (row * 64 + image) (b * 64 + v) y 0 (λ o. p (omega (arith, i .image, i .small)))
 
 -- ---- all rows
 
-pub rows-none : {t f : ℕ → ℕ} {seen : List ℕ} → RowsSeen t f 0 0 seen
-rows-none = record { row = λ b l. absurd (omega arith) }
-
-module _ {n : ℕ} {t f : ℕ → ℕ} {x : ℕ} {seen seen′ : List ℕ} (c : Canonical n f) (l : x < n) where
-  pub rows-begin : RowsSeen t f x x seen → Begun f x seen seen′ → RowsSeen t f (x + 1) x seen′
-  rows-begin s k = record {
-    row = λ b lb e.
-        elim (ℕ-discrete b x) [
-          | yes p ↦ rw p (seen-begun c l (k .here (rw p at e)))
-          | no p ↦ seen-same (λ v q. k .there b v p q) (s .row b (omega arith) e)
-        ];
-  }
-
-  pub rows-more : {y : ℕ} → RowsSeen t f (x + 1) x seen → Renamed t f (f x) x seen seen′ y → RowsSeen t f (x + 1) (x + 1) seen′
-  rows-more s r = record {
-    row = λ b lb e.
-        elim (ℕ-discrete b (f x)) [
-          | yes p ↦ rw p (r .row)
-          | no p ↦ seen-same (λ v q. r .others b v p q) (seen-elsewhere c l (λ q. p (sym q)) (s .row b lb e))
-        ];
-  }
+pub rows-none : {t f : ℕ → ℕ} {seen : List ℕ} → ((v : ℕ) → v < 4096 → byte seen v ≡ 64) → RowsSeen t f 0 seen
+rows-none h = record { row = λ b l. firstsSeen-none (λ v k. h (b * 64 + v) (omega arith)) }
 
 -- the row of the block of x
-pub rows-row : {n : ℕ} {t f : ℕ → ℕ} {x : ℕ} {seen : List ℕ} → Canonical n f → x < n → RowsSeen t f (x + 1) x seen → FirstsSeen t f (f x) x (rowAt seen (f x))
-rows-row {f = f} {x} c l s = s .row (f x) (omega (arith, c .below x l)) (c .named x l)
+pub row-seen : {n : ℕ} {m cells seen : List ℕ} {base stride x : ℕ} → LineLent n m cells base stride → x < n → 4096 ≤ length seen → RowsSeen (lineAt cells base stride) (byte m) x seen
+    → Seen n m cells base stride (byte m x) x seen
+row-seen {m = m} {x = x} p l r s =
+    let k : byte m x < 64 = omega (arith, p .map .canonical .below x l, p .map .small) in
+    line-seen p l (omega arith) (s .row (byte m x) k)
 
--- where every block is split
-pub alike-all : {t f : ℕ → ℕ} {x y : ℕ} → Alike t f (λ v. v ≡ f x) x y → Alike t f (λ v. Unit {0}) x y
-alike-all a = record { low = a .low; before = a .before; after = λ u. a .after refl; first = λ z l p i. a .first z l p (λ q. i tt) }
-
--- ---- clearing a row
-
--- the first v places of the row were cleared
-pub record Clearing (name v : ℕ) (seen seen′ : List ℕ) : Type 0 where
-  pub here : (w : ℕ) → w < v → rowAt seen′ name w ≡ 64
-  pub there : OtherRows name seen seen′
-
-pub clearing-none : {name : ℕ} {seen : List ℕ} → Clearing name 0 seen seen
-clearing-none = record { here = λ w l. absurd (omega arith); there = λ b w p q. refl }
-
-pub clearing-more : {name v : ℕ} {seen seen′ : List ℕ} → name * 64 + v < length seen′ → v < 64 → Clearing name v seen seen′ → Clearing name (v + 1) seen (set seen′ (name * 64 + v) 64)
-clearing-more {name} {v} {seen} {seen′} r l s = record {
-  here = λ w k.
-      elim (ℕ-discrete w v) [
-        | yes p ↦ rw p (getD-set-same seen′ (name * 64 + v) 64 0 r)
-        | no p ↦ getD-set-other seen′ (name * 64 + v) (name * 64 + w) 64 0 (λ q. p (omega arith)) ∙ s .here w (omega arith)
+pub rows-more : {n : ℕ} {m cells seen seen′ : List ℕ} {base stride x y : ℕ} → LineLent n m cells base stride → x < n → RowsSeen (lineAt cells base stride) (byte m) x seen
+    → Renamed (lineAt cells base stride) (byte m) (byte m x) x seen seen′ y → RowsSeen (lineAt cells base stride) (byte m) (x + 1) seen′
+rows-more {m = m} {x = x} p l s r = record {
+  row = λ b lb.
+      elim (ℕ-discrete b (byte m x)) [
+        | yes q ↦ rw q (r .firsts)
+        | no q ↦ seen-same (λ v k. r .others b v q k) (seen-elsewhere (p .map .canonical) l (λ o. q (sym o)) (s .row b lb))
       ];
-  there = λ b w p q. getD-set-other seen′ (name * 64 + v) (b * 64 + w) 64 0 (λ o. p (omega arith)) ∙ s .there b w p q;
 }
 
-pub clearing-all : {name v : ℕ} {seen seen′ : List ℕ} → 64 ≤ v → Clearing name v seen seen′ → Cleared name seen seen′
-clearing-all l s = record { here = λ w k. s .here w (omega arith); there = s .there }
+-- where every block is split
+pub renamed-all : {t f : ℕ → ℕ} {row x y : ℕ} {seen seen′ : List ℕ} → Renamed t f row x seen seen′ y → Alike t f Every x y
+unfolding Only Every
+renamed-all r = let a = r .alike in record { low = a .low; before = a .before; after = λ u. a .after refl; first = λ z l p i. a .first z l p (λ q. i tt) }
 
-pub begun-not : {f : ℕ → ℕ} {x : ℕ} {seen : List ℕ} → ¬ (f x ≡ x) → Begun f x seen seen
-begun-not h = record { here = λ e. absurd (h e); there = λ b v p q. refl }
+-- the name of an element fits a number
+pub name-fits : {n : ℕ} {m cells : List ℕ} {base stride x : ℕ} → LineLent n m cells base stride → x < n → Fits w64 (byte m x)
+name-fits {x = x} p l = omega (arith, p .map .canonical .below x l, p .map .small)
 
-pub begun-cleared : {f : ℕ → ℕ} {x : ℕ} {seen seen′ : List ℕ} → Cleared x seen seen′ → Begun f x seen seen′
-begun-cleared k = record { here = λ e. k .here; there = k .there }
+-- ---- the row of one block, which is row 0
+
+pub named-seen : {n : ℕ} {m cells seen : List ℕ} {base stride name x : ℕ} → LineLent n m cells base stride → x < n → 64 ≤ length seen → byte m x ≡ name
+    → FirstsSeen (lineAt cells base stride) (byte m) name x (rowAt seen 0) → Seen n m cells base stride 0 x seen
+named-seen {m = m} {cells} {seen} {base} {stride} {x = x} p l r e s =
+    line-seen p l (omega arith) (subst (λ (v : ℕ). FirstsSeen (lineAt cells base stride) (byte m) v x (rowAt seen 0)) (sym e) s)
+
+pub renamed-alike : {t f : ℕ → ℕ} {name row x y : ℕ} {seen seen′ : List ℕ} → f x ≡ name → Renamed t f row x seen seen′ y → Alike t f (Only name) x y
+renamed-alike {t} {f} {x = x} {y} e r = subst (λ (v : ℕ). Alike t f (Only v) x y) e (r .alike)
+
+pub renamed-firsts : {t f : ℕ → ℕ} {name row x y : ℕ} {seen seen′ : List ℕ} → f x ≡ name → Renamed t f row x seen seen′ y → FirstsSeen t f name (x + 1) (rowAt seen′ row)
+renamed-firsts {t} {f} {row = row} {x} {seen′ = seen′} e r = subst (λ (v : ℕ). FirstsSeen t f v (x + 1) (rowAt seen′ row)) e (r .firsts)
+
+-- ---- naming one element after the other
+
+-- the elements below x have their new names
+pub record Renaming (n : ℕ) (t f : ℕ → ℕ) (In : ℕ → Type 0) (x : ℕ) (next : List ℕ) : Type 0 where
+  pub most : x ≤ n
+  pub room : n ≤ length next
+  pub named : (z : ℕ) → z < x → Alike t f In z (byte next z)
+
+module _ {n : ℕ} {t f : ℕ → ℕ} {In : ℕ → Type 0} {next : List ℕ} where
+  pub renaming-none : n ≤ length next → Renaming n t f In 0 next
+  renaming-none r = record { most = omega arith; room = r; named = λ z l. absurd (omega arith) }
+
+  pub renaming-more : {x y : ℕ} → Renaming n t f In x next → x < n → Alike t f In x y → Renaming n t f In (x + 1) (set next x y)
+  renaming-more {x} {y} s l a = record {
+    most = omega arith;
+    room = simp length-set (s .room);
+    named = each-written (λ z v. Alike t f In z v) next (omega (arith, s .room)) (s .named) a;
+  }
+
+  pub renaming-all : {x : ℕ} → Renaming n t f In x next → n ≤ x → (z : ℕ) → z < n → Alike t f In z (byte next z)
+  renaming-all s l z lz = s .named z (omega arith)
+
+pub renaming-every : {n : ℕ} {t f : ℕ → ℕ} {next : List ℕ} {row x y : ℕ} {seen seen′ : List ℕ} → Renaming n t f Every x next → x < n → Renamed t f row x seen seen′ y
+    → Renaming n t f Every (x + 1) (set next x y)
+renaming-every s l r = renaming-more s l (renamed-all r)

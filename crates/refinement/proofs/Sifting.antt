@@ -7,11 +7,18 @@ use native.Mathlib.Omega.{arith}
 use lib.Dec.{eqb}
 use lib.ListN.{length, set, length-set}
 use lib.Seq.{getD-set-same, getD-set-other}
+use mir.Syntax.{w64}
+use mir.Val.{Fits}
 use borrow.Author.Tests.{ne-eqb}
 use Rattle.equivalence.specs.Equivalence.{Map, byte}
 use Rattle.kernel.proofs.Names.{name-back}
 use Rattle.kernel.specs.InnerKernel.{Canonical, Within, bit, Listed}
-use Rattle.refinement.specs.InnerSplitting.{Elements, KeepsOn, Sifted, Turned, Lists, Split}
+use Rattle.refinement.proofs.Splits.{sifted-none}
+use Rattle.refinement.specs.InnerSplitting.{MapLent, Elements, KeepsOn, Sifted, Turned, Lists, Split}
+
+-- a listed element fits a number
+pub listed-fits : {n count i : ℕ} {m cells list : List ℕ} → MapLent n m cells → Elements n list count → i < count → Fits w64 (byte list i)
+listed-fits {i = i} p e l = omega (arith, e .below i l, p .small)
 
 -- ---- sifting, in place
 
@@ -53,31 +60,28 @@ sifting-more {f} {list₀} {list} {i} {kept} b l s e =
           ];
     }
 
-pub sifting-sifted : {f : ℕ → ℕ} {list₀ list : List ℕ} {i kept : ℕ} → Sifting f list₀ list i kept → Sifted f list₀ i list kept
-sifting-sifted {f} {list₀} {list} {i} {kept} s = record {
+pub sifting-sifted : {f : ℕ → ℕ} {list₀ list : List ℕ} {i kept : ℕ} → i ≤ length list → Sifting f list₀ list i kept → Sifted f list₀ i list kept
+sifting-sifted {f} {list₀} {list} {i} {kept} r s = record {
   fewer = s .most;
+  room = omega (arith, s .most);
   old = s .old;
   all = λ x k h. rw (k .1 .1) at (s .all (k .0) (k .1 .0) (rw (k .1 .1) h));
 }
 
 -- ---- lists that were sifted
 
--- nothing was sifted
-pub sifted-none : {f : ℕ → ℕ} {list : List ℕ} {count : ℕ} → Sifted f list count list count
-sifted-none = record { fewer = omega arith; old = λ i l. (i, (l, refl)); all = λ x k h. k }
-
-elements-sifted : {n : ℕ} {f : ℕ → ℕ} {list list′ : List ℕ} {count count′ : ℕ} → length list′ ≡ length list → Elements n list count → Sifted f list count list′ count′ → Elements n list′ count′
-elements-sifted {n} e s k = record {
-  room = omega (arith, s .room, k .fewer);
+elements-sifted : {n : ℕ} {f : ℕ → ℕ} {list list′ : List ℕ} {count count′ : ℕ} → Elements n list count → Sifted f list count list′ count′ → Elements n list′ count′
+elements-sifted {n} s k = record {
+  room = k .room;
   below = λ i l. let o = k .old i l in rw (o .1 .1) at (s .below (o .0) (o .1 .0));
 }
 
 module _ {n used left left′ : ℕ} {f f′ : ℕ → ℕ} {live others others′ : List ℕ} where
-  lists-sifted : Canonical n f → Canonical n f′ → Within n f′ f → length others′ ≡ length others → Lists n live used others left f → Sifted f′ others left others′ left′
+  lists-sifted : Canonical n f → Canonical n f′ → Within n f′ f → Lists n live used others left f → Sifted f′ others left others′ left′
       → Lists n live used others′ left′ f′
-  lists-sifted c c′ w e s k = record {
+  lists-sifted c c′ w s k = record {
     live-elements = s .live-elements;
-    elements = elements-sifted e (s .elements) k;
+    elements = elements-sifted (s .elements) k;
     all = λ x l h. k .all x (s .all x l (λ p. h (name-back c′ c w x (rw (l .1 .1) at (s .live-elements .below (l .0) (l .1 .0))) p))) h;
   }
 
@@ -100,17 +104,17 @@ all-names {f = f} s z x l =
 -- a line that keeps the listed others of a map, once it is split, keeps all in use
 pub kept-after : {n used left : ℕ} {live others : List ℕ} {m m′ : Map} {Good Done : (ℕ → ℕ) → Type 0} (t : ℕ → ℕ) → Canonical n (byte m) → Lists n live used others left (byte m)
     → Split n Good Done m m′ → KeepsOn (Listed others left) t (byte m′) → KeepsOn (Listed live used) t (byte m′)
-kept-after t c l s h = kept-in-use (lists-sifted c (s .canonical) (s .within) refl l sifted-none) h
+kept-after t c l s h = kept-in-use (lists-sifted c (s .canonical) (s .within) l (sifted-none (l .elements .room))) h
 
 -- the lists after a split
-pub lists-after : {n used left left′ : ℕ} {live others others′ : List ℕ} {m m′ : Map} {Good Done : (ℕ → ℕ) → Type 0} → Canonical n (byte m) → length others′ ≡ length others
+pub lists-after : {n used left left′ : ℕ} {live others others′ : List ℕ} {m m′ : Map} {Good Done : (ℕ → ℕ) → Type 0} → Canonical n (byte m)
     → Lists n live used others left (byte m) → Split n Good Done m m′ → Sifted (byte m′) others left others′ left′ → Lists n live used others′ left′ (byte m′)
-lists-after c e l s k = lists-sifted c (s .canonical) (s .within) e l k
+lists-after c l s k = lists-sifted c (s .canonical) (s .within) l k
 
 -- ---- lists that were turned round
 
-pub turned-none : {count : ℕ} {list : List ℕ} → Turned count list list
-turned-none = record { all = λ x k. k; old = λ x k. k }
+pub turned-none : {count : ℕ} {list : List ℕ} → count ≤ length list → Turned count list list
+turned-none r = record { room = r; all = λ x k. k; old = λ x k. k }
 
 -- two members change places
 module _ (count i j : ℕ) (list : List ℕ) (r : count ≤ length list) (lj : j < count) (l : i < j) where
@@ -128,6 +132,7 @@ module _ (count i j : ℕ) (list : List ℕ) (r : count ≤ length list) (lj : j
 
   pub turned-more : {list₀ : List ℕ} → Turned count list₀ list → Turned count list₀ swapped
   turned-more s = record {
+    room = simp length-set r;
     all = λ x h. there x (s .all x h);
     old = λ x h. s .old x (back x h);
   }
@@ -152,11 +157,11 @@ module _ (count i j : ℕ) (list : List ℕ) (r : count ≤ length list) (lj : j
             ]
           ]
 
-pub lists-turned : {n used left : ℕ} {live others others′ : List ℕ} {f : ℕ → ℕ} → length others′ ≡ length others → Lists n live used others left f → Turned left others others′ → Lists n live used others′ left f
-lists-turned {n} {others′ = others′} e s k = record {
+pub lists-turned : {n used left : ℕ} {live others others′ : List ℕ} {f : ℕ → ℕ} → Lists n live used others left f → Turned left others others′ → Lists n live used others′ left f
+lists-turned {n} {others′ = others′} s k = record {
   live-elements = s .live-elements;
   elements = record {
-    room = omega (arith, s .elements .room);
+    room = k .room;
     below = λ i l. let o = k .old (byte others′ i) (i, (l, refl)) in rw (o .1 .1) at (s .elements .below (o .0) (o .1 .0));
   };
   all = λ x l h. k .all x (s .all x l h);

@@ -1,19 +1,19 @@
 -- The lines of a table, by its arity: where they lie, and splitting along them all.
 use Prim.Native.Nat.{ℕ, _+_, _*_, _^_, _≤_}
-use mathlib.Core.Bool.{Bool, true, false}
+use mathlib.Core.Bool.{true, false}
 use mathlib.Core.List.{List}
-use mathlib.Core.Path.{_≡_, sym, subst}
+use mathlib.Core.Path.{_≡_}
 use native.Mathlib.Nat.{mul-assoc}
 use native.Mathlib.Omega.{arith}
 use lib.Arith.{digits-lt}
-use lib.Dec.{T}
 use lib.ListN.{length}
 use Rattle.kernel.specs.InnerKernel.{Listed}
 use Rattle.equivalence.specs.Equivalence.{Map}
 use Rattle.algebra.proofs.Powers.{power-one, power-two, power-three}
 use Rattle.translation.specs.InnerLines.{PlaneInside, SolidInside}
-use Rattle.refinement.specs.InnerSplitting.{Keeps, KeepsOn, Any, Chosen, Lines, Planes, Table, Split}
-use Rattle.refinement.proofs.Splits.{split-more, split-said}
+use Rattle.refinement.specs.InnerSplitting.{LineLent, KeepsOn, Chosen, Planes, LineSplit, Walk, LinesWalked, PlanesWalked, TableWalked}
+use Rattle.refinement.proofs.Splits.{map-said}
+use Rattle.refinement.proofs.Walks.{walk-none, walk-said, walk-more, line-walked}
 
 -- ---- room
 
@@ -65,44 +65,38 @@ module _ (n : ℕ) (cells : List ℕ) (base : ℕ) where
       };
     }
 
--- ---- splits along a table
+-- ---- walks over a table
 
--- m is split along all lines of a table of arity s, the other arguments being listed
-abbrev pub TableSplit : (n : ℕ) (live : List ℕ) (used : ℕ) (cells : List ℕ) (base s : ℕ) (m m′ : Map) → Type 0
-TableSplit n live used cells base s m m′ = Split n (Table (Any n) (Keeps n) n cells base s) (Table (Chosen live used) (KeepsOn (Listed live used)) n cells base s) m m′
+-- the line of a table of arity 1
+pub unary-lent : {n : ℕ} {live : List ℕ} {used : ℕ} {cells : List ℕ} {base : ℕ} {m : Map} {others : List ℕ} {left : ℕ} → Walk n live used cells m others left → base + n ≤ length cells
+    → LineLent n m cells base 1
+unary-lent w r = record { map = w .map; line = record { inside = λ x l. omega arith } }
 
--- along the lines that begin at `base`
-abbrev LinesSplit : (n : ℕ) (live : List ℕ) (used : ℕ) (cells : List ℕ) (base : ℕ) → Bool → ℕ → ℕ → Map → Map → Type 0
-LinesSplit n live used cells base named row stride m m′ = Split n (Lines (Any n named) (Keeps n) cells base row stride) (Lines (Chosen live used named) (KeepsOn (Listed live used)) cells base row stride) m m′
+module _ {n : ℕ} {live : List ℕ} {used : ℕ} {cells : List ℕ} {base : ℕ} {m₀ m : Map} where
+  pub table-one : {others others′ : List ℕ} {left left′ : ℕ} → Walk n live used cells m₀ others left → LineSplit n cells base 1 m₀ m others left others′ left′
+      → TableWalked n live used cells base 1 m₀ m others′ left′
+  table-one w u = record {
+    walked = walk-said (λ g good. good) (λ h. h tt) (line-walked {Given = λ g. Unit {0}} w (map-said (λ h e. h) (u .split)) (u .sifted));
+  }
 
--- along the planes
-abbrev PlanesSplit : (n : ℕ) (live : List ℕ) (used : ℕ) (cells : List ℕ) (base : ℕ) → Bool → Bool → ℕ → ℕ → ℕ → Map → Map → Type 0
-PlanesSplit n live used cells base named inner layer row stride m m′ =
-    Split n (Planes (Any n named) (Any n inner) (Keeps n) cells base layer row stride) (Planes (Chosen live used named) (Chosen live used inner) (KeepsOn (Listed live used)) cells base layer row stride) m m′
+  pub table-two : {m′ : Map} {others others′ : List ℕ} {left left′ : ℕ} → LinesWalked n live used cells base false 1 n m₀ m others left → LinesWalked n live used cells base true n 1 m m′ others′ left′
+      → TableWalked n live used cells base 2 m₀ m′ others′ left′
+  table-two s u = record { walked = walk-more (λ g h. h .1) (λ g p q. (p, q)) (walk-said (λ g h. h .0) (λ h. h) (s .walked)) (u .walked) }
 
-pub never : {A : Type 0} → false ≡ true → A
-never e = absurd (subst T (sym e) tt)
-
--- a plane whose lines begin one after the other, among all elements in use
-pub plane-by-rows : (n : ℕ) (live : List ℕ) (used : ℕ) (cells : List ℕ) (base row stride : ℕ) (inner : Bool) (Given : (ℕ → ℕ) → Type 0) {m m′ : Map} → row ≡ 1
-    → LinesSplit n live used cells base false 1 stride m m′
-    → Split n (Lines (Any n inner) (Keeps n) cells base row stride) (λ g. Given g → Lines (Chosen live used inner) (KeepsOn (Listed live used)) cells base row stride g) m m′
-plane-by-rows n live used cells base row stride inner Given e s = rw e (split-said (λ g good. good) (λ h given r k. h r (k .0, λ u. never u)) s)
-
-module _ (n : ℕ) (live : List ℕ) (used : ℕ) (cells : List ℕ) where
-  pub table-of : {s k : ℕ} {m m′ : Map} (base : ℕ) → s ≡ k → TableSplit n live used cells base k m m′ → TableSplit n live used cells base s m m′
-  table-of base e h = rw e h
-
-  pub table-from : {base start : ℕ} {m m′ : Map} (s : ℕ) → base ≡ start → TableSplit n live used cells base s m m′ → TableSplit n live used cells start s m m′
-  table-from s e h = rw e at h
-
-  module _ {m₀ m m′ : Map} (base : ℕ) where
-    pub table-two : LinesSplit n live used cells base false 1 n m₀ m → LinesSplit n live used cells base true n 1 m m′ → TableSplit n live used cells base 2 m₀ m′
-    table-two s u = split-more (λ g h. h .1) (λ g p q. (p, q)) (split-said (λ g h. h .0) (λ h. h) s) u
-
-    pub table-three : {m″ : Map} → PlanesSplit n live used cells base false false n 1 (n * n) m₀ m → PlanesSplit n live used cells base true false (n * n) 1 n m m′
-        → PlanesSplit n live used cells base true true (n * n) n 1 m′ m″ → TableSplit n live used cells base 3 m₀ m″
-    table-three s u v =
-        split-more {Done = λ g. (Planes (Chosen live used false) (Chosen live used false) (KeepsOn (Listed live used)) cells base n 1 (n * n) g × Planes (Chosen live used true) (Chosen live used false) (KeepsOn (Listed live used)) cells base (n * n) 1 n g)}
+  pub table-three : {m′ m″ : Map} {others others′ others″ : List ℕ} {left left′ left″ : ℕ} → PlanesWalked n live used cells base false false n 1 (n * n) m₀ m others left
+      → PlanesWalked n live used cells base true false (n * n) 1 n m m′ others′ left′ → PlanesWalked n live used cells base true true (n * n) n 1 m′ m″ others″ left″
+      → TableWalked n live used cells base 3 m₀ m″ others″ left″
+  table-three s u v = record {
+    walked = walk-more {Done = λ g. (Planes (Chosen live used false) (Chosen live used false) (KeepsOn (Listed live used)) cells base n 1 (n * n) g
+        × Planes (Chosen live used true) (Chosen live used false) (KeepsOn (Listed live used)) cells base (n * n) 1 n g)}
         (λ g h. h .1 .1) (λ g p q. (p .0, (p .1, q)))
-        (split-more (λ g h. h .1 .0) (λ g p q. (p, q)) (split-said (λ g h. h .0) (λ h. h) s) u) v
+        (walk-more (λ g h. h .1 .0) (λ g p q. (p, q)) (walk-said (λ g h. h .0) (λ h. h) (s .walked)) (u .walked)) (v .walked);
+  }
+
+module _ {n : ℕ} {live : List ℕ} {used : ℕ} {cells : List ℕ} {base s : ℕ} {m : Map} where
+  pub table-of : {k : ℕ} {m′ : Map} {others′ : List ℕ} {left′ : ℕ} → TableWalked n live used cells base k m m′ others′ left′ → s ≡ k → TableWalked n live used cells base s m m′ others′ left′
+  table-of u e = rw e u
+
+  -- a constant has no lines
+  pub table-none : {others : List ℕ} {left : ℕ} → Walk n live used cells m others left → s ≤ 3 → ¬ (s ≡ 1) → ¬ (s ≡ 2) → ¬ (s ≡ 3) → TableWalked n live used cells base s m m others left
+  table-none w l p q r = let e : s ≡ 0 = omega arith in rw e (record { walked = walk-none w tt })

@@ -8,8 +8,8 @@ use lib.ListN.{length, getD}
 use Rattle.equivalence.specs.Equivalence.{Map, byte}
 use Rattle.kernel.specs.InnerKernel.{Listed, Canonical, Within, KeptPast, names}
 use Rattle.algebra.specs.Algebra.{Algebra}
-use Rattle.translation.specs.InnerTranslations.{Compatible}
-use Rattle.translation.specs.InnerLines.{lineAt}
+use Rattle.translation.specs.InnerTranslations.{Compatible, Refined}
+use Rattle.translation.specs.InnerLines.{lineAt, LineInside, PlaneInside}
 
 -- the first `count` members of a list are elements
 pub record Elements (n : ℕ) (list : List ℕ) (count : ℕ) : Type 0 where
@@ -57,10 +57,44 @@ pub record MapLent (n : ℕ) (m cells : List ℕ) : Type 0 where
   pub canonical : Canonical n (byte m)
   pub below : (i : ℕ) → i < length cells → getD cells i 0 < n
 
--- and what every split is lent: 64 rows of 64 bytes beside it
-pub record SplitLent (n : ℕ) (m cells seen : List ℕ) : Type 0 where
+-- and what every line is split by: a line within the cells beside it
+pub record LineLent (n : ℕ) (m cells : List ℕ) (base stride : ℕ) : Type 0 where
   pub map : MapLent n m cells
-  pub rows : 4096 ≤ length seen
+  pub line : LineInside n cells base stride
+
+-- what lies on a line at x, and at the smallest member of its block
+pub record ImagesLent (n : ℕ) (m cells : List ℕ) (base stride x : ℕ) : Type 0 where
+  pub small : n ≤ 64
+  pub room : n ≤ length m
+  pub element : x < n
+  pub named : byte m x < n
+  pub inside : base + x * stride < length cells
+  pub below : lineAt cells base stride x < n
+  pub first-inside : base + byte m x * stride < length cells
+  pub first-below : lineAt cells base stride (byte m x) < n
+
+-- what lies at two cells
+pub record CellsLent (n : ℕ) (m cells : List ℕ) (p q : ℕ) : Type 0 where
+  pub small : n ≤ 64
+  pub room : n ≤ length m
+  pub first-inside : p < length cells
+  pub first-below : byte cells p < n
+  pub second-inside : q < length cells
+  pub second-below : byte cells q < n
+
+-- a map, and two rows of a plane whose lines begin one after the other: that of x, and that of the smallest member of its block
+pub record RowsLent (n : ℕ) (m cells : List ℕ) (base stride x : ℕ) : Type 0 where
+  pub map : MapLent n m cells
+  pub plane : PlaneInside n cells base 1 stride
+  pub element : x < n
+  pub named : byte m x < n
+  pub here : base + x * stride < length cells
+  pub there : base + byte m x * stride < length cells
+
+-- whether two names are of different blocks
+pub record Parted (v w : ℕ) (r : Bool) : Type 0 where
+  pub yes : r ≡ true → v ≡ w → ⊥
+  pub no : r ≡ false → v ≡ w
 
 -- t takes x to another block than the smallest member of x's block
 abbrev pub Breaks : (ℕ → ℕ) → (ℕ → ℕ) → ℕ → Type 0
@@ -80,6 +114,14 @@ pub record Alike (t f : ℕ → ℕ) (In : ℕ → Type 0) (x y : ℕ) : Type 0 
   pub after : In (f x) → f (t y) ≡ f (t x)
   pub first : (z : ℕ) → z < y → f z ≡ f x → (In (f x) → f (t z) ≡ f (t x)) → ⊥
 
+-- of the blocks that are split: one
+unfoldable pub Only : ℕ → ℕ → Type 0
+Only name v = v ≡ name
+
+-- or all
+unfoldable pub Every : ℕ → Type 0
+Every v = Unit {0}
+
 -- y is the first element of the block named `name` that t takes to the block named v
 pub record FirstInto (t f : ℕ → ℕ) (name v y : ℕ) : Type 0 where
   pub block : f y ≡ name
@@ -92,42 +134,46 @@ pub record FirstsSeen (t f : ℕ → ℕ) (name x : ℕ) (seen : ℕ → ℕ) : 
   pub first : (v : ℕ) → v < 64 → seen v < 64 → FirstInto t f name v (seen v)
   pub none : (v : ℕ) → v < 64 → 64 ≤ seen v → (z : ℕ) → z < x → f z ≡ name → f (t z) ≡ v → ⊥
 
--- the row of a block in the 64 rows of 64 bytes
+-- a row of 64 bytes
 abbrev pub rowAt : List ℕ → ℕ → ℕ → ℕ
-rowAt seen name v = byte seen (name * 64 + v)
+rowAt seen row v = byte seen (row * 64 + v)
 
 -- the other rows are as they were
 abbrev pub OtherRows : ℕ → List ℕ → List ℕ → Type 0
-OtherRows name seen seen′ = (b v : ℕ) → (b ≡ name → ⊥) → v < 64 → rowAt seen′ b v ≡ rowAt seen b v
+OtherRows row seen seen′ = (b v : ℕ) → (b ≡ row → ⊥) → v < 64 → rowAt seen′ b v ≡ rowAt seen b v
 
--- nothing is seen of the block named `name`
-pub record Cleared (name : ℕ) (seen seen′ : List ℕ) : Type 0 where
-  pub here : (v : ℕ) → v < 64 → rowAt seen′ name v ≡ 64
-  pub there : OtherRows name seen seen′
+-- the row of the block of x has those elements of it below x that are first with their image; and where x and its image lie
+pub record Seen (n : ℕ) (m cells : List ℕ) (base stride row x : ℕ) (seen : List ℕ) : Type 0 where
+  pub canonical : Canonical n (byte m)
+  pub small : n ≤ 64
+  pub room : n ≤ length m
+  pub element : x < n
+  pub inside : base + x * stride < length cells
+  pub below : lineAt cells base stride x < n
+  pub image : byte m (lineAt cells base stride x) < n
+  pub row-inside : row * 64 + 64 ≤ length seen
+  pub firsts : FirstsSeen (lineAt cells base stride) (byte m) (byte m x) x (rowAt seen row)
 
--- nothing is seen of a block that begins at x
-pub record Begun (f : ℕ → ℕ) (x : ℕ) (seen seen′ : List ℕ) : Type 0 where
-  pub here : f x ≡ x → (v : ℕ) → v < 64 → rowAt seen′ x v ≡ 64
-  pub there : OtherRows x seen seen′
+-- each block's row has its elements below x
+pub record RowsSeen (t f : ℕ → ℕ) (x : ℕ) (seen : List ℕ) : Type 0 where
+  pub row : (b : ℕ) → b < 64 → FirstsSeen t f b x (rowAt seen b)
 
--- the row of each block that begins below k has its elements below x
-pub record RowsSeen (t f : ℕ → ℕ) (k x : ℕ) (seen : List ℕ) : Type 0 where
-  pub row : (b : ℕ) → b < k → f b ≡ b → FirstsSeen t f b x (rowAt seen b)
-
--- y is the new name of x, by the row of the block named `name`, and x is seen
-pub record Renamed (t f : ℕ → ℕ) (name x : ℕ) (seen seen′ : List ℕ) (y : ℕ) : Type 0 where
-  pub alike : Alike t f (λ v. v ≡ name) x y
-  pub row : FirstsSeen t f name (x + 1) (rowAt seen′ name)
-  pub others : OtherRows name seen seen′
+-- y is the new name of x, by the row of its block, and x is seen
+pub record Renamed (t f : ℕ → ℕ) (row x : ℕ) (seen seen′ : List ℕ) (y : ℕ) : Type 0 where
+  pub alike : Alike t f (Only (f x)) x y
+  pub firsts : FirstsSeen t f (f x) (x + 1) (rowAt seen′ row)
+  pub others : OtherRows row seen seen′
 
 -- of a list those are kept that are no smallest members of f
 pub record Sifted (f : ℕ → ℕ) (list : List ℕ) (count : ℕ) (list′ : List ℕ) (count′ : ℕ) : Type 0 where
   pub fewer : count′ ≤ count
+  pub room : count′ ≤ length list′
   pub old : (i : ℕ) → i < count′ → Listed list count (byte list′ i)
   pub all : (x : ℕ) → Listed list count x → ¬ (f x ≡ x) → Listed list′ count′ x
 
 -- two lists have the same members
 pub record Turned (count : ℕ) (list list′ : List ℕ) : Type 0 where
+  pub room : count ≤ length list′
   pub all : (x : ℕ) → Listed list count x → Listed list′ count x
   pub old : (x : ℕ) → Listed list′ count x → Listed list count x
 
@@ -136,6 +182,21 @@ pub record Lists (n : ℕ) (live : List ℕ) (used : ℕ) (others : List ℕ) (l
   pub live-elements : Elements n live used
   pub elements : Elements n others left
   pub all : (x : ℕ) → Listed live used x → ¬ (f x ≡ x) → Listed others left x
+
+-- a map, and the line of a plane that begins at r times its row
+pub record LineAt (n : ℕ) (m cells : List ℕ) (base row stride r : ℕ) : Type 0 where
+  pub lent : LineLent n m cells (base + r * row) stride
+  pub element : r < n
+  pub named : byte m r < n
+  pub begins : base + r * row < length cells
+
+-- a map, and the plane of a solid that begins at r times its layer
+pub record PlaneAt (n : ℕ) (m cells : List ℕ) (base layer row stride r : ℕ) : Type 0 where
+  pub map : MapLent n m cells
+  pub plane : PlaneInside n cells (base + r * layer) row stride
+  pub element : r < n
+  pub named : byte m r < n
+  pub begins : base + r * layer < length cells
 
 -- m was split into m′: inside m, and above every g inside m of which `Good` holds. Where m′ has no block more it is m, and `Done` holds of it.
 pub record Split (n : ℕ) (Good Done : (ℕ → ℕ) → Type 0) (m m′ : Map) : Type 0 where
@@ -147,13 +208,68 @@ pub record Split (n : ℕ) (Good Done : (ℕ → ℕ) → Type 0) (m m′ : Map)
   pub still : names n (byte m′) ≡ names n (byte m) → m′ ≡ m
   pub done : names n (byte m′) ≡ names n (byte m) → Done (byte m′)
 
+-- m was split into m′, which is lent as m was
+pub record MapSplit (n : ℕ) (cells : List ℕ) (Good Done : (ℕ → ℕ) → Type 0) (m m′ : Map) : Type 0 where
+  pub split : Split n Good Done m m′
+  pub map : MapLent n m′ cells
+
 -- asked of no map: what is done where this is done has a block more
 abbrev pub Never : (ℕ → ℕ) → Type 0
 Never g = ⊥
 
+-- along a line that breaks: there is a block more
+pub record LineParted (n : ℕ) (cells : List ℕ) (base stride : ℕ) (m m′ : Map) : Type 0 where
+  pub parted : MapSplit n cells (Keeps n (lineAt cells base stride)) Never m m′
+
+-- along a line, as far as a list tells, and the list was sifted
+pub record LineSplit (n : ℕ) (cells : List ℕ) (base stride : ℕ) (m m′ : Map) (list : List ℕ) (count : ℕ) (list′ : List ℕ) (count′ : ℕ) : Type 0 where
+  pub split : MapSplit n cells (Keeps n (lineAt cells base stride)) (KeepsOn (Listed list count) (lineAt cells base stride)) m m′
+  pub sifted : Sifted (byte m′) list count list′ count′
+
+-- the same, if r is a smallest member
+pub record ChosenSplit (n : ℕ) (cells : List ℕ) (base stride r : ℕ) (m m′ : Map) (list : List ℕ) (count : ℕ) (list′ : List ℕ) (count′ : ℕ) : Type 0 where
+  pub split : MapSplit n cells (Keeps n (lineAt cells base stride)) (λ g. g r ≡ r → KeepsOn (Listed list count) (lineAt cells base stride) g) m m′
+  pub sifted : Sifted (byte m′) list count list′ count′
+
 -- at every listed context the line keeps x beside the smallest member of its block; contexts are next to each other
 abbrev pub ElementKept : List ℕ → ℕ → List ℕ → ℕ → ℕ → ℕ → (ℕ → ℕ) → Type 0
 ElementKept live used cells base stride x g = (c : ℕ) → Listed live used c → g (lineAt cells (base + c * 1) stride x) ≡ g (lineAt cells (base + c * 1) stride (g x))
+
+-- m was split along the lines that took x from the smallest member of its block
+pub record ElementSplit (n : ℕ) (live : List ℕ) (used : ℕ) (cells : List ℕ) (base stride x : ℕ) (m m′ : Map) : Type 0 where
+  pub split : MapSplit n cells (Lines (Any n false) (Keeps n) cells base 1 stride) (ElementKept live used cells base stride x) m m′
+
+-- what a walk over the lines of a table is lent: a map and cells, the elements in use, and a list that has those of them that are no smallest members
+pub record Walk (n : ℕ) (live : List ℕ) (used : ℕ) (cells : List ℕ) (m : Map) (others : List ℕ) (left : ℕ) : Type 0 where
+  pub map : MapLent n m cells
+  pub lists : Lists n live used others left (byte m)
+
+-- what a walk gives: m was split, and the next walk is lent the same again
+pub record Walked (n : ℕ) (live : List ℕ) (used : ℕ) (cells : List ℕ) (Good Done : (ℕ → ℕ) → Type 0) (m m′ : Map) (others′ : List ℕ) (left′ : ℕ) : Type 0 where
+  pub split : Split n Good Done m m′
+  pub walk : Walk n live used cells m′ others′ left′
+
+-- a walk over the lines of a plane
+pub record LinesWalked (n : ℕ) (live : List ℕ) (used : ℕ) (cells : List ℕ) (base : ℕ) (named : Bool) (row stride : ℕ) (m m′ : Map) (others′ : List ℕ) (left′ : ℕ) : Type 0 where
+  pub walked : Walked n live used cells (Lines (Any n named) (Keeps n) cells base row stride) (Lines (Chosen live used named) (KeepsOn (Listed live used)) cells base row stride) m m′ others′ left′
+
+-- over those of the plane at r, which is looked at where `named` says no, or r is a smallest member
+pub record PlaneWalked (n : ℕ) (live : List ℕ) (used : ℕ) (cells : List ℕ) (base r : ℕ) (named inner : Bool) (row stride : ℕ) (m m′ : Map) (others′ : List ℕ) (left′ : ℕ) : Type 0 where
+  pub walked : Walked n live used cells (Lines (Any n inner) (Keeps n) cells base row stride)
+      (λ g. (named ≡ true → g r ≡ r) → Lines (Chosen live used inner) (KeepsOn (Listed live used)) cells base row stride g) m m′ others′ left′
+
+-- over the planes of a solid
+pub record PlanesWalked (n : ℕ) (live : List ℕ) (used : ℕ) (cells : List ℕ) (base : ℕ) (named inner : Bool) (layer row stride : ℕ) (m m′ : Map) (others′ : List ℕ) (left′ : ℕ) : Type 0 where
+  pub walked : Walked n live used cells (Planes (Any n named) (Any n inner) (Keeps n) cells base layer row stride)
+      (Planes (Chosen live used named) (Chosen live used inner) (KeepsOn (Listed live used)) cells base layer row stride) m m′ others′ left′
+
+-- over a table
+pub record TableWalked (n : ℕ) (live : List ℕ) (used : ℕ) (cells : List ℕ) (base s : ℕ) (m m′ : Map) (others′ : List ℕ) (left′ : ℕ) : Type 0 where
+  pub walked : Walked n live used cells (Table (Any n) (Keeps n) n cells base s) (Table (Chosen live used) (KeepsOn (Listed live used)) n cells base s) m m′ others′ left′
+
+-- over all tables of an algebra
+pub record AllWalked (a : Algebra) (live : List ℕ) (used : ℕ) (m m′ : Map) (others′ : List ℕ) (left′ : ℕ) : Type 0 where
+  pub walked : Walked (a .size) live used (a .cells) (Compatible a) (Compatible a) m m′ others′ left′
 
 -- r is the first index of a context at which it does not, or `used`
 pub record Apart (live : List ℕ) (used : ℕ) (cells : List ℕ) (base stride x : ℕ) (f : ℕ → ℕ) (r : ℕ) : Type 0 where
@@ -169,3 +285,8 @@ pub record Represented (a : Algebra) (live : List ℕ) (used : ℕ) (e : ℕ →
   pub compatible : Compatible a name
   pub within : Within (a .size) name e
   pub listed : (x : ℕ) → x < a .size → Listed live used (name x)
+
+-- m became the greatest congruence inside it, and what is past its n bytes stayed
+pub record MapRefined (a : Algebra) (m m′ : Map) : Type 0 where
+  pub refined : Refined a (byte m) (byte m′)
+  pub rest : KeptPast (a .size) (byte m) (byte m′)

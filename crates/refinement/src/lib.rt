@@ -6,10 +6,11 @@ ghost use Rattle.kernel.specs.InnerKernel.{Canonical, KeptPast};
 ghost use Rattle.algebra.specs.Accepted.{Accepted};
 ghost use Rattle.algebra.specs.Algebra.{algebraIn};
 ghost use Rattle.translation.specs.InnerTranslations.{Refined};
-ghost use Rattle.refinement.specs.InnerSplitting.{Lists, Represented};
+ghost use Rattle.refinement.specs.InnerSplitting.{Walk, MapRefined, Represented};
 
 pub mod line;
-mod walk;
+mod plane;
+mod table;
 
 use line::Round;
 
@@ -24,16 +25,11 @@ fn refine_by(
     used: usize,
     others: &mut [u8],
     start: usize,
-    seen: &mut [u8],
 )
     requires { ⌜ Accepted (algebraIn n arities cells) ⌝ }
-    requires { ⌜ n ≤ length (now m) ⌝ }
-    requires { ⌜ 4096 ≤ length (now seen) ⌝ }
-    requires { ⌜ Canonical n (byte (now m)) ⌝ }
+    requires { ⌜ Walk n (now live) used (now cells) (now m) (now others) start ⌝ }
     requires { ⌜ Represented (algebraIn n arities cells) (now live) used (byte (now m)) ⌝ }
-    requires { ⌜ Lists n (now live) used (now others) start (byte (now m)) ⌝ }
-    ensures { λ _. ⌜ Refined (algebraIn n (arities .entry) (cells .entry)) (byte (now (m .entry))) (byte (now (m .exit))) ⌝ }
-    ensures { λ _. ⌜ KeptPast n (byte (now (m .entry))) (byte (now (m .exit))) ⌝ }
+    ensures { λ _. ⌜ MapRefined (algebraIn n (arities .entry) (cells .entry)) (now (m .entry)) (now (m .exit)) ⌝ }
 {
     let mut again = cells.len() == n;
     let mut left = start;
@@ -41,8 +37,8 @@ fn refine_by(
     if count == 1 {
         return;
     }
-    while count < n {
-        left = walk::split_all(
+    while 0 < left {
+        left = table::split_all(
             m,
             Round { n, used, again },
             arities,
@@ -50,7 +46,6 @@ fn refine_by(
             live,
             others,
             left,
-            seen,
         );
         let found = equivalence::map::block_count(n, m);
         if found == count {
@@ -62,7 +57,7 @@ fn refine_by(
     }
 }
 
-// `refine_above` with room for the list of those elements in use that are no smallest members, and for what a split sees.
+// `refine_above` with room for the list of those elements in use that are no smallest members.
 fn refine_in(
     m: &mut [u8],
     n: usize,
@@ -71,20 +66,17 @@ fn refine_in(
     live: &[u8],
     used: usize,
     others: &mut [u8],
-    seen: &mut [u8],
 )
     requires { ⌜ Accepted (algebraIn n arities cells) ⌝ }
     requires { ⌜ n ≤ length (now m) ⌝ }
     requires { ⌜ Canonical n (byte (now m)) ⌝ }
     requires { ⌜ Represented (algebraIn n arities cells) (now live) used (byte (now m)) ⌝ }
     requires { ⌜ used ≤ length (now others) ⌝ }
-    requires { ⌜ 4096 ≤ length (now seen) ⌝ }
-    ensures { λ _. ⌜ Refined (algebraIn n (arities .entry) (cells .entry)) (byte (now (m .entry))) (byte (now (m .exit))) ⌝ }
-    ensures { λ _. ⌜ KeptPast n (byte (now (m .entry))) (byte (now (m .exit))) ⌝ }
+    ensures { λ _. ⌜ MapRefined (algebraIn n (arities .entry) (cells .entry)) (now (m .entry)) (now (m .exit)) ⌝ }
 {
     equivalence::blocks::copy(used, live, others);
     let left = line::sift(m, others, used);
-    refine_by(m, n, arities, cells, live, used, others, left, seen);
+    refine_by(m, n, arities, cells, live, used, others, left);
 }
 
 // The first n bytes of m become the greatest congruence inside the map that they write; those past n keep their value. Only listed
@@ -102,8 +94,7 @@ pub fn refine_above(m: &mut [u8], n: usize, arities: &[u8], cells: &[u8], live: 
         return;
     }
     let mut others = [0u8; 64];
-    let mut seen = [0u8; 4096];
-    refine_in(m, n, arities, cells, live, used, &mut others, &mut seen);
+    refine_in(m, n, arities, cells, live, used, &mut others);
 }
 
 // The first n bytes of m become the greatest congruence inside the map that they write; those past n keep their value.

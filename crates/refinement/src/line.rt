@@ -4,10 +4,11 @@ ghost use mathlib.Core.Path.{_≡_};
 ghost use Prim.Native.Nat.{ℕ, _+_, _*_, _<_, _≤_};
 ghost use lib.ListN.{length};
 ghost use Rattle.equivalence.specs.Equivalence.{byte};
-ghost use Rattle.kernel.specs.InnerKernel.{Listed, KeptPast, seenOr};
+ghost use Rattle.kernel.specs.InnerKernel.{KeptPast, seenOr};
 ghost use Rattle.translation.specs.InnerLines.{lineAt, LineInside};
-ghost use Rattle.refinement.specs.InnerSplitting.{Elements, Keeps, KeepsOn, MapLent, SplitLent, Breaks, Broken, Alike, FirstsSeen, Cleared, Begun, Renamed, rowAt, Sifted, Turned, Split, Never};
+ghost use Rattle.refinement.specs.InnerSplitting.{Elements, MapLent, LineLent, ImagesLent, Parted, Breaks, Broken, Alike, Only, Every, Seen, FirstsSeen, Renamed, rowAt, Sifted, LineParted, LineSplit, Turned};
 use equivalence::checks::MAX_SIZE;
+use equivalence::lattice::NAME_PAIRS;
 use equivalence::lattice::NONE;
 
 // Where a line begins, and how far its cells are apart.
@@ -21,6 +22,20 @@ pub struct Round {
     pub n: usize,
     pub used: usize,
     pub again: bool,
+}
+
+// Whether the line takes x to another block than the smallest member of its block.
+fn breaks(m: &[u8], n: usize, cells: &[u8], line: Line, x: usize) -> bool
+    requires { ⌜ ImagesLent n (now m) (now cells) (line .base) (line .stride) x ⌝ }
+    ensures { λ r. ⌜ Parted (byte (now (m .entry)) (lineAt (now (cells .entry)) (line .base) (line .stride) x)) (byte (now (m .entry)) (lineAt (now (cells .entry)) (line .base) (line .stride) (byte (now (m .entry)) x))) r ⌝ }
+{
+    let first = m[x] as usize;
+    let image = cells[line.base + x * line.stride] as usize;
+    let expected = cells[line.base + first * line.stride] as usize;
+    if m[image] == m[expected] {
+        return false;
+    }
+    true
 }
 
 // The first index from `start` on of an element whose image is in another block than the image of its block's smallest member, or `count`.
@@ -39,47 +54,15 @@ pub fn broken_from(
     requires { ⌜ start ≤ count ⌝ }
     ensures { λ r. ⌜ Broken (lineAt (now (cells .entry)) (line .base) (line .stride)) (byte (now (m .entry))) (now (list .entry)) count start r ⌝ }
 {
-    let base = line.base;
-    let stride = line.stride;
     let mut i = start;
     while i < count {
         let x = list[i] as usize;
-        let first = m[x] as usize;
-        let image = cells[base + x * stride] as usize;
-        let expected = cells[base + first * stride] as usize;
-        if m[image] != m[expected] {
+        if breaks(m, n, cells, line, x) {
             return i;
         }
         i += 1;
     }
     count
-}
-
-// Nothing is seen any more of the block called `name`.
-fn clear_row(seen: &mut [u8], name: usize)
-    requires { ⌜ 4096 ≤ length (now seen) ⌝ }
-    requires { ⌜ name < 64 ⌝ }
-    ensures { λ _. ⌜ Cleared name (now (seen .entry)) (now (seen .exit)) ⌝ }
-{
-    let row = name * MAX_SIZE;
-    let mut v = 0;
-    while v < MAX_SIZE {
-        seen[row + v] = NONE;
-        v += 1;
-    }
-}
-
-// Nothing is seen yet of a block whose first element is x.
-fn begin_block(m: &[u8], seen: &mut [u8], x: usize)
-    requires { ⌜ 4096 ≤ length (now seen) ⌝ }
-    requires { ⌜ x < 64 ⌝ }
-    requires { ⌜ x < length (now m) ⌝ }
-    ensures { λ _. ⌜ Begun (byte (now (m .entry))) x (now (seen .entry)) (now (seen .exit)) ⌝ }
-{
-    if m[x] as usize != x {
-        return;
-    }
-    clear_row(seen, x);
 }
 
 // The one seen, or x where none was.
@@ -90,29 +73,42 @@ fn first_seen(seen: u8, x: usize) -> u8
     if seen < NONE { seen } else { x as u8 }
 }
 
-// The new name of x, once those below x are named: the first element of its block, in the block called `name` the first whose image is in
-// one block with the image of x. The row of that block has those first ones by the image's block.
-fn renamed(m: &[u8], n: usize, cells: &[u8], line: Line, seen: &mut [u8], name: u8, x: usize) -> u8
-    requires { ⌜ SplitLent n (now m) (now cells) (now seen) ⌝ }
-    requires { ⌜ LineInside n (now cells) (line .base) (line .stride) ⌝ }
-    requires { ⌜ x < n ⌝ }
-    requires { ⌜ name < n ⌝ }
-    requires { ⌜ FirstsSeen (lineAt (now cells) (line .base) (line .stride)) (byte (now m)) name x (rowAt (now seen) name) ⌝ }
-    ensures { λ r. ⌜ Renamed (lineAt (now (cells .entry)) (line .base) (line .stride)) (byte (now (m .entry))) name x (now (seen .entry)) (now (seen .exit)) r ⌝ }
+// The first element of the block of x whose image is in one block with the image of x. Row `row` of 64 bytes has those below x, by the image's block; then x too.
+fn first_alike(
+    m: &[u8],
+    n: usize,
+    cells: &[u8],
+    line: Line,
+    seen: &mut [u8],
+    row: usize,
+    x: usize,
+) -> u8
+    requires { ⌜ Seen n (now m) (now cells) (line .base) (line .stride) row x (now seen) ⌝ }
+    ensures { λ r. ⌜ Renamed (lineAt (now (cells .entry)) (line .base) (line .stride)) (byte (now (m .entry))) row x (now (seen .entry)) (now (seen .exit)) r ⌝ }
 {
-    let base = line.base;
-    let stride = line.stride;
-    if m[x] != name {
-        return m[x];
-    }
-    let v = cells[base + x * stride] as usize;
-    let place = name as usize * MAX_SIZE + m[v] as usize;
+    let v = cells[line.base + x * line.stride] as usize;
+    let place = row * MAX_SIZE + m[v] as usize;
     let first = first_seen(seen[place], x);
     seen[place] = first;
     first
 }
 
-// Names every element anew where the block called `name` is split.
+// The new name of x, once those below x are named: the same where x is in the block called `name`, and else the name that it has.
+fn renamed(m: &[u8], n: usize, cells: &[u8], line: Line, seen: &mut [u8], name: u8, x: usize) -> u8
+    requires { ⌜ LineLent n (now m) (now cells) (line .base) (line .stride) ⌝ }
+    requires { ⌜ x < n ⌝ }
+    requires { ⌜ 64 ≤ length (now seen) ⌝ }
+    requires { ⌜ FirstsSeen (lineAt (now cells) (line .base) (line .stride)) (byte (now m)) name x (rowAt (now seen) 0) ⌝ }
+    ensures { λ r. ⌜ Alike (lineAt (now (cells .entry)) (line .base) (line .stride)) (byte (now (m .entry))) (Only name) x r ⌝ }
+    ensures { λ _. ⌜ FirstsSeen (lineAt (now (cells .entry)) (line .base) (line .stride)) (byte (now (m .entry))) name (x + 1) (rowAt (now (seen .exit)) 0) ⌝ }
+{
+    if m[x] != name {
+        return m[x];
+    }
+    first_alike(m, n, cells, line, seen, 0, x)
+}
+
+// Names every element anew where the block called `name` is split. Nothing is seen of it yet.
 fn rename_block(
     m: &[u8],
     next: &mut [u8],
@@ -122,12 +118,11 @@ fn rename_block(
     seen: &mut [u8],
     name: u8,
 )
-    requires { ⌜ SplitLent n (now m) (now cells) (now seen) ⌝ }
-    requires { ⌜ LineInside n (now cells) (line .base) (line .stride) ⌝ }
+    requires { ⌜ LineLent n (now m) (now cells) (line .base) (line .stride) ⌝ }
     requires { ⌜ n ≤ length (now next) ⌝ }
-    requires { ⌜ name < n ⌝ }
-    requires { ⌜ ((v : ℕ) → v < 64 → rowAt (now seen) name v ≡ 64) ⌝ }
-    ensures { λ _. ⌜ ((x : ℕ) → x < n → Alike (lineAt (now (cells .entry)) (line .base) (line .stride)) (byte (now (m .entry))) (λ v. v ≡ name) x (byte (now (next .exit)) x)) ⌝ }
+    requires { ⌜ 64 ≤ length (now seen) ⌝ }
+    requires { ⌜ ((v : ℕ) → v < 64 → rowAt (now seen) 0 v ≡ 64) ⌝ }
+    ensures { λ _. ⌜ ((x : ℕ) → x < n → Alike (lineAt (now (cells .entry)) (line .base) (line .stride)) (byte (now (m .entry))) (Only name) x (byte (now (next .exit)) x)) ⌝ }
 {
     let mut x = 0;
     while x < n {
@@ -136,61 +131,58 @@ fn rename_block(
     }
 }
 
-// Names every element anew where all blocks are split.
+// Names every element anew where all blocks are split. Nothing is seen of them yet.
 fn rename_all(m: &[u8], next: &mut [u8], n: usize, cells: &[u8], line: Line, seen: &mut [u8])
-    requires { ⌜ SplitLent n (now m) (now cells) (now seen) ⌝ }
-    requires { ⌜ LineInside n (now cells) (line .base) (line .stride) ⌝ }
+    requires { ⌜ LineLent n (now m) (now cells) (line .base) (line .stride) ⌝ }
     requires { ⌜ n ≤ length (now next) ⌝ }
-    ensures { λ _. ⌜ ((x : ℕ) → x < n → Alike (lineAt (now (cells .entry)) (line .base) (line .stride)) (byte (now (m .entry))) (λ v. Unit {0}) x (byte (now (next .exit)) x)) ⌝ }
+    requires { ⌜ 4096 ≤ length (now seen) ⌝ }
+    requires { ⌜ ((v : ℕ) → v < 4096 → byte (now seen) v ≡ 64) ⌝ }
+    ensures { λ _. ⌜ ((x : ℕ) → x < n → Alike (lineAt (now (cells .entry)) (line .base) (line .stride)) (byte (now (m .entry))) Every x (byte (now (next .exit)) x)) ⌝ }
 {
     let mut x = 0;
     while x < n {
-        begin_block(m, seen, x);
-        next[x] = renamed(m, n, cells, line, seen, m[x], x);
+        next[x] = first_alike(m, n, cells, line, seen, m[x] as usize, x);
         x += 1;
     }
 }
 
 // Splits the block called `name` along the line.
-fn split_block(m: &mut [u8], n: usize, cells: &[u8], line: Line, seen: &mut [u8], name: u8)
-    requires { ⌜ SplitLent n (now m) (now cells) (now seen) ⌝ }
-    requires { ⌜ LineInside n (now cells) (line .base) (line .stride) ⌝ }
-    requires { ⌜ name < n ⌝ }
-    ensures { λ _. ⌜ ((x : ℕ) → x < n → Alike (lineAt (now (cells .entry)) (line .base) (line .stride)) (byte (now (m .entry))) (λ v. v ≡ name) x (byte (now (m .exit)) x)) ⌝ }
+fn split_block(m: &mut [u8], n: usize, cells: &[u8], line: Line, name: u8)
+    requires { ⌜ LineLent n (now m) (now cells) (line .base) (line .stride) ⌝ }
+    ensures { λ _. ⌜ ((x : ℕ) → x < n → Alike (lineAt (now (cells .entry)) (line .base) (line .stride)) (byte (now (m .entry))) (Only name) x (byte (now (m .exit)) x)) ⌝ }
     ensures { λ _. ⌜ KeptPast n (byte (now (m .entry))) (byte (now (m .exit))) ⌝ }
 {
     let mut next = [0u8; 64];
-    clear_row(seen, name as usize);
-    rename_block(m, &mut next, n, cells, line, seen, name);
+    let mut seen = [NONE; 64];
+    rename_block(m, &mut next, n, cells, line, &mut seen, name);
     equivalence::blocks::copy(n, &next, m);
 }
 
 // Splits all blocks along the line.
-fn split_blocks(m: &mut [u8], n: usize, cells: &[u8], line: Line, seen: &mut [u8])
-    requires { ⌜ SplitLent n (now m) (now cells) (now seen) ⌝ }
-    requires { ⌜ LineInside n (now cells) (line .base) (line .stride) ⌝ }
-    ensures { λ _. ⌜ ((x : ℕ) → x < n → Alike (lineAt (now (cells .entry)) (line .base) (line .stride)) (byte (now (m .entry))) (λ v. Unit {0}) x (byte (now (m .exit)) x)) ⌝ }
+fn split_blocks(m: &mut [u8], n: usize, cells: &[u8], line: Line)
+    requires { ⌜ LineLent n (now m) (now cells) (line .base) (line .stride) ⌝ }
+    ensures { λ _. ⌜ ((x : ℕ) → x < n → Alike (lineAt (now (cells .entry)) (line .base) (line .stride)) (byte (now (m .entry))) Every x (byte (now (m .exit)) x)) ⌝ }
     ensures { λ _. ⌜ KeptPast n (byte (now (m .entry))) (byte (now (m .exit))) ⌝ }
 {
     let mut parts = [0u8; 64];
-    rename_all(m, &mut parts, n, cells, line, seen);
+    let mut seen = [NONE; NAME_PAIRS];
+    rename_all(m, &mut parts, n, cells, line, &mut seen);
     equivalence::blocks::copy(n, &parts, m);
 }
 
 // Splits along a line that breaks at x: in the first round all blocks, since most are broken, later the block of x.
-pub fn split_at(m: &mut [u8], round: Round, cells: &[u8], line: Line, seen: &mut [u8], x: usize)
-    requires { ⌜ SplitLent (round .n) (now m) (now cells) (now seen) ⌝ }
-    requires { ⌜ LineInside (round .n) (now cells) (line .base) (line .stride) ⌝ }
+pub fn split_at(m: &mut [u8], round: Round, cells: &[u8], line: Line, x: usize)
+    requires { ⌜ LineLent (round .n) (now m) (now cells) (line .base) (line .stride) ⌝ }
     requires { ⌜ x < round .n ⌝ }
     requires { ⌜ Breaks (lineAt (now cells) (line .base) (line .stride)) (byte (now m)) x ⌝ }
-    ensures { λ _. ⌜ Split (round .n) (Keeps (round .n) (lineAt (now (cells .entry)) (line .base) (line .stride))) Never (now (m .entry)) (now (m .exit)) ⌝ }
+    ensures { λ _. ⌜ LineParted (round .n) (now (cells .entry)) (line .base) (line .stride) (now (m .entry)) (now (m .exit)) ⌝ }
 {
     if round.again {
         let name = m[x];
-        split_block(m, round.n, cells, line, seen, name);
+        split_block(m, round.n, cells, line, name);
         return;
     }
-    split_blocks(m, round.n, cells, line, seen);
+    split_blocks(m, round.n, cells, line);
 }
 
 // Splits along a line that breaks at the element at `start` of a list, and in later rounds wherever it still breaks behind that.
@@ -202,19 +194,17 @@ fn split_along(
     list: &[u8],
     count: usize,
     start: usize,
-    seen: &mut [u8],
 )
-    requires { ⌜ SplitLent (round .n) (now m) (now cells) (now seen) ⌝ }
-    requires { ⌜ LineInside (round .n) (now cells) (line .base) (line .stride) ⌝ }
+    requires { ⌜ LineLent (round .n) (now m) (now cells) (line .base) (line .stride) ⌝ }
     requires { ⌜ Elements (round .n) (now list) count ⌝ }
     requires { ⌜ start < count ⌝ }
     requires { ⌜ Breaks (lineAt (now cells) (line .base) (line .stride)) (byte (now m)) (byte (now list) start) ⌝ }
-    ensures { λ _. ⌜ Split (round .n) (Keeps (round .n) (lineAt (now (cells .entry)) (line .base) (line .stride))) Never (now (m .entry)) (now (m .exit)) ⌝ }
+    ensures { λ _. ⌜ LineParted (round .n) (now (cells .entry)) (line .base) (line .stride) (now (m .entry)) (now (m .exit)) ⌝ }
 {
     let mut k = start;
     while k < count {
         let x = list[k] as usize;
-        split_at(m, round, cells, line, seen, x);
+        split_at(m, round, cells, line, x);
         if !round.again {
             return;
         }
@@ -265,18 +255,15 @@ pub fn split_line(
     line: Line,
     list: &mut [u8],
     count: usize,
-    seen: &mut [u8],
 ) -> usize
-    requires { ⌜ SplitLent (round .n) (now m) (now cells) (now seen) ⌝ }
-    requires { ⌜ LineInside (round .n) (now cells) (line .base) (line .stride) ⌝ }
+    requires { ⌜ LineLent (round .n) (now m) (now cells) (line .base) (line .stride) ⌝ }
     requires { ⌜ Elements (round .n) (now list) count ⌝ }
-    ensures { λ _. ⌜ Split (round .n) (Keeps (round .n) (lineAt (now (cells .entry)) (line .base) (line .stride))) (KeepsOn (Listed (now (list .entry)) count) (lineAt (now (cells .entry)) (line .base) (line .stride))) (now (m .entry)) (now (m .exit)) ⌝ }
-    ensures { λ r. ⌜ Sifted (byte (now (m .exit))) (now (list .entry)) count (now (list .exit)) r ⌝ }
+    ensures { λ r. ⌜ LineSplit (round .n) (now (cells .entry)) (line .base) (line .stride) (now (m .entry)) (now (m .exit)) (now (list .entry)) count (now (list .exit)) r ⌝ }
 {
     let k = broken_from(m, round.n, cells, line, list, count, 0);
     if k == count {
         return count;
     }
-    split_along(m, round, cells, line, list, count, k, seen);
+    split_along(m, round, cells, line, list, count, k);
     sift(m, list, count)
 }

@@ -13,7 +13,8 @@ slice-aggregate-identity : tie.Need-slice-aggregate-identity
 slice-aggregate-identity c = search needs
 
 identity-requires : tie.Need-identity-requires
-identity-requires c κs = let s = c .before .before .before .before in let w = accepted-wellFormed (algebraOf (s .args .n) (s .args .arities .now) (s .args .cells .now)) (s .pre .0) in (omega (arith, length-replicate {A = ℕ} 64 0, w .most), w .most)
+identity-requires c κs = let s = c .before .before .before .before in let w = accepted-wellFormed (algebraOf (s .args .n) (s .args .arities .now) (s .args .cells .now)) (s .pre .0) in
+    (omega (arith, length-replicate {A = ℕ} 64 0, w .most), w .most)
 
 slice-aggregate-refine-above : tie.Need-slice-aggregate-refine-above
 slice-aggregate-refine-above c = search needs

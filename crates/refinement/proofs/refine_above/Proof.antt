@@ -1,8 +1,5 @@
 -- `refine_above` meets its contract: it lends the room.
-use Prim.Native.Nat.{ℕ}
 use mathlib.Core.Path.{refl}
-use native.Mathlib.Omega.{arith}
-use lib.ListN.{length-replicate}
 use Rattle.algebra.specs.Algebra.{algebraOf}
 use Rattle.refinement.proofs.Refinements.{bare-refined}
 use borrow.Author.Needs.{needs}
@@ -15,24 +12,20 @@ returns c = let s = c .before .before .before .before .before in let a = s .args
 slice-aggregate-refine-in : tie.Need-slice-aggregate-refine-in
 slice-aggregate-refine-in c = search needs
 
-slice-aggregate-refine-in-2 : tie.Need-slice-aggregate-refine-in-2
-slice-aggregate-refine-in-2 c = search needs
-
 refine-in-requires : tie.Need-refine-in-requires
-refine-in-requires c κs = let p = c .before .before .before .before .before .before .before .before .pre in (p .0, (p .1 .0, (p .1 .1 .0, (p .1 .1 .1 .0, (omega (arith, length-replicate {A = ℕ} 64 0, p .1 .1 .1 .1), omega (arith, length-replicate {A = ℕ} 4096 0))))))
+refine-in-requires c κs = (search needs, (search needs, (search needs, (search needs, search needs))))
 
 same-length : tie.Need-same-length
 same-length c = search needs
 
 returns-2 : tie.Need-returns-2
-returns-2 c = search needs
+returns-2 c = (search needs, search needs)
 
 pub refine-above-spec : {M : Type 1} → statement M
 refine-above-spec =
     tie.close
     (tie.spec returns
     slice-aggregate-refine-in
-    slice-aggregate-refine-in-2
     refine-in-requires
     same-length
     returns-2)

@@ -1,29 +1,25 @@
 -- `refine_in` meets its contract: of the elements in use, the others are listed first.
+use Rattle.refinement.proofs.Refinements.{copied-elements, walk-begins}
 use native.Mathlib.Omega.{arith}
-use Rattle.refinement.proofs.Refinements.{lists-first}
 use borrow.Author.Needs.{needs}
 use Rattle.refinement.proofs.refine_in.Statement.{statement}
 use Rattle.refinement.proofs.refine_in.Tie as tie
 
 copy-requires : tie.Need-copy-requires
-copy-requires c κs = let p = c .before .before .before .before .before .before .before .pre in (p .1 .1 .1 .0 .elements .room, p .1 .1 .1 .1 .0)
+copy-requires c κs = (search needs, search needs)
 
 sift-requires : tie.Need-sift-requires
-sift-requires c κs = let p = c .before .before .before .before .before .before .before .before .before .before .before .before .pre in let e = p .1 .1 .1 .0 .elements in record { room = omega (arith, p .1 .1 .1 .1 .0); below = λ i l. omega (arith, c .before .before .before .before .copy .ensures .first i l, e .below i l, p .1 .0) }
+sift-requires c κs = let p = c .before .before .before .before .before .before .before .before .before .before .before .pre in
+    copied-elements (p .1 .1 .1 .0 .elements) (c .before .before .before .before .copy .ensures) (p .1 .0) (omega (arith, p .1 .1 .1 .1))
 
 refine-by-requires : tie.Need-refine-by-requires
-refine-by-requires c κs =
-    let p = c .before .before .before .before .before .before .before .before .before .before .before .before .before .before .before .before .before .before .pre in
-    (p .0, (p .1 .0, (p .1 .1 .1 .1 .1, (p .1 .1 .0, (p .1 .1 .1 .0, lists-first (omega arith) (omega (arith, p .1 .1 .1 .1 .0)) (p .1 .1 .1 .0 .elements) (c .before .before .before .before .before .before .before .before .before .before .copy .ensures .first) (c .before .before .before .before .before .sift .ensures))))))
+refine-by-requires c κs = (search needs, (search walk-begins, search needs))
 
 same-length : tie.Need-same-length
 same-length c = search needs
 
 same-length-2 : tie.Need-same-length-2
 same-length-2 c = search needs
-
-same-length-3 : tie.Need-same-length-3
-same-length-3 c = search needs
 
 returns : tie.Need-returns
 returns c = search needs
@@ -36,5 +32,4 @@ refine-in-spec =
     refine-by-requires
     same-length
     same-length-2
-    same-length-3
     returns)

@@ -64,7 +64,7 @@ returns : tie.Need-returns Inv-loop μ-loop
 returns c =
     let l = c .before .loop in
     let e : l .i ≡ c .before .before .before .before .args .count = omega arith in
-    rw e at (sifting-sifted (l .inv .2))
+    rw e at (sifting-sifted (omega arith) (l .inv .2))
 
 pub sift-spec : {M : Type 1} → statement M
 sift-spec =

@@ -1,77 +1,55 @@
 -- `split_along` meets its contract. The loop has split along the line, and it breaks at the element at k.
-use Prim.Native.Nat.{_-_, _≤_, _<_}
+use Prim.Native.Nat.{_-_}
 use mathlib.Core.Path.{_≡_, refl}
-use native.Mathlib.Omega.{arith}
 use lib.ListN.{length}
-use Rattle.equivalence.specs.Equivalence.{byte}
-use Rattle.translation.specs.InnerLines.{lineAt}
-use Rattle.refinement.specs.InnerSplitting.{Keeps, Breaks, Split}
-use Rattle.refinement.proofs.Splits.{split-none, split-more, split-said, lent-again, split-lent-again}
+use Rattle.refinement.proofs.Splits.{Along, along-first, along-breaks, along-once, along-more, along-done, listed-below}
+use Rattle.refinement.proofs.Sifting.{listed-fits}
+use native.Mathlib.Omega.{arith}
+use borrow.Author.Needs.{needs}
 use Rattle.refinement.proofs.line.split_along.Statement.{statement}
 use Rattle.refinement.proofs.line.split_along.Tie as tie
 
 abbrev Inv-loop : tie.InvT-loop
-Inv-loop m₀ round cells line list count start seen₀ k₀ m seen k = (start ≤ k) × (k ≤ count) × (length m ≡ length m₀) × (length seen ≡ length seen₀)
-    × (k < count → Breaks (lineAt cells (line .base) (line .stride)) (byte m) (byte list k))
-    × Split (round .n) (Keeps (round .n) (lineAt cells (line .base) (line .stride))) (λ g. k ≡ start) m₀ m
+Inv-loop m₀ round cells line list count start k₀ m k = (length m ≡ length m₀) × Along (round .n) cells (line .base) (line .stride) list count start k m₀ m
 
 abbrev μ-loop : tie.MeasureT-loop
-μ-loop m₀ round cells line list count start seen₀ k₀ m seen k = count - k
+μ-loop m₀ round cells line list count start k₀ m k = count - k
 
 loop-holds : tie.Need-loop-holds Inv-loop μ-loop
-loop-holds c = let p = c .before .before .before .before .pre in (omega arith, omega (arith, p .1 .1 .1 .0), refl, refl, λ l. p .1 .1 .1 .1, split-none (p .0 .map .canonical) refl)
+loop-holds c = (refl, search along-first)
 
 shared-slice-read-x : tie.Need-shared-slice-read-x Inv-loop μ-loop
-shared-slice-read-x c = omega (arith, c .before .before .before .before .before .before .before .pre .1 .1 .0 .room)
+shared-slice-read-x c = omega arith
 
 cast-x : tie.Need-cast-x Inv-loop μ-loop
-cast-x c = let p = c .before .before .before .before .before .before .before .pre in omega (arith, p .1 .1 .0 .below (c .before .before .loop .k) (c .before .loop-test .taken), p .0 .map .small)
+cast-x c = search listed-fits
 
 split-at-requires : tie.Need-split-at-requires Inv-loop μ-loop
-split-at-requires c κs =
-    let p = c .before .before .before .before .before .before .before .before .before .pre in
-    let l = c .before .before .before .before .loop in
-    let h = c .before .before .before .loop-test .taken in
-    (split-lent-again (p .0) (l .inv .2) (l .inv .3) (l .inv .5 .canonical), (p .1 .0, (p .1 .1 .0 .below (l .k) h, l .inv .4 h)))
+split-at-requires c κs = (search needs, (search listed-below, search along-breaks))
 
 same-length : tie.Need-same-length Inv-loop μ-loop
 same-length c = omega arith
 
+returns : tie.Need-returns Inv-loop μ-loop
+returns c = search along-once
+
+add-broken-from : tie.Need-add-broken-from Inv-loop μ-loop
+add-broken-from c = omega arith
+
+broken-from-requires : tie.Need-broken-from-requires Inv-loop μ-loop
+broken-from-requires c κs = (search needs, (search needs, (search needs, omega arith)))
+
+loop-less : tie.Need-loop-less Inv-loop μ-loop
+loop-less c = omega arith
+
+loop-again : tie.Need-loop-again Inv-loop μ-loop
+loop-again c = (omega arith, search along-more)
+
 same-length-2 : tie.Need-same-length-2 Inv-loop μ-loop
 same-length-2 c = omega arith
 
-returns : tie.Need-returns Inv-loop μ-loop
-returns c = split-more (λ g good. good) (λ g d e. e) (c .before .before .before .before .before .before .before .before .before .before .before .loop .inv .5) (c .before .before .before .before .before .before .split-at .ensures)
-
-add-broken-from : tie.Need-add-broken-from Inv-loop μ-loop
-add-broken-from c = omega (arith, c .before .before .before .before .before .before .before .before .before .before .before .loop-test .taken, c .before .before .before .before .before .before .before .before .before .before .before .before .before .before .before .before .before .pre .1 .1 .0 .room)
-
-broken-from-requires : tie.Need-broken-from-requires Inv-loop μ-loop
-broken-from-requires c κs = let p = c .before .before .before .before .before .before .before .before .before .before .before .before .before .before .before .before .before .pre in (lent-again (p .0 .map) (omega (arith, c .before .before .before .before .before .before .before .before .before .before .before .before .loop .inv .2)) (c .before .before .before .before .before .before .before .split-at .ensures .canonical), (p .1 .0, (p .1 .1 .0, omega (arith, c .before .before .before .before .before .before .before .before .before .before .before .loop-test .taken))))
-
-loop-less : tie.Need-loop-less Inv-loop μ-loop
-loop-less c = omega (arith, c .broken-from .ensures .after, c .before .before .before .before .before .before .before .before .before .before .before .before .loop-test .taken)
-
-loop-again : tie.Need-loop-again Inv-loop μ-loop
-loop-again c =
-    let l = c .before .before .before .before .before .before .before .before .before .before .before .before .before .loop in
-    let b = c .broken-from .ensures in (
-      omega (arith, b .after, l .inv .0),
-      b .most,
-      omega (arith, l .inv .2),
-      omega (arith, l .inv .3),
-      b .found,
-      split-said (λ g good. good) (λ e. absurd e) (split-more (λ g good. good) (λ g d e. e) (l .inv .5) (c .before .before .before .before .before .before .before .before .split-at .ensures)),
-    )
-
-same-length-3 : tie.Need-same-length-3 Inv-loop μ-loop
-same-length-3 c = omega arith
-
-same-length-4 : tie.Need-same-length-4 Inv-loop μ-loop
-same-length-4 c = omega arith
-
 returns-2 : tie.Need-returns-2 Inv-loop μ-loop
-returns-2 c = let l = c .before .loop in split-said (λ g good. good) (λ e. omega (arith, e, c .loop-test .left, c .before .before .before .before .before .before .pre .1 .1 .1 .0)) (l .inv .5)
+returns-2 c = search along-done
 
 pub split-along-spec : {M : Type 1} → statement M
 split-along-spec =
@@ -83,12 +61,10 @@ split-along-spec =
     cast-x
     split-at-requires
     same-length
-    same-length-2
     returns
     add-broken-from
     broken-from-requires
     loop-less
     loop-again
-    same-length-3
-    same-length-4
+    same-length-2
     returns-2)

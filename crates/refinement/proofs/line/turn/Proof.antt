@@ -16,7 +16,7 @@ abbrev μ-loop : tie.MeasureT-loop
 μ-loop list₀ count i₀ j₀ list i j = j - i
 
 loop-holds : tie.Need-loop-holds Inv-loop μ-loop
-loop-holds c = (omega arith, omega arith, refl, turned-none)
+loop-holds c = (omega arith, omega arith, refl, turned-none (omega arith))
 
 add-loop : tie.Need-add-loop Inv-loop μ-loop
 add-loop c = search needs
