@@ -1,12 +1,14 @@
 -- Inner vocabulary: no contract of a service and no theorem cites this file.
--- The test whether a map is a congruence: each cell of a table beside the cell whose arguments are the names of its arguments.
-use Prim.Native.Nat.{ℕ, zero, suc, _+_, _*_, _<_}
+-- The test whether a map is a congruence: a table has a part for each first argument; each part is compared with that of its element's name, cell by
+-- cell, and the parts of names are tables of the arity below.
+use Prim.Native.Nat.{ℕ, zero, suc, _+_, _*_, _^_, _≤_, _<_}
 use mathlib.Core.Path.{_≡_}
 use mathlib.Core.Bool.{Bool, true}
 use mathlib.Core.List.{List}
 use lib.ListN.{getD}
+use Rattle.equivalence.specs.Equivalence.{byte}
 use Rattle.kernel.specs.InnerKernel.{Listed}
-use Rattle.refinement.specs.InnerSplitting.{Elements}
+use Rattle.refinement.specs.InnerSplitting.{Elements, MapLent}
 
 -- the answer says whether P holds
 pub record Says (r : Bool) (P : Type 0) : Type 0 where
@@ -18,21 +20,29 @@ pub record Others (n : ℕ) (others : List ℕ) (left : ℕ) (f : ℕ → ℕ) :
   pub elements : Elements n others left
   pub all : (x : ℕ) → x < n → ¬ (f x ≡ x) → Listed others left x
 
--- f joins each cell of the row at `base` with that of the row at `first` in the column of its column's name
-pub record RowAlike (n : ℕ) (cells : List ℕ) (f : ℕ → ℕ) (base first : ℕ) : Type 0 where
-  pub cell : (y : ℕ) → y < n → f (getD cells (base + y) 0) ≡ f (getD cells (first + f y) 0)
+-- what the walk over a table is lent: a map, cells, and the list of those that are no smallest members
+pub record WalkLent (n : ℕ) (m cells others : List ℕ) (left : ℕ) : Type 0 where
+  pub map : MapLent n m cells
+  pub list : Others n others left (byte m)
 
--- so it does each row of the plane at `base` with the row of its name in the plane at `first`
-pub record PlaneAlike (n : ℕ) (cells : List ℕ) (f : ℕ → ℕ) (base first : ℕ) : Type 0 where
-  pub row : (x : ℕ) → x < n → RowAlike n cells f (base + x * n) (first + f x * n)
+-- two stretches of `count` cells lie within the cells
+pub record Stretches (size base first count : ℕ) : Type 0 where
+  pub here : base + count ≤ size
+  pub there : first + count ≤ size
 
--- so it does each plane of the solid at `base` with the plane of its name
-pub record SolidAlike (n : ℕ) (cells : List ℕ) (f : ℕ → ℕ) (base : ℕ) : Type 0 where
-  pub plane : (x : ℕ) → x < n → PlaneAlike n cells f (base + x * (n * n)) (base + f x * (n * n))
+-- f joins each of `count` cells from `base` on with the cell as far from `first`
+pub record StretchAlike (count : ℕ) (cells : List ℕ) (f : ℕ → ℕ) (base first : ℕ) : Type 0 where
+  pub cell : (i : ℕ) → i < count → f (getD cells (base + i) 0) ≡ f (getD cells (first + i) 0)
 
--- the table of arity s that begins at `base`
+-- so it does the part of each element with that of its name, `part` cells each, from `base` on
+pub record PartsAlike (n part : ℕ) (cells : List ℕ) (f : ℕ → ℕ) (base : ℕ) : Type 0 where
+  pub of : (x : ℕ) → x < n → StretchAlike part cells f (base + x * part) (base + f x * part)
+
+-- the table of arity s that begins at `base`: the first argument may be replaced by its name, and where it is one, so may the others
 abbrev pub TableAlike : ℕ → List ℕ → (ℕ → ℕ) → ℕ → ℕ → Type 0
 TableAlike n cells f base zero = Unit {0}
-TableAlike n cells f base (suc zero) = RowAlike n cells f base base
-TableAlike n cells f base (suc (suc zero)) = PlaneAlike n cells f base base
-TableAlike n cells f base (suc (suc (suc s))) = SolidAlike n cells f base
+TableAlike n cells f base (suc s) = PartsAlike n (n ^ s) cells f base × ((x : ℕ) → x < n → f x ≡ x → TableAlike n cells f (base + x * n ^ s) s)
+
+-- the tables of arity s that begin at the parts of names
+pub record NamesAlike (n part s : ℕ) (cells : List ℕ) (f : ℕ → ℕ) (base : ℕ) : Type 0 where
+  pub of : (x : ℕ) → x < n → f x ≡ x → TableAlike n cells f (base + x * part) s

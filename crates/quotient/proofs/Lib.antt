@@ -1,3 +1,4 @@
+pub mod Identity
 pub mod Numbering
 pub mod Operations
 pub mod QuotientTables

@@ -10,7 +10,7 @@ use Rattle.quotient.specs.InnerTables.{concatUpTo, Source, divided, Sour
 use Rattle.equivalence.specs.Lent.{laid}
 use Rattle.quotient.proofs.Walks.{concatUpTo-none, concatUpTo-more, divided-long, TablesLaid, tablesLaid-start, tablesLaid-more}
 
-cellCount-none : (n : ℕ) (arities : List ℕ) → cellCount n (take 0 arities) ≡ 0
+pub cellCount-none : (n : ℕ) (arities : List ℕ) → cellCount n (take 0 arities) ≡ 0
 unfolding cellCount
 cellCount-none n [] = refl
 cellCount-none n (s ∷ rest) = refl

@@ -160,3 +160,26 @@ pub fits-cell : {q : Source} {from : ℕ} {lent : List ℕ} {to : ℕ} → Sourc
 fits-cell {q} {from} ok f =
     let l : from < length (q .cells) = omega (arith, f .source, pow-zero (q .size)) in
     (l, (omega (arith, ok .cell from l, ok .numbers), omega (arith, f .target, pow-zero (length (q .names)))))
+
+-- ---- a table of an arity that is known
+
+module _ {q : Source} {s from : ℕ} {lent : List ℕ} {to : ℕ} where
+  pub fits-of-none : s ≡ 0 → SourceRight q → Fits q s from lent to → (from < length (q .cells)) × ((byte (q .cells) from < length (q .numbers)) × (to < length lent))
+  fits-of-none e ok f = fits-cell ok (rw e at f)
+
+  pub fits-of-one : s ≡ 1 → SourceRight q → Fits q s from lent to → RowFits (q .cells) (q .numbers) (q .names) from lent to
+  fits-of-one e ok f = fits-row ok (rw e at f)
+
+  pub fits-of : (k : ℕ) → s ≡ k → Fits q s from lent to → Fits q k from lent to
+  fits-of k e f = rw e at f
+
+module _ (q : Source) (s from : ℕ) (lent : List ℕ) (to : ℕ) (out : List ℕ) where
+  pub laid-of-none : s ≡ 0 → out ≡ laid lent to (cellDivided (q .cells) (q .numbers) from) → out ≡ laid lent to (divided q s from)
+  unfolding divided
+  laid-of-none e h = rw e h
+
+  pub laid-of-one : s ≡ 1 → out ≡ laid lent to (rowDivided (q .cells) (q .numbers) (q .names) from) → out ≡ laid lent to (divided q s from)
+  laid-of-one e h = rw e (laid-row q from lent to out h)
+
+  pub laid-of : (k : ℕ) → s ≡ k → out ≡ laid lent to (divided q k from) → out ≡ laid lent to (divided q s from)
+  laid-of k e h = rw e h

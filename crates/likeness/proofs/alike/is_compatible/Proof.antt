@@ -1,37 +1,25 @@
 -- `is_compatible` meets its contract. The loop has compared the tables below j, and the next begins at `base`.
-use Prim.Native.Nat.{_-_, _≤_}
-use mathlib.Core.Path.{_≡_, sym}
+use Prim.Native.Nat.{_-_}
 use native.Mathlib.Omega.{arith}
 use borrow.Author.Needs.{needs}
 use lib.ListN.{length, getD}
-use Rattle.equivalence.specs.Equivalence.{byte}
-use Rattle.algebra.specs.Algebra.{Algebra, algebraOf}
-use Rattle.translation.specs.InnerTranslations.{tableStart}
-use Rattle.algebra.proofs.Accepted.{WellFormed, accepted-wellFormed}
-use Rattle.algebra.proofs.Tables.{start-first, start-next}
-use Rattle.refinement.proofs.Compatibility.{TableThere, table-there}
-use Rattle.likeness.proofs.Likeness.{TablesAlike, tables-apart, tables-more, alike-compatible, says-true}
+use Rattle.refinement.proofs.Compatibility.{TableThere}
+use Rattle.likeness.proofs.Likeness.{Tested, tested-none, tested-there, tested-apart, tested-more, tested-all}
 use Rattle.likeness.proofs.alike.is_compatible.Statement.{statement}
 use Rattle.likeness.proofs.alike.is_compatible.Tie as tie
 
 abbrev Inv-loop : tie.InvT-loop
-Inv-loop m n arities cells others left base₀ j₀ base j = (j ≤ length arities) × (base ≡ tableStart (algebraOf n arities cells) j) × TablesAlike (algebraOf n arities cells) (byte m) j
+Inv-loop m n arities cells others left base₀ j₀ base j = Tested n arities cells m base j
 
 abbrev μ-loop : tie.MeasureT-loop
 μ-loop m n arities cells others left base₀ j₀ base j = length arities - j
 
-abbrev algebra : tie.Start Inv-loop μ-loop → Algebra
-algebra s = algebraOf (s .args .n) (s .args .arities .now) (s .args .cells .now)
-
-well-formed : (s : tie.Start Inv-loop μ-loop) → WellFormed (algebra s)
-well-formed s = accepted-wellFormed (algebra s) (s .pre .0)
-
 turn : (c : tie.In-loop Inv-loop μ-loop) → let a = c .before .before .before .before .before .before .args in
     TableThere (a .n) (getD (a .arities .now) (c .before .loop .j) 0) (c .before .loop .base) (length (a .cells .now))
-turn c = let s = c .before .before .before .before .before .before in let l = c .before .loop in table-there (algebra s) (l .j) (l .base) (well-formed s) (c .loop-test .taken) (l .inv .1)
+turn c = tested-there (c .before .loop .inv) (c .loop-test .taken)
 
 loop-holds : tie.Need-loop-holds Inv-loop μ-loop
-loop-holds c = (omega arith, sym (search start-first), λ k l. absurd (omega arith))
+loop-holds c = search tested-none
 
 shared-slice-read-s : tie.Need-shared-slice-read-s Inv-loop μ-loop
 shared-slice-read-s c = search needs
@@ -40,13 +28,10 @@ cast-s : tie.Need-cast-s Inv-loop μ-loop
 cast-s c = omega (arith, turn (c .before))
 
 table-alike-requires : tie.Need-table-alike-requires Inv-loop μ-loop
-table-alike-requires c κs = let t = turn (c .before) in (search needs, (t .most, (t .room, search needs)))
+table-alike-requires c κs = let t = turn (c .before) in (search needs, (t .most, t .room))
 
 returns : tie.Need-returns Inv-loop μ-loop
-returns c =
-    let s = c .before .before .before .before .before .before .before .before .before in
-    let l = c .before .before .before .before .loop in
-    tables-apart (algebra s) _ (l .j) (l .base) (well-formed s) (c .before .before .before .loop-test .taken) (l .inv .1) (c .before .table-alike .ensures) (c .if1 .taken) (s .pre .1 .0 .canonical)
+returns c = search tested-apart
 
 power-requires : tie.Need-power-requires Inv-loop μ-loop
 power-requires c κs = let t = turn (c .before .before .before) in (t .small, t .most)
@@ -61,19 +46,10 @@ loop-less : tie.Need-loop-less Inv-loop μ-loop
 loop-less c = search needs
 
 loop-again : tie.Need-loop-again Inv-loop μ-loop
-loop-again c =
-    let s = c .before .before .before .before .before .before .before .before .before .before in
-    let l = c .before .before .before .before .before .loop in
-    let h = c .before .before .before .before .loop-test .taken in (
-      omega arith,
-      omega (arith, start-next (s .args .n) (s .args .arities .now) (l .j) h, c .power .ensures, l .inv .1),
-      tables-more (algebra s) _ (l .j) (l .base) (well-formed s) h (l .inv .1) (c .before .before .table-alike .ensures) (c .before .if1 .left) (l .inv .2),
-    )
+loop-again c = search tested-more
 
 returns-2 : tie.Need-returns-2 Inv-loop μ-loop
-returns-2 c =
-    let s = c .before .before .before .before .before .before in
-    says-true (alike-compatible (algebra s) (well-formed s) _ (λ j l. c .before .loop .inv .2 j (omega arith)))
+returns-2 c = search tested-all
 
 pub is-compatible-spec : {M : Type 1} → statement M
 is-compatible-spec =

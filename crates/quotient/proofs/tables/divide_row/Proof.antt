@@ -14,7 +14,7 @@ abbrev μ-loop : tie.MeasureT-loop
 μ-loop cells from numbers names out₀ to k₀ at₀ out k at = length names - k
 
 loop-holds : tie.Need-loop-holds Inv-loop μ-loop
-loop-holds c = row-start (c .before .before .before .before .pre)
+loop-holds c = search row-start
 
 shared-slice-read-first : tie.Need-shared-slice-read-first Inv-loop μ-loop
 shared-slice-read-first c = search needs
@@ -41,13 +41,13 @@ loop-less : tie.Need-loop-less Inv-loop μ-loop
 loop-less c = search needs
 
 loop-again : tie.Need-loop-again Inv-loop μ-loop
-loop-again c = row-more (c .before .before .before .before .before .before .loop .inv) _ (c .before .before .before .before .before .loop-test .taken) (c .before .before .divide-cell .ensures)
+loop-again c = search row-more
 
 same-length : tie.Need-same-length Inv-loop μ-loop
 same-length c = c .before .loop .inv .laid .long
 
 returns : tie.Need-returns Inv-loop μ-loop
-returns c = row-all (c .before .loop .inv) (c .loop-test .left)
+returns c = search row-all
 
 pub divide-row-spec : {M : Type 1} → statement M
 divide-row-spec =

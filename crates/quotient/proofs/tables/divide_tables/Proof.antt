@@ -15,7 +15,7 @@ abbrev μ-loop : tie.MeasureT-loop
 μ-loop n arities cells numbers names out₀ j₀ from₀ to₀ out j from to = length arities - j
 
 loop-holds : tie.Need-loop-holds Inv-loop μ-loop
-loop-holds c = let s = c .before .before .before .before .before in divided-start (s .pre .0) (s .pre .1)
+loop-holds c = search divided-start
 
 shared-slice-read-s : tie.Need-shared-slice-read-s Inv-loop μ-loop
 shared-slice-read-s c = search needs
@@ -56,15 +56,13 @@ loop-less : tie.Need-loop-less Inv-loop μ-loop
 loop-less c = search needs
 
 loop-again : tie.Need-loop-again Inv-loop μ-loop
-loop-again c =
-    let test = c .before .before .before .before .before .before .before in
-    divided-more (test .before .loop .inv) (test .loop-test .taken) _ _ _ (c .before .before .before .before .divide-table .ensures) (c .before .power .ensures) (c .power2 .ensures)
+loop-again c = search divided-more
 
 same-length : tie.Need-same-length Inv-loop μ-loop
 same-length c = c .before .loop .inv .laid .long
 
 returns : tie.Need-returns Inv-loop μ-loop
-returns c = divided-all (c .before .loop .inv) (c .loop-test .left)
+returns c = search divided-all
 
 pub divide-tables-spec : {M : Type 1} → statement M
 divide-tables-spec =
