@@ -6,9 +6,10 @@ use mathlib.Core.Path.{_≡_, refl, sym, ap, subst, _∙_}
 use native.Mathlib.Decide.{decLt, ℕ-discrete}
 use native.Mathlib.Omega.{arith}
 use lib.Dec.{eqb}
+use lib.ListN.{length}
 use borrow.Author.Tests.{eqb-true, eq-eqb}
 use Rattle.equivalence.specs.Equivalence.{byte}
-use Rattle.kernel.specs.InnerKernel.{Canonical, Within, Filled, Joined}
+use Rattle.kernel.specs.InnerKernel.{Canonical, Within, Joined, names}
 use Rattle.kernel.proofs.Kernels.{identity-canonical, identity-within}
 use Rattle.algebra.specs.Accepted.{Accepted}
 use Rattle.algebra.specs.Algebra.{Algebra}
@@ -19,9 +20,9 @@ use Rattle.sweep.specs.InnerQueue.{QueueState, InQueue, Ready, Grown}
 use Rattle.sweep.proofs.Images.{below-all, compatible-images}
 use Rattle.sweep.proofs.Queues.{grown-none, grown-more, in-queue-kept}
 use Rattle.sweep.proofs.Sweeps.{each-more}
-use Rattle.keeping.specs.InnerKeeping.{ImagesJoined, PairKept, keptAt, Keeping, markOf, PlaceOf, Stored, KeptHere}
-use Rattle.keeping.specs.InnerPrincipal.{JoinsNames, JoinedTo, Linked, Raised, Closing, FullMap, Sure, Trusted, popped, Absorbed, ClosedUnless, PrincipalHere}
-use Rattle.keeping.proofs.Storing.{from, from-byte}
+use Rattle.keeping.specs.InnerKeeping.{ImagesJoined, Fresh, PairKept, keptAt, markOf, Stored, KeptHere}
+use Rattle.keeping.specs.InnerPrincipal.{JoinsNames, JoinedTo, Linked, Raised, Closing, FullMap, Sure, Trusted, popped, Taking, Taken, Absorbing, Absorbed, Working, ClosedUnless, Worked, Rebuilding, Rebuilt, Growing, PairGrown, PrincipalHere}
+use Rattle.keeping.proofs.Storing.{from, from-long, from-byte, kept-canonical}
 use Rattle.keeping.proofs.Keepings.{empty-ready, joined-images, alike-compatible, alike-kept, kept-from, keeping-stored, stored-kept, mark-whole, keeping-at, keeping-whole}
 
 -- ---- a kept map joined
@@ -59,13 +60,13 @@ within-names {f = f} c w = record { each = λ z l. w z (f z) l (omega (arith, c 
 
 module _ {a : Algebra} where
   -- images of one element, of two the other way round, of two by a third
-  images-same : {x : ℕ} {f : ℕ → ℕ} → ImagesJoined a x x f
+  pub images-same : {x : ℕ} {f : ℕ → ℕ} → ImagesJoined a x x f
   images-same = record { each = λ j l pre post s p q. refl }
 
-  images-swap : {x y : ℕ} {f : ℕ → ℕ} → ImagesJoined a x y f → ImagesJoined a y x f
+  pub images-swap : {x y : ℕ} {f : ℕ → ℕ} → ImagesJoined a x y f → ImagesJoined a y x f
   images-swap h = record { each = λ j l pre post s p q. sym (h .each j l pre post s p q) }
 
-  images-chain : {x y z : ℕ} {f : ℕ → ℕ} → ImagesJoined a x y f → ImagesJoined a y z f → ImagesJoined a x z f
+  pub images-chain : {x y z : ℕ} {f : ℕ → ℕ} → ImagesJoined a x y f → ImagesJoined a y z f → ImagesJoined a x z f
   images-chain h k = record { each = λ j l pre post s p q. h .each j l pre post s p q ∙ k .each j l pre post s p q }
 
   images-from : {x y z : ℕ} {f : ℕ → ℕ} → x ≡ z → ImagesJoined a x y f → ImagesJoined a z y f
@@ -178,28 +179,27 @@ module _ {a : Algebra} (accepted : Accepted a) where
   ok : WellFormed a
   ok = accepted-wellFormed a accepted
 
-  -- the identity, with a kept map joined
-  pub closing-start : {f g : ℕ → ℕ} {s t : QueueState} → Filled 64 (λ x. x) g (s .map) → JoinedTo (a .size) (a .size) f s t → Closing a (t .map) t
-  closing-start i d = record {
-    ready = d .grown .ready;
+  -- a kept map with its queue
+  closing-start : {f : ℕ → ℕ} {s : QueueState} → Rebuilt (a .size) f s → Closing a (s .map) s
+  closing-start d = record {
+    ready = d .ready;
     raised = record {
-      canonical = d .grown .ready .queued .canonical;
+      canonical = d .ready .queued .canonical;
       within = λ x y lx ly p. p;
       inside = λ g c w. w;
-      padded = d .grown .ready .padded;
+      padded = d .ready .padded;
     };
-    linked = λ b l lost. elim (d .grown .pushed b l (i .first b (omega (arith, ok .most)))) [ inl e ↦ absurd (lost e) | inr q ↦ inl q ];
+    linked = λ b l lost. inl (d .queued b l lost);
   }
 
   -- that map is kept for the same pair
-  pub start-kept : {x y : ℕ} {f g : ℕ → ℕ} {s t : QueueState} → x < a .size → y < a .size → Filled 64 (λ x. x) g (s .map) → PairKept a x y f
-      → JoinedTo (a .size) (a .size) f s t → PairKept a x y (t .map)
-  start-kept {x} {y} {s = s} lx ly i k d = record {
-    canonical = d .grown .ready .queued .canonical;
-    joined = names-within (d .joined) x y lx ly (k .joined);
-    images = joined-images ok (names-within (d .joined)) (k .images);
-    inside = λ g c e. d .grown .sound g (within-names (k .canonical) (k .inside g c e)) (identity-within (a .size) (s .map) g (λ z lz. i .first z (omega (arith, ok .most))));
-    padded = d .grown .ready .padded;
+  start-kept : {x y : ℕ} {f : ℕ → ℕ} {s : QueueState} → x < a .size → y < a .size → PairKept a x y f → Rebuilt (a .size) f s → PairKept a x y (s .map)
+  start-kept {x} {y} lx ly k d = record {
+    canonical = d .ready .queued .canonical;
+    joined = d .above x y lx ly (k .joined);
+    images = joined-images ok (d .above) (k .images);
+    inside = λ g c e u v lu lv p. k .inside g c e u v lu lv (d .inside u v lu lv p);
+    padded = d .ready .padded;
   }
 
   pub raised-kept : {x y : ℕ} {f f′ : ℕ → ℕ} → x < a .size → y < a .size → PairKept a x y f → Raised a f f′ → PairKept a x y f′
@@ -289,60 +289,138 @@ module _ {a : Algebra} (accepted : Accepted a) where
   closing-whole c none =
       linked-compatible (c .ready .queued .canonical) (λ b l lost. elim (c .linked b l lost) [ inl q ↦ absurd (omega (arith, q .1 .0)) | inr k ↦ k ])
 
-  pub closed-all : {v w : ℕ} {f : ℕ → ℕ} {s : QueueState} → Closing a f s → s .size ≤ 0 → ClosedUnless a v w f (s .map) (s .size)
+  closed-all : {v w : ℕ} {f : ℕ → ℕ} {s : QueueState} → Closing a f s → s .size ≤ 0 → ClosedUnless a v w f (s .map) (s .size)
   closed-all c none = record { raised = c .raised; whole = λ e. closing-whole c e; stopped = λ l. absurd (omega arith) }
 
-  -- the last of the queue was taken, and it was sure
-  pub absorbed-sure : {k : ℕ} {g : ℕ → ℕ} {s : QueueState} → 0 < s .size → Sure a k g (s .map) → g (s .map (s .queue (s .size - 1))) ≡ g (s .queue (s .size - 1)) → Absorbed a s (popped s) k g
-  absorbed-sure some sure e = record { closing = λ f c. closing-skip some sure e c; less = omega arith; sure = sure }
-
-  -- or what is kept for it was joined
-  pub absorbed-joined : {p k k′ : ℕ} {g g′ : ℕ → ℕ} {old maps marks : List ℕ} {s t : QueueState} → Ready (a .size) s → 0 < s .size → Sure a k g (s .map)
-      → KeptHere a (s .map (s .queue (s .size - 1))) (s .queue (s .size - 1)) old maps marks p → Trusted (a .size) (byte marks p) k′ (byte (from (p * 64) maps)) g g′
-      → JoinedTo (a .size) (a .size) (byte (from (p * 64) maps)) (popped s) t → Absorbed a s t k′ g′
-  absorbed-joined {p} {maps = maps} r some sure h trusted d =
-      let pair : PairKept a _ _ (byte (from (p * 64) maps)) = kept-from accepted (last-pair r some) (last-small r some) h in
-      record {
-        closing = λ f c. closing-more some pair d c;
-        less = omega (arith, d .grown .blocks);
-        sure = sure-trusted (pair .canonical)
-            (λ two. alike-compatible ok (λ z lz. from-byte (p * 64) maps z) (keeping-whole (h .keeping) (last-pair r some) (last-small r some) (h .place) two)) (d .grown .within) (d .joined) sure trusted;
-      }
-
   -- at first only equal elements are sure
-  pub start-sure : {k : ℕ} {f g h : ℕ → ℕ} → k ≡ 64 → Filled 64 (λ x. x) h g → Sure a k g f
-  start-sure {f = f} {g} room i = record {
+  start-sure : {k : ℕ} {f g : ℕ → ℕ} → Fresh k g → Sure a k g f
+  start-sure {f = f} {g} i = record {
     map = record {
       most = ok .most;
-      room = room;
-      canonical = identity-canonical (a .size) g (λ x l. i .first x (omega (arith, ok .most)));
-      padded = λ x l h. i .first x h;
+      room = i .room;
+      canonical = identity-canonical (a .size) g (λ x l. i .own x (omega (arith, ok .most)));
+      padded = λ x l h. i .own x h;
     };
-    compatible = identity-compatible a g (λ x l. i .first x (omega (arith, ok .most)));
-    within = identity-within (a .size) g f (λ x l. i .first x (omega (arith, ok .most)));
+    compatible = identity-compatible a g (λ x l. i .own x (omega (arith, ok .most)));
+    within = identity-within (a .size) g f (λ x l. i .own x (omega (arith, ok .most)));
   }
 
-  -- a kept map, grown, is written to its place
-  pub principal-grown : {x y p k r v w : ℕ} {f : ℕ → ℕ} (maps₀ : List ℕ) {m maps marks maps′ marks′ : List ℕ} {s t : QueueState} → x < y → y < a .size → PlaceOf x y p → PairKept a x y (keptAt maps₀ p)
-      → v < a .size → w < a .size → Filled 64 (λ x. x) f (s .map) → JoinedTo (a .size) (a .size) (byte (from (p * 64) maps₀)) s t → Keeping a maps marks
-      → ClosedUnless a v w (t .map) (byte m) r → k ≡ markOf (eqb r 0) → Stored p k m maps marks maps′ marks′ → PrincipalHere a x y v w maps′ marks′ p
-  principal-grown {x} {y} {p} {k} {r} {v} {w} maps₀ {m} l h e pair lv lw i j s d mark z =
-      let lx : x < a .size = omega arith in
-      let start : PairKept a x y (byte (from (p * 64) maps₀)) = alike-kept ok (λ u lu. from-byte (p * 64) maps₀ u) lx h pair in
-      let grown : PairKept a x y (byte m) = raised-kept lx h (start-kept lx h i start j) (d .raised) in
-      let whole : k ≡ 2 → Compatible a (byte m) = λ two. d .whole (eqb-true r 0 (mark-whole (eqb r 0) (sym mark ∙ two))) in
+closed-stopped : {a : Algebra} {v w : ℕ} {f : ℕ → ℕ} {s : QueueState} → Closing a f s → 0 < s .size → s .map v ≡ s .map w → ClosedUnless a v w f (s .map) (s .size)
+closed-stopped c l e = record { raised = c .raised; whole = λ z. absurd (omega arith); stopped = λ z. e }
+
+-- ---- the queue is taken
+
+-- what is kept for x and y was joined
+pub taken : {a : Algebra} {x y p k : ℕ} {g g′ : ℕ → ℕ} {old maps marks maps₀ marks₀ : List ℕ} {s t : QueueState} {k₀ : ℕ} → Taking a x y maps₀ marks₀ s k₀ g → KeptHere a x y old maps marks p
+    → Trusted (a .size) (byte marks p) k (byte (from (p * 64) maps)) g g′ → JoinedTo (a .size) (a .size) (byte (from (p * 64) maps)) s t → Taken a x y s t g k g′ maps marks
+taken {a} {p = p} {maps = maps} {marks} i h trusted d = record {
+  keeping = h .keeping;
+  kept = byte (from (p * 64) maps);
+  mark = byte marks p;
+  pair = kept-from (i .accepted) (i .less) (i .below) h;
+  whole = λ two. alike-compatible (accepted-wellFormed a (i .accepted)) (λ z lz. from-byte (p * 64) maps z) (keeping-whole (h .keeping) (i .less) (i .below) (h .place) two);
+  trusted = trusted;
+  joined = d;
+}
+
+-- what is kept for the last of the queue and its name is asked for
+pub absorb-takes : {a : Algebra} {maps marks : List ℕ} {mb qb r k : ℕ} {f q g : ℕ → ℕ} → Absorbing a maps marks (record { map = f; map-bytes = mb; queue = q; queue-bytes = qb; size = r }) k g
+    → Taking a (f (q (r - 1))) (q (r - 1)) maps marks (record { map = f; map-bytes = mb; queue = q; queue-bytes = qb; size = r - 1 }) k g
+absorb-takes h = record { keeping = h .keeping; accepted = h .accepted; ready = popped-ready (h .ready); map = h .sure .map; less = h .less; below = h .last }
+
+-- the last of the queue was taken, and it was sure
+pub absorbed-sure : {a : Algebra} {maps marks : List ℕ} {s : QueueState} {k : ℕ} {g : ℕ → ℕ} → Absorbing a maps marks s k g → g (s .map (s .queue (s .size - 1))) ≡ g (s .queue (s .size - 1))
+    → Absorbed a s (popped s) maps marks k g
+absorbed-sure h e = record { keeping = h .keeping; closing = λ f c. closing-skip (h .accepted) (h .some) (h .sure) e c; less = omega (arith, h .some); sure = h .sure }
+
+-- or what is kept for it was joined
+pub absorbed-joined : {a : Algebra} {maps marks maps′ marks′ : List ℕ} {s t : QueueState} {k k′ : ℕ} {g g′ : ℕ → ℕ} → Absorbing a maps marks s k g
+    → Taken a (s .map (s .queue (s .size - 1))) (s .queue (s .size - 1)) (popped s) t g k′ g′ maps′ marks′ → Absorbed a s t maps′ marks′ k′ g′
+absorbed-joined h d = record {
+  keeping = d .keeping;
+  closing = λ f c. closing-more (h .accepted) (h .some) (d .pair) (d .joined) c;
+  less = omega (arith, h .some, d .joined .grown .blocks);
+  sure = sure-trusted (h .accepted) (d .pair .canonical) (d .whole) (d .joined .grown .within) (d .joined .joined) (h .sure) (d .trusted);
+}
+
+module _ {a : Algebra} {f : ℕ → ℕ} {maps marks : List ℕ} {s : QueueState} {k : ℕ} {g : ℕ → ℕ} (h : Working a f maps marks s k g) where
+  pub absorbing : 0 < s .size → Absorbing a maps marks s k g
+  absorbing some = record {
+    keeping = h .keeping;
+    accepted = h .accepted;
+    ready = h .closing .ready;
+    some = some;
+    sure = h .sure;
+    last = last-small (h .closing .ready) some;
+    less = last-pair (h .closing .ready) some;
+  }
+
+  pub working-more : {maps′ marks′ : List ℕ} {t : QueueState} {k′ : ℕ} {g′ : ℕ → ℕ} → Absorbed a s t maps′ marks′ k′ g′ → Working a f maps′ marks′ t k′ g′
+  working-more d = record { keeping = d .keeping; accepted = h .accepted; closing = d .closing f (h .closing); sure = d .sure }
+
+module _ {a : Algebra} {f : ℕ → ℕ} {maps marks : List ℕ} {v w k r mb qb : ℕ} {f′ q g : ℕ → ℕ}
+    (h : Working a f maps marks (record { map = f′; map-bytes = mb; queue = q; queue-bytes = qb; size = r }) k g) where
+  pub worked-all : r ≤ 0 → Worked a v w f maps marks mb f′ r k
+  worked-all none = record { keeping = h .keeping; map-room = h .closing .ready .map-room; sure-room = h .sure .map .room; closed = closed-all (h .accepted) (h .closing) none }
+
+  pub worked-stopped : f′ v ≡ f′ w → 0 < r → Worked a v w f maps marks mb f′ r k
+  worked-stopped e some = record { keeping = h .keeping; map-room = h .closing .ready .map-room; sure-room = h .sure .map .room; closed = closed-stopped (h .closing) some e }
+
+-- ---- a kept map grown
+
+-- made up by a join with bytes that name themselves
+pub rebuilding-joinable : {n p mb qb : ℕ} {maps : List ℕ} → Rebuilding n p maps mb qb → (n ≤ length (from (p * 64) maps)) × Canonical n (byte (from (p * 64) maps))
+rebuilding-joinable {p = p} {maps = maps} i = (omega (arith, from-long (p * 64) maps, i .most, i .maps-room, i .small), kept-canonical p maps (i .canonical))
+
+pub rebuilt : {n p k q mb qb : ℕ} {f g : ℕ → ℕ} {maps : List ℕ} {t : QueueState} → Rebuilding n p maps mb qb → Fresh k f
+    → JoinedTo n n (byte (from (p * 64) maps)) (record { map = f; map-bytes = k; queue = g; queue-bytes = q; size = 0 }) t → Rebuilt n (keptAt maps p) t
+rebuilt {n} {p} {f = f} {maps = maps} {t} i e d = record {
+  ready = d .grown .ready;
+  above = λ x y lx ly z. names-within (d .joined) x y lx ly (from-byte (p * 64) maps x ∙ z ∙ sym (from-byte (p * 64) maps y));
+  inside = d .grown .sound (keptAt maps p)
+      (record {
+        each = λ z lz. sym (i .canonical .named z lz) ∙ ap (keptAt maps p) (sym (from-byte (p * 64) maps z));
+      })
+      (identity-within n f (keptAt maps p) (λ x l. e .own x (omega (arith, i .most))));
+  queued = λ b l lost. elim (d .grown .pushed b l (e .own b (omega (arith, i .most)))) [ inl z ↦ absurd (lost z) | inr q ↦ q ];
+}
+
+module _ {a : Algebra} {x y p v w : ℕ} {maps marks : List ℕ} (h : Growing a x y p v w maps marks) where
+  pub growing-works : {mb′ qb′ r k : ℕ} {f q g : ℕ → ℕ} → Rebuilt (a .size) (keptAt maps p) (record { map = f; map-bytes = mb′; queue = q; queue-bytes = qb′; size = r }) → Fresh k g
+      → Working a f maps marks (record { map = f; map-bytes = mb′; queue = q; queue-bytes = qb′; size = r }) k g
+  growing-works d e = record { keeping = h .keeping; accepted = h .accepted; closing = closing-start (h .accepted) d; sure = start-sure (h .accepted) e }
+
+  -- the kept map is grown
+  pub pair-grown : {r mb sb mb′ qb′ size′ : ℕ} {f q f′ : ℕ → ℕ} {maps′ marks′ : List ℕ} → Rebuilt (a .size) (keptAt maps p) (record { map = f; map-bytes = mb′; queue = q; queue-bytes = qb′; size = size′ })
+      → Worked a v w f maps′ marks′ mb f′ r sb → PairGrown a x y v w maps′ marks′ mb f′ r
+  pair-grown i work =
+      let d = work .closed in
+      let lx : x < a .size = omega (arith, h .less, h .below) in
       record {
-        keeping = keeping-stored ok s l h e grown whole z;
-        place = e;
-        pair = stored-kept ok s l h e grown whole z;
-        closed = elim (ℕ-discrete r 0) [
-          | yes q ↦ inl (z .mark ∙ mark ∙ ap markOf (eq-eqb r 0 q))
-          | no q ↦ inr (z .map v (omega (arith, ok .most)) ∙ d .stopped (omega (arith, q)) ∙ sym (z .map w (omega (arith, ok .most))))
-        ];
+        keeping = work .keeping;
+        map-room = work .map-room;
+        pair = raised-kept (h .accepted) lx (h .below) (start-kept (h .accepted) lx (h .below) (h .pair) i) (d .raised);
+        whole = d .whole;
+        stopped = d .stopped;
       }
 
-pub closed-stopped : {a : Algebra} {v w : ℕ} {f : ℕ → ℕ} {s : QueueState} → Closing a f s → 0 < s .size → s .map v ≡ s .map w → ClosedUnless a v w f (s .map) (s .size)
-closed-stopped c l e = record { raised = c .raised; whole = λ z. absurd (omega arith); stopped = λ z. e }
+  -- and written to its place
+  pub principal-grown : {k r mb : ℕ} {m maps₁ marks₁ maps′ marks′ : List ℕ} → PairGrown a x y v w maps₁ marks₁ mb (byte m) r → k ≡ markOf (eqb r 0)
+      → Stored p k m maps₁ marks₁ maps′ marks′ → PrincipalHere a x y v w maps′ marks′ p
+  principal-grown {k} {r} {m = m} d mark z =
+      let ok : WellFormed a = accepted-wellFormed a (h .accepted) in
+      let lv : v < 64 = omega (arith, ok .most, h .left) in
+      let lw : w < 64 = omega (arith, ok .most, h .right) in
+      let whole : k ≡ 2 → Compatible a (byte m) = λ two. d .whole (eqb-true r 0 (mark-whole (eqb r 0) (sym mark ∙ two))) in
+      record {
+        keeping = keeping-stored ok (d .keeping) (h .less) (h .below) (h .place) (d .pair) whole z;
+        place = h .place;
+        pair = stored-kept ok (d .keeping) (h .less) (h .below) (h .place) (d .pair) whole z;
+        closed = elim (ℕ-discrete r 0) [
+          | yes q ↦ inl (z .mark ∙ mark ∙ ap markOf (eq-eqb r 0 q))
+          | no q ↦ inr (z .map v lv ∙ d .stopped (omega (arith, q)) ∙ sym (z .map w lw))
+        ];
+      }
 
 -- ---- the kept map will do
 

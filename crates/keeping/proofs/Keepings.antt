@@ -9,7 +9,7 @@ use lib.Dec.{eqb}
 use lib.ListN.{length}
 use borrow.Author.Tests.{eqb-true}
 use Rattle.equivalence.specs.Equivalence.{byte}
-use Rattle.kernel.specs.InnerKernel.{Canonical, Within, Filled, Listed}
+use Rattle.kernel.specs.InnerKernel.{Canonical, Within, Listed}
 use Rattle.kernel.proofs.Kernels.{identity-canonical, identity-within, names-identity}
 use Rattle.kernel.proofs.Names.{names-most}
 use Rattle.algebra.specs.Accepted.{Accepted}
@@ -22,7 +22,7 @@ use Rattle.sweep.specs.InnerQueue.{QueueState, Padded, Ready, Grown}
 use Rattle.sweep.specs.InnerSweeps.{Sweeping, Swept}
 use Rattle.sweep.proofs.Images.{images-kept, compatible-whole, compatible-images, all-map}
 use Rattle.sweep.proofs.Sweeps.{one-block}
-use Rattle.keeping.specs.InnerKeeping.{pairPlace, ImagesJoined, PairKept, PairMade, keptAt, Keeping, markOf, PlaceOf, Stored, KeptHere}
+use Rattle.keeping.specs.InnerKeeping.{pairPlace, ImagesJoined, Fresh, PassLent, PassStarted, PairKept, PairMade, keptAt, Keeping, markOf, PlaceOf, Stored, KeptHere}
 use Rattle.keeping.proofs.PairPlaces.{place-small, place-once}
 use Rattle.keeping.proofs.Storing.{from, from-long, from-byte}
 
@@ -74,58 +74,68 @@ empty-ready {n} {s} most long room none c p = record {
   };
 }
 
--- the map that names every element by itself, with an empty queue
-pub start-ready : {n : ℕ} {f : ℕ → ℕ} {s : QueueState} → n ≤ 64 → s .map-bytes ≡ 64 → s .queue-bytes ≡ 64 → s .size ≡ 0 → Filled 64 (λ x. x) f (s .map) → Ready n s
-start-ready {n} {s = s} most long room none e =
-    empty-ready most long room none (identity-canonical n (s .map) (λ x l. e .first x (omega arith))) (λ x l h. e .first x h)
+-- bytes that name themselves are a map with 64 bytes; its queue is empty
+pub fresh-ready : {n k q : ℕ} {f g : ℕ → ℕ} → n ≤ 64 → q ≡ 64 → Fresh k f → Ready n (record { map = f; map-bytes = k; queue = g; queue-bytes = q; size = 0 })
+fresh-ready {n} {f = f} most room e = empty-ready most (e .room) room refl (identity-canonical n f (λ x l. e .own x (omega arith))) (λ x l h. e .own x h)
+
+-- x and y joined, above bytes that name themselves
+pub pass-started : {n x y k q : ℕ} {f g : ℕ → ℕ} {live : List ℕ} {t : QueueState} → Grown n (λ h. h x ≡ h y) (record { map = f; map-bytes = k; queue = g; queue-bytes = q; size = 0 }) t
+    → t .map x ≡ t .map y → Fresh k f → Fresh (length live) (byte live) → n ≤ 64 → PassStarted n x y t live
+pass-started {n} {f = f} d e i all most = record {
+  ready = d .ready;
+  joined = e;
+  inside = λ h z. d .sound h z (identity-within n f h (λ x l. i .own x (omega arith)));
+  lost = omega (arith, d .blocks, names-identity n f (λ x l. i .own x (omega arith)));
+  contexts = all;
+}
 
 -- all elements listed
-pub all-contexts : {n : ℕ} (arities : List ℕ) {cells live : List ℕ} {f : ℕ → ℕ} → Accepted (algebraOf n arities cells) → length live ≡ 64 → Filled 64 (λ x. x) f (byte live) → Contexts n cells live n
-all-contexts {n} arities {cells} h long e =
-    let ok = accepted-wellFormed (algebraOf n arities cells) h in
+pub all-contexts : {n x y mb qb lb : ℕ} {arities cells live : List ℕ} {t : QueueState} → PassStarted n x y t live → PassLent (algebraOf n arities cells) mb qb lb x y → Contexts n cells live n
+all-contexts {n} {arities = arities} {cells} p h =
+    let ok = accepted-wellFormed (algebraOf n arities cells) (h .accepted) in
+    let e = p .contexts in
     record {
       cells-most = omega (arith, ok .filled, ok .room);
       cells-below = ok .below;
-      live-room = omega (arith, ok .most);
-      live-below = λ i l. omega (arith, e .first i (omega (arith, ok .most)));
+      live-room = omega (arith, ok .most, e .room);
+      live-below = λ i l. omega (arith, e .own i (omega (arith, ok .most)));
     }
 
 -- a pass whose end is one block, with no v and w
-pub start-sweeping : {n l : ℕ} {f : ℕ → ℕ} {Good : (ℕ → ℕ) → Type 0} {s t : QueueState} → 0 < n → n ≤ 64 → l ≡ n - 1 → s .size ≡ 0 → Filled 64 (λ x. x) f (s .map) → Grown n Good s t
-    → Sweeping n (record { limit = l; v = 0; w = 0 }) t
-start-sweeping {n} {s = s} some most e none i d = record {
-  ready = d .ready;
-  left = some;
-  right = some;
-  blocks = omega (arith, d .blocks, names-identity n (s .map) (λ x l. i .first x (omega arith)));
-}
+pub start-sweeping : {n x y : ℕ} {live : List ℕ} {t : QueueState} → PassStarted n x y t live → x < y → y < n → Sweeping n (record { limit = n - 1; v = 0; w = 0 }) t
+start-sweeping p l h = record { ready = p .ready; left = omega arith; right = omega arith; blocks = omega (arith, p .lost) }
 
 -- what a pass with all elements as contexts leaves of x and y joined
-pub pass-made : {a : Algebra} {x y l : ℕ} {f g : ℕ → ℕ} (live : List ℕ) {refused : List ℕ} {s t u : QueueState} → Accepted a → x < a .size → y < a .size → s .size ≡ 0 → Filled 64 (λ z. z) f (s .map)
-    → Filled 64 (λ z. z) g (byte live) → Grown (a .size) (λ g. g x ≡ g y) s t → t .map x ≡ t .map y
-    → Swept (a .size) refused (record { limit = l; v = 0; w = 0 }) (OperationsIn a (length (a .arities)) (Listed live (a .size)) x y) t u → PairMade a x y (u .map) (u .size)
-pass-made {a} {x} {y} live {s = s} h lx ly none i all d e p = record {
+pub pass-made : {a : Algebra} {x y l mb qb mb′ qb′ lb r : ℕ} {f q : ℕ → ℕ} {live refused : List ℕ} {t : QueueState}
+    → Swept (a .size) refused (record { limit = l; v = 0; w = 0 }) (OperationsIn a (length (a .arities)) (Listed live (a .size)) x y) t (record { map = f; map-bytes = mb; queue = q; queue-bytes = qb; size = r })
+    → PassStarted (a .size) x y t live → PassLent a mb′ qb′ lb x y → PairMade a x y f r
+pass-made {a} {x} {y} {live = live} p i h = record {
   kept = record {
     canonical = p .sweeping .ready .queued .canonical;
-    joined = p .grown .within x y lx ly e;
+    joined = p .grown .within x y lx ly (i .joined);
     images = record {
       each = λ j lj pre post z u v. p .done (λ j. j .two refl) .each j lj pre post z (all-map listed pre u) (all-map listed post v);
     };
-    inside = λ g c e. p .grown .sound g (compatible-images a below g c x y lx ly e, λ p q lp lq k i. refl)
-        (d .sound g e (identity-within (a .size) (s .map) g (λ z lz. i .first z (omega (arith, ok .most)))));
+    inside = λ g c e. p .grown .sound g (compatible-images a below g c x y lx ly e, λ p q lp lq k i. refl) (i .inside g e);
     padded = p .sweeping .ready .padded;
   };
-  lost = omega (arith, p .grown .blocks, d .blocks, none, names-identity (a .size) (s .map) (λ z lz. i .first z (omega (arith, ok .most))));
+  lost = omega (arith, p .grown .blocks, i .lost);
 }
   where
+    ly : y < a .size
+    ly = h .below
+
+    lx : x < a .size
+    lx = omega (arith, h .less, h .below)
+
     ok : WellFormed a
-    ok = accepted-wellFormed a h
+    ok = accepted-wellFormed a (h .accepted)
 
     listed : (c : ℕ) → c < a .size → Listed live (a .size) c
-    listed c lc = (c, (lc, all .first c (omega (arith, ok .most))))
+    listed c lc = (c, (lc, i .contexts .own c (omega (arith, ok .most))))
 
     below : (c : ℕ) → Listed live (a .size) c → c < a .size
-    below c k = omega (arith, k .1 .0, k .1 .1, all .first (k .0) (omega (arith, k .1 .0, ok .most)))
+    below c k = omega (arith, k .1 .0, k .1 .1, i .contexts .own (k .0) (omega (arith, k .1 .0, ok .most)))
 
 -- ---- marks
 
@@ -215,3 +225,8 @@ kept-room {p = p} {maps} k e = omega (arith, from-long (p * 64) maps, k .most, k
 pub kept-from : {a : Algebra} {x y p : ℕ} {old maps marks : List ℕ} → Accepted a → x < y → y < a .size → KeptHere a x y old maps marks p → PairKept a x y (byte (from (p * 64) maps))
 kept-from {a} {p = p} {maps = maps} ok l h k =
     alike-kept (accepted-wellFormed a ok) (λ z lz. from-byte (p * 64) maps z) (omega arith) h (keeping-at (k .keeping) l h (k .place) (k .some))
+
+-- both, as a join asks them
+pub kept-joinable : {a : Algebra} {x y p : ℕ} {old maps marks : List ℕ} → KeptHere a x y old maps marks p → Accepted a → x < y → y < a .size
+    → (a .size ≤ length (from (p * 64) maps)) × Canonical (a .size) (byte (from (p * 64) maps))
+kept-joinable k ok l h = (kept-room (k .keeping) (k .place), kept-from ok l h k .canonical)

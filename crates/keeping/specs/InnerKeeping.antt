@@ -8,8 +8,9 @@ use Rattle.equivalence.specs.Equivalence.{byte}
 use Rattle.equivalence.specs.Order.{rowStart}
 use Rattle.kernel.specs.InnerKernel.{Canonical, Within, names}
 use Rattle.algebra.specs.Algebra.{Algebra}
+use Rattle.algebra.specs.Accepted.{Accepted}
 use Rattle.translation.specs.InnerTranslations.{Compatible}
-use Rattle.sweep.specs.InnerQueue.{Padded}
+use Rattle.sweep.specs.InnerQueue.{QueueState, Padded, Ready}
 use Rattle.sweep.specs.InnerContexts.{OperationsIn}
 
 -- the place of the pair x < y among the pairs of 64 elements
@@ -19,6 +20,29 @@ pairPlace x y = rowStart x + y - x - 1
 -- f joins the images of x and y under every translation
 abbrev pub ImagesJoined : Algebra → ℕ → ℕ → (ℕ → ℕ) → Type 0
 ImagesJoined a x y f = OperationsIn a (length (a .arities)) (λ c. c < a .size) x y f
+
+-- k bytes, 64 of them, each of which names itself
+pub record Fresh (k : ℕ) (f : ℕ → ℕ) : Type 0 where
+  pub room : k ≡ 64
+  pub own : (x : ℕ) → x < 64 → f x ≡ x
+
+-- what a pass over the images of x and y is lent: a map, a queue and contexts of 64 bytes each
+pub record PassLent (a : Algebra) (map-bytes queue-bytes live-bytes x y : ℕ) : Type 0 where
+  pub accepted : Accepted a
+  pub most : a .size ≤ 64
+  pub map-room : map-bytes ≡ 64
+  pub queue-room : queue-bytes ≡ 64
+  pub live-room : live-bytes ≡ 64
+  pub less : x < y
+  pub below : y < a .size
+
+-- where the pass begins: x and y are joined and nothing else, and the contexts are all elements
+pub record PassStarted (n x y : ℕ) (s : QueueState) (live : List ℕ) : Type 0 where
+  pub ready : Ready n s
+  pub joined : s .map x ≡ s .map y
+  pub inside : (g : ℕ → ℕ) → g x ≡ g y → Within n (s .map) g
+  pub lost : s .size + names n (s .map) ≡ n
+  pub contexts : Fresh (length live) (byte live)
 
 -- f joins x and y and their images under every translation, and lies inside every congruence that joins x and y; past n its 64 bytes name themselves
 pub record PairKept (a : Algebra) (x y : ℕ) (f : ℕ → ℕ) : Type 0 where

@@ -5,7 +5,8 @@ ghost use lib.ListN.{length};
 ghost use Rattle.equivalence.specs.Equivalence.{byte};
 ghost use Rattle.algebra.specs.Algebra.{algebraIn};
 ghost use Rattle.algebra.specs.Accepted.{Accepted};
-ghost use Rattle.keeping.specs.InnerKeeping.{PairMade, Keeping, markOf, PlaceOf, Stored, KeptHere};
+ghost use Rattle.sweep.specs.InnerQueue.{state};
+ghost use Rattle.keeping.specs.InnerKeeping.{Fresh, PassLent, PassStarted, PairMade, Keeping, markOf, PlaceOf, Stored, KeptHere};
 use crate::KEPT;
 use crate::NOTHING;
 use crate::WHOLE;
@@ -32,6 +33,36 @@ pub fn store(maps: &mut [u8], marks: &mut [u8], p: usize, m: &[u8], mark: u8)
     marks[p] = mark;
 }
 
+// Every byte of m, of 64, names itself.
+pub fn fresh(m: &mut [u8])
+    requires { ⌜ length (now m) ≡ 64 ⌝ }
+    ensures { λ _. ⌜ Fresh (length (now (m .exit))) (byte (now (m .exit))) ⌝ }
+{
+    equivalence::blocks::identity(64, m);
+}
+
+// m joins x and y and nothing else, and all elements are listed in `live`. How many are queued.
+fn begin_pass(
+    m: &mut [u8],
+    n: usize,
+    queue: &mut [u8],
+    live: &mut [u8],
+    x: usize,
+    y: usize,
+) -> usize
+    requires { ⌜ n ≤ 64 ⌝ }
+    requires { ⌜ length (now m) ≡ 64 ⌝ }
+    requires { ⌜ length (now queue) ≡ 64 ⌝ }
+    requires { ⌜ length (now live) ≡ 64 ⌝ }
+    requires { ⌜ x < n ⌝ }
+    requires { ⌜ y < n ⌝ }
+    ensures { λ r. ⌜ PassStarted n x y (state (now (m .exit)) (now (queue .exit)) r) (now (live .exit)) ⌝ }
+{
+    fresh(m);
+    fresh(live);
+    sweep::queue::merge_queued(m, n, queue, 0, x as u8, y as u8)
+}
+
 // m becomes the map of x and y by one pass. How many blocks were merged.
 fn pass(
     m: &mut [u8],
@@ -43,18 +74,10 @@ fn pass(
     x: usize,
     y: usize,
 ) -> usize
-    requires { ⌜ Accepted (algebraIn n arities cells) ⌝ }
-    requires { ⌜ n ≤ 64 ⌝ }
-    requires { ⌜ length (now m) ≡ 64 ⌝ }
-    requires { ⌜ length (now queue) ≡ 64 ⌝ }
-    requires { ⌜ length (now live) ≡ 64 ⌝ }
-    requires { ⌜ x < y ⌝ }
-    requires { ⌜ y < n ⌝ }
+    requires { ⌜ PassLent (algebraIn n arities cells) (length (now m)) (length (now queue)) (length (now live)) x y ⌝ }
     ensures { λ r. ⌜ PairMade (algebraIn n (arities .entry) (cells .entry)) x y (byte (now (m .exit))) r ⌝ }
 {
-    equivalence::blocks::identity(64, m);
-    equivalence::blocks::identity(64, live);
-    let len = sweep::queue::merge_queued(m, n, queue, 0, x as u8, y as u8);
+    let len = begin_pass(m, n, queue, live, x, y);
     sweep::tables::operations(
         m,
         n,

@@ -7,11 +7,12 @@ ghost use Rattle.equivalence.specs.Equivalence.{byte};
 ghost use Rattle.kernel.specs.InnerKernel.{Canonical};
 ghost use Rattle.algebra.specs.Algebra.{algebraIn};
 ghost use Rattle.algebra.specs.Accepted.{Accepted};
-ghost use Rattle.sweep.specs.InnerQueue.{state, Ready};
-ghost use Rattle.keeping.specs.InnerKeeping.{PairKept, keptAt, Keeping, PlaceOf};
-ghost use Rattle.keeping.specs.InnerPrincipal.{Closing, FullMap, Sure, Trusted, Absorbed, ClosedUnless, PrincipalHere};
+ghost use Rattle.sweep.specs.InnerQueue.{state};
+ghost use Rattle.keeping.specs.InnerKeeping.{keptAt, Keeping};
+ghost use Rattle.keeping.specs.InnerPrincipal.{FullMap, Trusted, Taking, Taken, Absorbing, Absorbed, Working, Worked, Rebuilding, Rebuilt, Growing, PairGrown, PrincipalHere};
 use crate::WHOLE;
 use crate::join::join_kept;
+use crate::pairs::fresh;
 use crate::pairs::keep_pair;
 use crate::pairs::mark_of;
 use crate::pairs::store;
@@ -30,6 +31,29 @@ fn trust(sure: &mut [u8], n: usize, kept: &[u8], mark: u8)
     let lost = join_kept(sure, n, &mut spare, 0, kept);
 }
 
+// What is kept for x and y is joined with m, and with `sure` where it is whole. How many elements are queued then.
+fn take(
+    maps: &mut [u8],
+    marks: &mut [u8],
+    m: &mut [u8],
+    n: usize,
+    queue: &mut [u8],
+    len: usize,
+    sure: &mut [u8],
+    arities: &[u8],
+    cells: &[u8],
+    x: usize,
+    y: usize,
+) -> usize
+    requires { ⌜ Taking (algebraIn n arities cells) x y (now maps) (now marks) (state (now m) (now queue) len) (length (now sure)) (byte (now sure)) ⌝ }
+    ensures { λ r. ⌜ Taken (algebraIn n (arities .entry) (cells .entry)) x y (state (now (m .entry)) (now (queue .entry)) len) (state (now (m .exit)) (now (queue .exit)) r) (byte (now (sure .entry))) (length (now (sure .exit))) (byte (now (sure .exit))) (now (maps .exit)) (now (marks .exit)) ⌝ }
+{
+    let p = keep_pair(maps, marks, n, arities, cells, x, y);
+    let at = p * 64;
+    trust(sure, n, &maps[at..], marks[p]);
+    join_kept(m, n, queue, len, &maps[at..])
+}
+
 // Takes the last element of the queue. Where `sure`, a congruence inside m, joins it with its name, so does m with all their images; else what is kept for the two is
 // joined. How many elements are queued then.
 fn absorb(
@@ -43,13 +67,8 @@ fn absorb(
     arities: &[u8],
     cells: &[u8],
 ) -> usize
-    requires { ⌜ Keeping (algebraIn n arities cells) (now maps) (now marks) ⌝ }
-    requires { ⌜ Accepted (algebraIn n arities cells) ⌝ }
-    requires { ⌜ Ready n (state (now m) (now queue) len) ⌝ }
-    requires { ⌜ 0 < len ⌝ }
-    requires { ⌜ Sure (algebraIn n arities cells) (length (now sure)) (byte (now sure)) (byte (now m)) ⌝ }
-    ensures { λ _. ⌜ Keeping (algebraIn n (arities .entry) (cells .entry)) (now (maps .exit)) (now (marks .exit)) ⌝ }
-    ensures { λ r. ⌜ Absorbed (algebraIn n (arities .entry) (cells .entry)) (state (now (m .entry)) (now (queue .entry)) len) (state (now (m .exit)) (now (queue .exit)) r) (length (now (sure .exit))) (byte (now (sure .exit))) ⌝ }
+    requires { ⌜ Absorbing (algebraIn n arities cells) (now maps) (now marks) (state (now m) (now queue) len) (length (now sure)) (byte (now sure)) ⌝ }
+    ensures { λ r. ⌜ Absorbed (algebraIn n (arities .entry) (cells .entry)) (state (now (m .entry)) (now (queue .entry)) len) (state (now (m .exit)) (now (queue .exit)) r) (now (maps .exit)) (now (marks .exit)) (length (now (sure .exit))) (byte (now (sure .exit))) ⌝ }
 {
     let last = len - 1;
     let b = queue[last] as usize;
@@ -57,10 +76,7 @@ fn absorb(
     if sure[a] == sure[b] {
         return last;
     }
-    let p = keep_pair(maps, marks, n, arities, cells, a, b);
-    let at = p * 64;
-    trust(sure, n, &maps[at..], marks[p]);
-    join_kept(m, n, queue, last, &maps[at..])
+    take(maps, marks, m, n, queue, last, sure, arities, cells, a, b)
 }
 
 // Takes queued elements until none is left or v and w are joined. How many are queued then.
@@ -77,14 +93,10 @@ fn absorb_all(
     v: usize,
     w: usize,
 ) -> usize
-    requires { ⌜ Keeping (algebraIn n arities cells) (now maps) (now marks) ⌝ }
-    requires { ⌜ Accepted (algebraIn n arities cells) ⌝ }
-    requires { ⌜ Closing (algebraIn n arities cells) (byte (now m)) (state (now m) (now queue) start) ⌝ }
-    requires { ⌜ Sure (algebraIn n arities cells) (length (now sure)) (byte (now sure)) (byte (now m)) ⌝ }
+    requires { ⌜ Working (algebraIn n arities cells) (byte (now m)) (now maps) (now marks) (state (now m) (now queue) start) (length (now sure)) (byte (now sure)) ⌝ }
     requires { ⌜ v < n ⌝ }
     requires { ⌜ w < n ⌝ }
-    ensures { λ _. ⌜ Keeping (algebraIn n (arities .entry) (cells .entry)) (now (maps .exit)) (now (marks .exit)) ⌝ }
-    ensures { λ r. ⌜ ClosedUnless (algebraIn n (arities .entry) (cells .entry)) v w (byte (now (m .entry))) (byte (now (m .exit))) r ⌝ }
+    ensures { λ r. ⌜ Worked (algebraIn n (arities .entry) (cells .entry)) v w (byte (now (m .entry))) (now (maps .exit)) (now (marks .exit)) (length (now (m .exit))) (byte (now (m .exit))) r (length (now (sure .exit))) ⌝ }
 {
     let mut len = start;
     while len > 0 {
@@ -96,14 +108,58 @@ fn absorb_all(
     len
 }
 
-// A map of x and y is kept that is a congruence, or joins v and w: the kept one at p, grown in m.
-fn grow(
+// The map kept at p goes to m, and what is no name in it to the queue. How many elements are queued.
+fn rebuild(maps: &[u8], m: &mut [u8], n: usize, queue: &mut [u8], p: usize) -> usize
+    requires { ⌜ Rebuilding n p (now maps) (length (now m)) (length (now queue)) ⌝ }
+    ensures { λ r. ⌜ Rebuilt n (keptAt (now (maps .entry)) p) (state (now (m .exit)) (now (queue .exit)) r) ⌝ }
+{
+    fresh(m);
+    let at = p * 64;
+    join_kept(m, n, queue, 0, &maps[at..])
+}
+
+// The map kept for x and y at p, grown in m until it is a congruence or joins v and w. How many elements are queued then: none where it is a congruence.
+fn close(
     maps: &mut [u8],
     marks: &mut [u8],
     m: &mut [u8],
     n: usize,
-    queue: &mut [u8],
-    sure: &mut [u8],
+    arities: &[u8],
+    cells: &[u8],
+    x: usize,
+    y: usize,
+    p: usize,
+    v: usize,
+    w: usize,
+) -> usize
+    requires { ⌜ Growing (algebraIn n arities cells) x y p v w (now maps) (now marks) ⌝ }
+    requires { ⌜ length (now m) ≡ 64 ⌝ }
+    ensures { λ r. ⌜ PairGrown (algebraIn n (arities .entry) (cells .entry)) x y v w (now (maps .exit)) (now (marks .exit)) (length (now (m .exit))) (byte (now (m .exit))) r ⌝ }
+{
+    let mut queue = [0u8; 64];
+    let mut sure = [0u8; 64];
+    fresh(&mut sure);
+    let len = rebuild(maps, m, n, &mut queue, p);
+    absorb_all(
+        maps,
+        marks,
+        m,
+        n,
+        &mut queue,
+        len,
+        &mut sure,
+        arities,
+        cells,
+        v,
+        w,
+    )
+}
+
+// A map of x and y is kept that is a congruence, or joins v and w: the one at p, grown.
+fn grow(
+    maps: &mut [u8],
+    marks: &mut [u8],
+    n: usize,
     arities: &[u8],
     cells: &[u8],
     x: usize,
@@ -112,25 +168,12 @@ fn grow(
     v: usize,
     w: usize,
 )
-    requires { ⌜ Keeping (algebraIn n arities cells) (now maps) (now marks) ⌝ }
-    requires { ⌜ Accepted (algebraIn n arities cells) ⌝ }
-    requires { ⌜ length (now m) ≡ 64 ⌝ }
-    requires { ⌜ length (now queue) ≡ 64 ⌝ }
-    requires { ⌜ length (now sure) ≡ 64 ⌝ }
-    requires { ⌜ x < y ⌝ }
-    requires { ⌜ y < n ⌝ }
-    requires { ⌜ PlaceOf x y p ⌝ }
-    requires { ⌜ PairKept (algebraIn n arities cells) x y (keptAt (now maps) p) ⌝ }
-    requires { ⌜ v < n ⌝ }
-    requires { ⌜ w < n ⌝ }
+    requires { ⌜ Growing (algebraIn n arities cells) x y p v w (now maps) (now marks) ⌝ }
     ensures { λ _. ⌜ PrincipalHere (algebraIn n (arities .entry) (cells .entry)) x y v w (now (maps .exit)) (now (marks .exit)) p ⌝ }
 {
-    equivalence::blocks::identity(64, m);
-    equivalence::blocks::identity(64, sure);
-    let at = p * 64;
-    let len = join_kept(m, n, queue, 0, &maps[at..]);
-    let left = absorb_all(maps, marks, m, n, queue, len, sure, arities, cells, v, w);
-    store(maps, marks, p, m, mark_of(left == 0));
+    let mut m = [0u8; 64];
+    let left = close(maps, marks, &mut m, n, arities, cells, x, y, p, v, w);
+    store(maps, marks, p, &m, mark_of(left == 0));
 }
 
 // At the place of x and y, which is the answer, is then a map that is the least congruence that joins them, or one inside it that joins v and w.
@@ -161,23 +204,6 @@ pub fn principal(
     if maps[at + v] == maps[at + w] {
         return p;
     }
-    let mut m = [0u8; 64];
-    let mut queue = [0u8; 64];
-    let mut sure = [0u8; 64];
-    grow(
-        maps,
-        marks,
-        &mut m,
-        n,
-        &mut queue,
-        &mut sure,
-        arities,
-        cells,
-        x,
-        y,
-        p,
-        v,
-        w,
-    );
+    grow(maps, marks, n, arities, cells, x, y, p, v, w);
     p
 }

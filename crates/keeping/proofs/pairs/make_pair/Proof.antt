@@ -1,5 +1,6 @@
 -- `make_pair`: what the pass made is stored.
 use Rattle.keeping.proofs.Keepings.{kept-made}
+use native.Mathlib.Omega.{arith}
 use borrow.Author.Needs.{needs}
 use Rattle.keeping.proofs.pairs.make_pair.Statement.{statement}
 use Rattle.keeping.proofs.pairs.make_pair.Tie as tie
@@ -14,13 +15,13 @@ slice-aggregate-pass-3 : tie.Need-slice-aggregate-pass-3
 slice-aggregate-pass-3 c = search needs
 
 pass-requires : tie.Need-pass-requires
-pass-requires c κs = (search, (search, (search needs, (search needs, (search needs, (search, search))))))
+pass-requires c κs = record { accepted = search; most = search needs; map-room = search needs; queue-room = search needs; live-room = search needs; less = search; below = search }
 
 slice-aggregate-store : tie.Need-slice-aggregate-store
 slice-aggregate-store c = search needs
 
 add-mark-of : tie.Need-add-mark-of
-add-mark-of c = search needs
+add-mark-of c = omega arith
 
 mark-of-requires : tie.Need-mark-of-requires
 mark-of-requires c κs = search needs
@@ -29,10 +30,10 @@ store-requires : tie.Need-store-requires
 store-requires c κs = search needs
 
 same-length : tie.Need-same-length
-same-length c = search needs
+same-length c = omega arith
 
 same-length-2 : tie.Need-same-length-2
-same-length-2 c = search needs
+same-length-2 c = omega arith
 
 returns : tie.Need-returns
 returns c = search kept-made

@@ -1,77 +1,75 @@
 -- `absorb_all`: the laws of `Closings` start, keep and end the loop.
 use Prim.Native.Nat.{_+_}
-use native.Mathlib.Omega.{arith}
 use lib.ListN.{length}
-use borrow.Author.Needs.{needs}
 use Rattle.equivalence.specs.Equivalence.{byte}
 use Rattle.kernel.specs.InnerKernel.{names}
 use Rattle.algebra.specs.Algebra.{algebraOf}
 use Rattle.sweep.specs.InnerQueue.{state}
-use Rattle.keeping.specs.InnerKeeping.{Keeping}
-use Rattle.keeping.specs.InnerPrincipal.{Closing, Sure}
-use Rattle.keeping.proofs.Closings.{closed-stopped, closed-all}
+use Rattle.keeping.specs.InnerPrincipal.{Working}
+use Rattle.keeping.proofs.Closings.{absorbing, working-more, worked-all, worked-stopped}
+use native.Mathlib.Omega.{arith}
 use Rattle.keeping.proofs.principal.absorb_all.Statement.{statement}
 use Rattle.keeping.proofs.principal.absorb_all.Tie as tie
 
 abbrev Inv-loop : tie.InvT-loop
-Inv-loop maps₀ marks₀ m₀ n queue₀ start sure₀ arities cells v w len₀ maps marks m queue sure len = Keeping (algebraOf n arities cells) maps marks × Closing (algebraOf n arities cells) (byte m₀) (state m queue len) × Sure (algebraOf n arities cells) (length sure) (byte sure) (byte m)
+Inv-loop maps₀ marks₀ m₀ n queue₀ start sure₀ arities cells v w len₀ maps marks m queue sure len = Working (algebraOf n arities cells) (byte m₀) maps marks (state m queue len) (length sure) (byte sure)
 
 abbrev μ-loop : tie.MeasureT-loop
 μ-loop maps₀ marks₀ m₀ n queue₀ start sure₀ arities cells v w len₀ maps marks m queue sure len = len + names n (byte m)
 
 loop-holds : tie.Need-loop-holds Inv-loop μ-loop
-loop-holds c = let p = c .before .before .before .before .before .before .before .pre in (p .0, p .1 .1 .0, p .1 .1 .1 .0)
+loop-holds c = search
 
 slice-read-if1 : tie.Need-slice-read-if1 Inv-loop μ-loop
-slice-read-if1 c = search needs
+slice-read-if1 c = omega arith
 
 slice-read-if1-2 : tie.Need-slice-read-if1-2 Inv-loop μ-loop
-slice-read-if1-2 c = search needs
+slice-read-if1-2 c = omega arith
 
 same-length : tie.Need-same-length Inv-loop μ-loop
-same-length c = search needs
+same-length c = omega arith
 
 same-length-2 : tie.Need-same-length-2 Inv-loop μ-loop
-same-length-2 c = search needs
+same-length-2 c = omega arith
 
 same-length-3 : tie.Need-same-length-3 Inv-loop μ-loop
-same-length-3 c = search needs
+same-length-3 c = omega arith
 
 same-length-4 : tie.Need-same-length-4 Inv-loop μ-loop
-same-length-4 c = search needs
+same-length-4 c = omega arith
 
 same-length-5 : tie.Need-same-length-5 Inv-loop μ-loop
-same-length-5 c = search needs
+same-length-5 c = omega arith
 
 returns : tie.Need-returns Inv-loop μ-loop
-returns c = let i = c .before .before .before .before .loop .inv in (i .0, closed-stopped (i .1) (omega (arith, c .before .before .before .loop-test .taken)) (c .if1 .taken))
+returns c = search worked-stopped
 
 absorb-requires : tie.Need-absorb-requires Inv-loop μ-loop
-absorb-requires c κs = (search, (search, (search, (search needs, search))))
+absorb-requires c κs = search absorbing
 
 loop-less : tie.Need-loop-less Inv-loop μ-loop
-loop-less c = omega (arith, c .before .before .before .before .before .before .before .before .before .before .absorb .ensures .1 .less)
+loop-less c = omega arith
 
 loop-again : tie.Need-loop-again Inv-loop μ-loop
-loop-again c = let d = c .before .before .before .before .before .before .before .before .before .before .absorb .ensures in (d .0, d .1 .closing (byte (c .before .before .before .before .before .before .before .before .before .before .before .before .before .before .before .before .before .before .before .before .before .before .before .before .before .before .before .before .args .m .now)) (c .before .before .before .before .before .before .before .before .before .before .before .before .before .before .before .before .before .before .before .before .loop .inv .1), d .1 .sure)
+loop-again c = search working-more
 
 same-length-6 : tie.Need-same-length-6 Inv-loop μ-loop
-same-length-6 c = search needs
+same-length-6 c = omega arith
 
 same-length-7 : tie.Need-same-length-7 Inv-loop μ-loop
-same-length-7 c = search needs
+same-length-7 c = omega arith
 
 same-length-8 : tie.Need-same-length-8 Inv-loop μ-loop
-same-length-8 c = search needs
+same-length-8 c = omega arith
 
 same-length-9 : tie.Need-same-length-9 Inv-loop μ-loop
-same-length-9 c = search needs
+same-length-9 c = omega arith
 
 same-length-10 : tie.Need-same-length-10 Inv-loop μ-loop
-same-length-10 c = search needs
+same-length-10 c = omega arith
 
 returns-2 : tie.Need-returns-2 Inv-loop μ-loop
-returns-2 c = let i = c .before .loop .inv in (i .0, closed-all (c .before .before .before .before .before .before .before .before .before .pre .1 .0) (i .1) (omega (arith, c .loop-test .left)))
+returns-2 c = search worked-all
 
 pub absorb-all-spec : {M : Type 1} → statement M
 absorb-all-spec =

@@ -1,6 +1,7 @@
 -- `trust`: a join, with a queue that is not used.
 use mathlib.Core.Path.{refl}
 use Rattle.keeping.proofs.Closings.{full-ready}
+use native.Mathlib.Omega.{arith}
 use borrow.Author.Needs.{needs}
 use Rattle.keeping.proofs.principal.trust.Statement.{statement}
 use Rattle.keeping.proofs.principal.trust.Tie as tie
@@ -15,7 +16,7 @@ join-kept-requires : tie.Need-join-kept-requires
 join-kept-requires c κs = let p = c .before .before .before .before .before .pre in (full-ready (p .0) (search needs) refl, (p .1 .0, p .1 .1))
 
 same-length : tie.Need-same-length
-same-length c = search needs
+same-length c = omega arith
 
 returns-2 : tie.Need-returns-2
 returns-2 c = search needs
