@@ -1,4 +1,2 @@
-pub mod Bounding
-pub mod Settling
-pub mod TwoBlocks
+pub mod Marking
 pub mod Standings

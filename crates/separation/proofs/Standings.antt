@@ -1,50 +1,32 @@
 -- The records of the search, as the functions hand them on: what each step asks for, and where the search stands after it.
-use Prim.Native.Nat.{ℕ, _+_, _*_, _≤_, _<_}
-use mathlib.Core.Bool.{Bool, true, false}
+use Prim.Native.Nat.{ℕ, _+_, _-_, _*_, _≤_, _<_}
 use mathlib.Core.List.{List}
 use mathlib.Core.Path.{_≡_, refl, sym, ap, _∙_}
 use native.Mathlib.Decide.{ℕ-discrete}
 use native.Mathlib.Omega.{arith}
+use mir.Syntax.{w64}
+use mir.Val.{Fits}
 use borrow.Author.Tests.{eq-eqb}
 use lib.ListN.{length, set, length-set, replicate, length-replicate, getD-replicate}
-use Rattle.equivalence.specs.Equivalence.{byte, whole, meet}
-use Rattle.equivalence.specs.Lent.{written}
+use Rattle.equivalence.specs.Equivalence.{byte}
 use Rattle.equivalence.specs.declared.Pair.{Pair}
-use Rattle.equivalence.proofs.Maps.{whole-map}
-use Rattle.equivalence.proofs.Meets.{meet-map, meet-holds, of-meet}
-use Rattle.equivalence.proofs.Writing.{written-old}
-use Rattle.kernel.specs.InnerKernel.{Canonical, Within, KeptPast}
+use Rattle.kernel.specs.InnerKernel.{Within, KeptPast}
 use Rattle.kernel.proofs.Kernels.{names-identity}
 use Rattle.algebra.specs.Accepted.{Accepted}
 use Rattle.algebra.specs.Algebra.{algebraOf}
 use Rattle.algebra.proofs.Accepted.{accepted-wellFormed}
-use Rattle.translation.specs.InnerTranslations.{Closed, Refined}
+use Rattle.translation.specs.InnerTranslations.{Closed}
 use Rattle.translation.proofs.Translations.{identity-compatible}
 use Rattle.closure.specs.InnerStarts.{Extends, NamesListed}
 use Rattle.closure.specs.InnerClosing.{NamesInUse}
 use Rattle.closure.proofs.Collections.{collected-most, countOf-names}
 use Rattle.closure.proofs.Starting.{identity-use}
-use Rattle.refinement.specs.InnerSplitting.{Represented}
-use Rattle.maplist.proofs.MapLists.{begins-written, begins-canonical, whole-at}
-use Rattle.separation.specs.InnerSearch.{Refused, Standing, Marks, Unused, TwoBlocks, Earliest}
-use Rattle.separation.specs.InnerBounds.{BoundLent, Tightened}
-use Rattle.separation.proofs.Settling.{settled-start, settled-pass, settled-take, settled-skip, settled-row, settled-skip-row, refusals-none, refusals-up, refusals-mark}
-use Rattle.separation.proofs.Bounding.{Met, two-within, bound-start, bound-up, bound-refuses, bound-row, bound-end}
-use Rattle.separation.proofs.TwoBlocks.{names-represent}
-
--- the meet that is written over a map
-pub meet-met : {n : ℕ} (e t after : List ℕ) → n ≤ length e → after ≡ written (meet n e t) e → Met n (byte e) (byte t) (byte after)
-meet-met {n} e t after room w =
-    let b = begins-written (meet n e t) e w (meet-map n e t) in
-    let from : (x y : ℕ) → x < n → y < n → byte after x ≡ byte after y → (byte e x ≡ byte e y) × (byte t x ≡ byte t y) =
-    λ x y lx ly p. of-meet n e t x y lx ly (sym (b .same x lx) ∙ p ∙ b .same y ly) in
-    record {
-      canonical = begins-canonical b (meet-map n e t);
-      left = λ x y lx ly p. from x y lx ly p .0;
-      right = λ x y lx ly p. from x y lx ly p .1;
-      greatest = λ x y lx ly p q. b .same x lx ∙ meet-holds n e t x y lx ly p q ∙ sym (b .same y ly);
-      rest = λ x l. rw w (written-old (meet n e t) e (omega (arith, meet-map n e t .long)) x (omega (arith, meet-map n e t .long)));
-    }
+use Rattle.bounding.specs.InnerSettled.{Refused, Earliest}
+use Rattle.bounding.specs.InnerBounds.{RowSettled, BoundLent, Tightened}
+use Rattle.bounding.proofs.Settling.{settled-start, settled-pass, settled-take, settled-skip, settled-row, settled-skip-row}
+use Rattle.bounding.proofs.Bounding.{bound-up, bound-refuses, bound-end}
+use Rattle.separation.specs.InnerSearch.{Standing, Marks, Unused}
+use Rattle.separation.proofs.Marking.{refusals-none, refusals-up, refusals-mark}
 
 -- every element is a name of the identity, listed in its own place
 identity-listed : (n : ℕ) (f : ℕ → ℕ) (names : List ℕ) → ((x : ℕ) → x < n → f x ≡ x) → ((x : ℕ) → x < n → byte names x ≡ x) → NamesListed n f names n
@@ -58,9 +40,6 @@ identity-listed n f names e l = record {
 
 module _ {n : ℕ} {arities cells m names places : List ℕ} {marked : Pair} where
   module _ {x y count : ℕ} (s : Standing n arities cells m names places marked x y count) where
-    pub listed-few : count ≤ 64
-    listed-few = omega (arith, s .size, collected-most (s .names-in-use .listed))
-
     -- the pair is skipped, or its try was refused: the map stands
     module _ (lx : x < y) (ly : y < n) where
       pub standing-skip : ¬ (byte m y ≡ y) → Standing n arities cells m names places marked x (y + 1) count
@@ -134,6 +113,22 @@ module _ {n : ℕ} {arities cells m names places : List ℕ} {marked : Pair} whe
     names-in-use = s .names-in-use;
   }
 
+  -- what a bound asks for
+  pub row-settled : {x count : ℕ} → Standing n arities cells m names places marked (x + 1) (x + 2) count → x < n → RowSettled n arities cells m names marked x count
+  row-settled {count = count} s l =
+      let u = s .names-in-use in
+      let few : count ≤ 64 = omega (arith, s .size, collected-most (u .listed)) in
+      record {
+        accepted = s .accepted;
+        size = s .size;
+        map-room = omega (arith, s .size, s .map-room);
+        left = s .left;
+        right = s .right;
+        below = l;
+        settled = s .settled;
+        among = record { room = omega (arith, u .in-use .live-room); few = few; small = u .listed .small; all = λ y ly e. u .listed .all y ly (eq-eqb _ _ e) };
+      }
+
   pub standing-next : (x : ℕ) {count : ℕ} → Standing n arities cells m names places marked (x + 1) (x + 2) count → Standing n arities cells m names places marked (x + 1) (x + 1 + 1) count
   standing-next x s = let e : x + 2 ≡ x + 1 + 1 = omega arith in rw e at s
 
@@ -160,16 +155,6 @@ module _ {n : ℕ} {arities cells : List ℕ} {marked : Pair} {f : ℕ → ℕ} 
   marks-start {table} u =
       record { room = u .table-room; rightly = refusals-none (algebraOf n arities cells) _ _ f table (accepted-wellFormed _ ok .most) (u .unmarked) }
 
-  pub bound-lent-start : (lent up : List ℕ) → n ≤ length lent → length up ≡ length lent → up ≡ written (whole n) lent → BoundLent (algebraOf n arities cells) up marked f
-  bound-lent-start lent up l k e = record {
-    room = omega arith;
-    bound = bound-start (algebraOf n arities cells) _ _ (accepted-wellFormed _ ok) f (byte up)
-        (λ x lx. begins-written (whole n) lent e (whole-map n) .same x lx ∙ whole-at n x lx);
-  }
-
-pub whole-kept : (n : ℕ) (lent up : List ℕ) → n ≤ length lent → up ≡ written (whole n) lent → KeptPast n (byte lent) (byte up)
-whole-kept n lent up l e x k = rw e (written-old (whole n) lent (omega (arith, whole-map n .long)) x (omega (arith, whole-map n .long)))
-
 -- a larger map
 module _ {n : ℕ} {arities cells : List ℕ} (m m′ : List ℕ) {marked : Pair} (w : Within n (byte m) (byte m′)) where
   pub marks-up : {table : List ℕ} → Marks (algebraOf n arities cells) table marked (byte m) → Marks (algebraOf n arities cells) table marked (byte m′)
@@ -178,25 +163,6 @@ module _ {n : ℕ} {arities cells : List ℕ} (m m′ : List ℕ) {marked : Pair
   pub bound-lent-up : {names places up : List ℕ} {x y count : ℕ} → Standing n arities cells m′ names places marked x y count → BoundLent (algebraOf n arities cells) up marked (byte m)
       → BoundLent (algebraOf n arities cells) up marked (byte m′)
   bound-lent-up s b = record { room = b .room; bound = bound-up (algebraOf n arities cells) _ _ w (s .settled .compatible) (s .settled .apart) (b .bound) }
-
--- the bound is made smaller
-module _ {n : ℕ} {arities cells m names places up : List ℕ} {marked : Pair} {x count : ℕ} (s : Standing n arities cells m names places marked (x + 1) (x + 2) count) (lx : x < n)
-    (b : BoundLent (algebraOf n arities cells) up marked (byte m)) (parts : List ℕ) (two : TwoBlocks n x (byte m) (byte parts)) (met : List ℕ) (w : met ≡ written (meet n up parts) up) where
-  e : Met n (byte up) (byte parts) (byte met)
-  e = meet-met up parts met (b .room) w
-
-  pub met-represented : Represented (algebraOf n arities cells) names (count) (byte met)
-  met-represented =
-      names-represent (algebraOf n arities cells) (s .settled .canonical) (s .settled .compatible)
-      (λ p q lp lq u. e .greatest p q lp lq (b .bound .above p q lp lq u) (two-within two p q lp lq u))
-      (omega (arith, s .names-in-use .in-use .live-room, s .size, collected-most (s .names-in-use .listed))) (s .names-in-use .listed)
-
-  pub met-canonical : Canonical n (byte met)
-  met-canonical = e .canonical
-
-  pub tightened : {h : ℕ → ℕ} → Refined (algebraOf n arities cells) (byte met) h → KeptPast n (byte met) h → Tightened (algebraOf n arities cells) (marked .x) (marked .y) x (byte m) (byte up) h
-  tightened {h} r past =
-      bound-row (algebraOf n arities cells) _ _ x lx (byte m) (s .settled) (byte up) (byte parts) (byte met) h two (b .bound) e r past (s .left) (s .right)
 
 -- arrays of zeros
 pub all-unused : Unused (replicate 64 0) (replicate 64 0) (replicate 64 0) (replicate 4096 0)
@@ -208,10 +174,6 @@ all-unused = record {
   unmarked = λ i l. getD-replicate 4096 i 0 0 l;
 }
 
--- what is due for v's row and was not made is not v's row
-pub undue : {P : Type 0} {due : Bool} → (P → due ≡ true) → due ≡ false → P → ⊥
-undue h e p = let c : true ≡ false = sym (h p) ∙ e in let z : _≡_ {A = ℕ} 0 1 = cc in omega arith
-
 -- ---- row after row
 
 -- the rows before x are settled; the bound `up`, which was up₀, spares pairs, and x is not behind v's row as long as it joins v and w
@@ -220,6 +182,7 @@ pub record Rows (n : ℕ) (arities cells up₀ m names places table up : List �
   pub right : w ≡ marked .y
   pub row : byte up v ≡ byte up w → x ≤ v
   pub few : trials ≤ 64 * x
+  pub behind : x ≤ n
   pub long : length up ≡ length up₀
   pub rest : KeptPast n (byte up₀) (byte up)
   pub standing : Standing n arities cells m names places marked x (x + 1) count
@@ -229,20 +192,29 @@ pub record Rows (n : ℕ) (arities cells up₀ m names places table up : List �
 module _ {n : ℕ} {arities cells : List ℕ} {marked : Pair} where
   pub rows-start : {m names places table up : List ℕ} {count : ℕ} → BoundLent (algebraOf n arities cells) up marked (byte m) → Standing n arities cells m names places marked 0 1 count
       → Marks (algebraOf n arities cells) table marked (byte m) → Rows n arities cells up m names places table up marked (marked .x) (marked .y) count 0 0
-  rows-start b s k = record { left = refl; right = refl; row = λ e. omega arith; few = omega arith; long = refl; rest = λ z l. refl; standing = s; marks = k; bound = b }
+  rows-start b s k = record { left = refl; right = refl; row = λ e. omega arith; few = omega arith; behind = omega arith; long = refl; rest = λ z l. refl; standing = s; marks = k; bound = b }
 
   module _ {up₀ m names places table up : List ℕ} {v w count trials x : ℕ} (r : Rows n arities cells up₀ m names places table up marked v w count trials x) where
     pub row-below : byte up v ≡ byte up w → x < n
     row-below e = omega (arith, r .row e, r .left, r .standing .left)
 
+    pub row-less : byte up v ≡ byte up w → v + 1 - (x + 1) < v + 1 - x
+    row-less e = omega (arith, r .row e)
+
     -- the sum of trials stays small
+    pub trials-fit : byte up v ≡ byte up w → (tried : ℕ) → tried ≤ n → Fits w64 (trials + tried)
+    trials-fit e tried l = omega (arith, r .few, row-below e, r .standing .size)
+
+    pub row-fits : byte up v ≡ byte up w → Fits w64 (x + 1)
+    row-fits e = omega (arith, row-below e, r .standing .size)
+
     pub trials-few : byte up v ≡ byte up w → (tried : ℕ) → tried ≤ n → trials + tried ≤ 4096
     trials-few e tried l = omega (arith, r .few, row-below e, r .standing .size)
 
     pub rows-more : {m′ names′ places′ table′ up′ : List ℕ} {count′ : ℕ} (tried : ℕ) → byte up v ≡ byte up w → tried ≤ n → Standing n arities cells m′ names′ places′ marked (x + 1) (x + 2) count′
         → Marks (algebraOf n arities cells) table′ marked (byte m′) → length up′ ≡ length up → Tightened (algebraOf n arities cells) (marked .x) (marked .y) x (byte m′) (byte up) (byte up′)
         → Rows n arities cells up₀ m′ names′ places′ table′ up′ marked v w count′ (trials + tried) (x + 1)
-    rows-more {up′ = up′} tried e l s k long t = record {
+    rows-more {up′ = up′} tried e l s marks long t = record {
       left = r .left;
       right = r .right;
       row = λ i. elim (ℕ-discrete x (marked .x)) [
@@ -250,12 +222,16 @@ module _ {n : ℕ} {arities cells : List ℕ} {marked : Pair} where
         | no z ↦ omega (arith, r .row e, r .left)
       ];
       few = omega (arith, r .few, s .size);
+      behind = omega (arith, row-below e);
       long = long ∙ r .long;
       rest = λ z h. t .rest z h ∙ r .rest z h;
       standing = standing-next x s;
-      marks = k;
+      marks = marks;
       bound = record { room = omega (arith, r .bound .room); bound = t .bound };
     }
+
+    pub trials-most : trials ≤ 4096
+    trials-most = omega (arith, r .few, r .behind, r .standing .size)
 
     pub rows-end : ¬ (byte up v ≡ byte up w) → Earliest (algebraOf n arities cells) (marked .x) (marked .y) (byte up)
     rows-end d =

@@ -1,3 +1,1 @@
 pub mod InnerSearch
-pub mod InnerBlocks
-pub mod InnerBounds

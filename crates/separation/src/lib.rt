@@ -6,16 +6,15 @@ ghost use Rattle.equivalence.specs.Equivalence.{byte};
 ghost use Rattle.kernel.specs.InnerKernel.{KeptPast};
 ghost use Rattle.algebra.specs.Algebra.{algebraIn};
 ghost use Rattle.algebra.specs.Accepted.{Accepted};
-ghost use Rattle.separation.specs.InnerSearch.{Unused, Earliest};
+ghost use Rattle.bounding.specs.InnerSettled.{Earliest};
+ghost use Rattle.separation.specs.InnerSearch.{Unused};
 use equivalence::Pair;
 use equivalence::blocks::identity;
 
-pub mod blocks;
-pub mod bounds;
 pub mod search;
 
 // `earliest_apart` with room for a map, the list of its names and their places, the marks of refused pairs and a table for meets. The search begins at the identity, and its bound, which
-// becomes the answer, at the map with one block.
+// becomes the answer, at the map with one block. How many pairs were tried in vain.
 fn earliest_apart_in(
     m: &mut [u8],
     names: &mut [u8],
@@ -27,7 +26,7 @@ fn earliest_apart_in(
     cells: &[u8],
     marked: Pair,
     out: &mut [u8],
-)
+) -> usize
     requires { ⌜ Accepted (algebraIn n arities cells) ⌝ }
     requires { ⌜ Unused (now m) (now names) (now places) (now refused) ⌝ }
     requires { ⌜ length (now table) ≡ 4096 ⌝ }
@@ -37,6 +36,7 @@ fn earliest_apart_in(
     requires { ⌜ (marked .x ≡ marked .y → ⊥) ⌝ }
     ensures { λ _. ⌜ Earliest (algebraIn n (arities .entry) (cells .entry)) (marked .x) (marked .y) (byte (now (out .exit))) ⌝ }
     ensures { λ _. ⌜ KeptPast n (byte (now (out .entry))) (byte (now (out .exit))) ⌝ }
+    ensures { λ r. ⌜ r ≤ 4096 ⌝ }
 {
     identity(64, m);
     identity(64, names);
@@ -54,12 +54,19 @@ fn earliest_apart_in(
         cells,
         marked,
         n,
-    );
+    )
 }
 
-// The earliest congruence that holds v and w apart goes to the first n bytes of out; those past n keep their value. The row of the smaller of the two
-// comes first.
-pub fn earliest_apart(n: usize, arities: &[u8], cells: &[u8], v: usize, w: usize, out: &mut [u8])
+// The earliest congruence that holds v and w apart goes to the first n bytes of out; those past n keep their value. How many pairs were tried in
+// vain, which tells how hard the search was.
+pub fn earliest_apart(
+    n: usize,
+    arities: &[u8],
+    cells: &[u8],
+    v: usize,
+    w: usize,
+    out: &mut [u8],
+) -> usize
     requires { ⌜ Accepted (algebraIn n arities cells) ⌝ }
     requires { ⌜ v < n ⌝ }
     requires { ⌜ w < n ⌝ }
@@ -67,37 +74,23 @@ pub fn earliest_apart(n: usize, arities: &[u8], cells: &[u8], v: usize, w: usize
     requires { ⌜ n ≤ length (now out) ⌝ }
     ensures { λ _. ⌜ Earliest (algebraIn n (arities .entry) (cells .entry)) v w (byte (now (out .exit))) ⌝ }
     ensures { λ _. ⌜ KeptPast n (byte (now (out .entry))) (byte (now (out .exit))) ⌝ }
+    ensures { λ r. ⌜ r ≤ 4096 ⌝ }
 {
     let mut m = [0u8; 64];
     let mut names = [0u8; 64];
     let mut places = [0u8; 64];
     let mut refused = [0u8; 4096];
     let mut table = [0u8; 4096];
-    if v < w {
-        earliest_apart_in(
-            &mut m,
-            &mut names,
-            &mut places,
-            &mut refused,
-            &mut table,
-            n,
-            arities,
-            cells,
-            Pair { x: v, y: w },
-            out,
-        );
-    } else {
-        earliest_apart_in(
-            &mut m,
-            &mut names,
-            &mut places,
-            &mut refused,
-            &mut table,
-            n,
-            arities,
-            cells,
-            Pair { x: w, y: v },
-            out,
-        );
-    }
+    earliest_apart_in(
+        &mut m,
+        &mut names,
+        &mut places,
+        &mut refused,
+        &mut table,
+        n,
+        arities,
+        cells,
+        Pair { x: v, y: w },
+        out,
+    )
 }

@@ -5,12 +5,13 @@ ghost use lib.ListN.{length};
 ghost use Rattle.kernel.specs.InnerKernel.{Within, KeptPast};
 ghost use Rattle.equivalence.specs.Equivalence.{byte};
 ghost use Rattle.algebra.specs.Algebra.{algebraIn};
-ghost use Rattle.separation.specs.InnerSearch.{Standing, Marks, Earliest};
-ghost use Rattle.separation.specs.InnerBounds.{BoundLent};
-use crate::bounds::bound_if;
-use crate::bounds::is_due;
-use crate::bounds::next_due;
-use crate::bounds::tried_in_vain;
+ghost use Rattle.bounding.specs.InnerSettled.{Earliest};
+ghost use Rattle.bounding.specs.InnerBounds.{BoundLent};
+ghost use Rattle.separation.specs.InnerSearch.{Standing, Marks};
+use bounding::bounds::bound_if;
+use bounding::bounds::is_due;
+use bounding::bounds::next_due;
+use bounding::bounds::tried_in_vain;
 use closure::close_apart;
 use equivalence::Pair;
 use equivalence::blocks::copy;
@@ -161,7 +162,8 @@ fn settle_row(
     count
 }
 
-// Settles rows until the bound `up` holds the marked elements apart; it does at the latest after the row of the first of them. `table` is working storage.
+// Settles rows until the bound `up` holds the marked elements apart; it does at the latest after the row of the first of them. `table` is working storage. How many
+// pairs were tried in vain.
 pub fn settle_rows(
     m: &mut [u8],
     names: &mut [u8],
@@ -174,13 +176,14 @@ pub fn settle_rows(
     cells: &[u8],
     marked: Pair,
     listed: usize,
-)
+) -> usize
     requires { ⌜ 4096 ≤ length (now table) ⌝ }
     requires { ⌜ BoundLent (algebraIn n arities cells) (now up) marked (byte (now m)) ⌝ }
     requires { ⌜ Standing n (now arities) (now cells) (now m) (now names) (now places) marked 0 1 listed ⌝ }
     requires { ⌜ Marks (algebraIn n arities cells) (now refused) marked (byte (now m)) ⌝ }
     ensures { λ _. ⌜ Earliest (algebraIn n (arities .entry) (cells .entry)) (marked .x) (marked .y) (byte (now (up .exit))) ⌝ }
     ensures { λ _. ⌜ KeptPast n (byte (now (up .entry))) (byte (now (up .exit))) ⌝ }
+    ensures { λ r. ⌜ r ≤ 4096 ⌝ }
 {
     let v = marked.x;
     let w = marked.y;
@@ -209,7 +212,6 @@ pub fn settle_rows(
             made,
             m,
             names,
-            places,
             count,
             n,
             arities,
@@ -221,4 +223,5 @@ pub fn settle_rows(
         );
         x += 1;
     }
+    trials
 }

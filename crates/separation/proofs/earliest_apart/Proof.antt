@@ -1,6 +1,4 @@
--- `earliest_apart`: arrays of 64 bytes are the rooms, and which element is named first does not matter.
-use mathlib.Core.Path.{sym}
-use Rattle.separation.proofs.Settling.{earliest-swap}
+-- `earliest_apart`: arrays of zeros are the room.
 use Rattle.separation.proofs.Standings.{all-unused}
 use borrow.Author.Needs.{needs}
 use Rattle.separation.proofs.earliest_apart.Statement.{statement}
@@ -22,37 +20,13 @@ slice-aggregate-earliest-apart-in-5 : tie.Need-slice-aggregate-earliest-apart-in
 slice-aggregate-earliest-apart-in-5 c = search needs
 
 earliest-apart-in-requires : tie.Need-earliest-apart-in-requires
-earliest-apart-in-requires c κs = let p = c .before .before .before .before .before .before .before .before .before .before .pre in (p .0, (all-unused, (search needs, (p .1 .0, (p .1 .1 .0, (p .1 .1 .1 .1, p .1 .1 .1 .0))))))
-
-slice-aggregate-earliest-apart-in-6 : tie.Need-slice-aggregate-earliest-apart-in-6
-slice-aggregate-earliest-apart-in-6 c = search needs
-
-slice-aggregate-earliest-apart-in-7 : tie.Need-slice-aggregate-earliest-apart-in-7
-slice-aggregate-earliest-apart-in-7 c = search needs
-
-slice-aggregate-earliest-apart-in-8 : tie.Need-slice-aggregate-earliest-apart-in-8
-slice-aggregate-earliest-apart-in-8 c = search needs
-
-slice-aggregate-earliest-apart-in-9 : tie.Need-slice-aggregate-earliest-apart-in-9
-slice-aggregate-earliest-apart-in-9 c = search needs
-
-slice-aggregate-earliest-apart-in-10 : tie.Need-slice-aggregate-earliest-apart-in-10
-slice-aggregate-earliest-apart-in-10 c = search needs
-
-earliest-apart-in-requires-2 : tie.Need-earliest-apart-in-requires-2
-earliest-apart-in-requires-2 c κs = let p = c .before .before .before .before .before .before .before .before .before .before .pre in (p .0, (all-unused, (search needs, (p .1 .1 .0, (p .1 .0, (p .1 .1 .1 .1, λ e. p .1 .1 .1 .0 (sym e)))))))
+earliest-apart-in-requires c κs = (search needs, (all-unused, (search needs, (search needs, (search needs, (search needs, search needs))))))
 
 same-length : tie.Need-same-length
 same-length c = search needs
 
 returns : tie.Need-returns
 returns c = search needs
-
-same-length-2 : tie.Need-same-length-2
-same-length-2 c = search needs
-
-returns-2 : tie.Need-returns-2
-returns-2 c = let e = c .before .before .before .before .before .before .before .earliest-apart-in2 .ensures in (earliest-swap _ _ _ _ (e .0), e .1)
 
 pub earliest-apart-spec : {M : Type 1} → statement M
 earliest-apart-spec =
@@ -64,13 +38,5 @@ earliest-apart-spec =
     slice-aggregate-earliest-apart-in-4
     slice-aggregate-earliest-apart-in-5
     earliest-apart-in-requires
-    slice-aggregate-earliest-apart-in-6
-    slice-aggregate-earliest-apart-in-7
-    slice-aggregate-earliest-apart-in-8
-    slice-aggregate-earliest-apart-in-9
-    slice-aggregate-earliest-apart-in-10
-    earliest-apart-in-requires-2
     same-length
-    returns
-    same-length-2
-    returns-2)
+    returns)

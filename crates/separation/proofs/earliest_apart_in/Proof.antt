@@ -1,6 +1,7 @@
 -- `earliest_apart_in`: from the identity and one block through the rows.
 use mathlib.Core.Path.{_∙_}
-use Rattle.separation.proofs.Standings.{standing-start, marks-start, bound-lent-start, whole-kept}
+use Rattle.bounding.proofs.RowBounds.{bound-lent-start, whole-kept}
+use Rattle.separation.proofs.Standings.{standing-start, marks-start}
 use borrow.Author.Needs.{needs}
 use Rattle.separation.proofs.earliest_apart_in.Statement.{statement}
 use Rattle.separation.proofs.earliest_apart_in.Tie as tie
@@ -52,7 +53,7 @@ same-length-6 c = search needs
 returns : tie.Need-returns
 returns c =
     let s = c .before .before .before .before .before .before .before .before .before .before .before .before .settle-rows .ensures in
-    (s .0, λ z l. s .1 z l ∙ whole-kept _ _ _ (c .before .before .before .before .before .before .before .before .before .before .before .before .before .before .before .before .before .before .before .before .before .before .before .before .before .before .before .before .before .before .before .before .before .before .before .before .before .before .before .before .before .before .before .pre .1 .1 .1 .1 .1 .0) (c .before .before .before .before .before .before .before .before .before .before .before .before .before .before .before .before .before .before .before .before .before .whole-into .ensures) z l)
+    (s .0, ((λ z l. s .1 .0 z l ∙ whole-kept _ _ _ (c .before .before .before .before .before .before .before .before .before .before .before .before .before .before .before .before .before .before .before .before .before .before .before .before .before .before .before .before .before .before .before .before .before .before .before .before .before .before .before .before .before .before .before .pre .1 .1 .1 .1 .1 .0) (c .before .before .before .before .before .before .before .before .before .before .before .before .before .before .before .before .before .before .before .before .before .whole-into .ensures) z l), s .1 .1))
 
 pub earliest-apart-in-spec : {M : Type 1} → statement M
 earliest-apart-in-spec =

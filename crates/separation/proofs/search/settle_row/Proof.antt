@@ -4,7 +4,7 @@ use native.Mathlib.Omega.{arith}
 use Rattle.equivalence.specs.Equivalence.{byte}
 use Rattle.algebra.specs.Algebra.{algebraOf}
 use Rattle.separation.specs.InnerSearch.{Standing, Marks}
-use Rattle.separation.specs.InnerBounds.{BoundLent}
+use Rattle.bounding.specs.InnerBounds.{BoundLent}
 use Rattle.separation.proofs.Standings.{standing-skip-row, standing-row}
 use borrow.Author.Needs.{needs}
 use Rattle.separation.proofs.search.settle_row.Statement.{statement}

@@ -1,8 +1,8 @@
 -- `try_pair`: the pair is marked, or taken with the names that are left.
 use mathlib.Core.Path.{sym}
 use native.Mathlib.Omega.{arith}
-use Rattle.separation.specs.InnerSearch.{Refused}
-use Rattle.separation.proofs.Settling.{copied-equal}
+use Rattle.bounding.specs.InnerSettled.{Refused}
+use Rattle.bounding.proofs.Slices.{copied-equal}
 use Rattle.separation.proofs.Standings.{standing-pass, standing-take, marks-refused, marks-up}
 use borrow.Author.Needs.{needs}
 use Rattle.separation.proofs.search.try_pair.Statement.{statement}

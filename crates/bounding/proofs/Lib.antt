@@ -1,0 +1,5 @@
+pub mod Settling
+pub mod TwoBlocks
+pub mod Bounding
+pub mod RowBounds
+pub mod Slices

@@ -1,0 +1,3 @@
+pub mod InnerSettled
+pub mod InnerBlocks
+pub mod InnerBounds

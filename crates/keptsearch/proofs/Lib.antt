@@ -1,0 +1,4 @@
+pub mod Rowing
+pub mod Joining
+pub mod Listing
+pub mod KeptRows
