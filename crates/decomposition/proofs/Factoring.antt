@@ -29,6 +29,13 @@ use Rattle.decomposition.specs.declared.Found.{Found}
 use Rattle.decomposition.specs.declared.Found.the-variants.{Irreducible}
 use Rattle.decomposition.proofs.Finding.{found-reducible, found-irreducible}
 
+-- the arrays are enough for any algebra
+pub storage-most : {n : ℕ} {maps suffixes table met needed : List ℕ} → n ≤ 64 → length maps ≡ 4032 → length suffixes ≡ 4096 → length table ≡ 4096 → length met ≡ 64 → length needed ≡ 64
+    → Storage n maps suffixes table met needed
+storage-most {n} most m s t d e =
+    let h = mostFactorSpace-most n most in
+    record { gathered = omega arith; ends = omega arith; pairs = omega arith; meets = omega arith; numbers = omega arith }
+
 module _ (a : Algebra) (accepted : Accepted a) where
   c : WellFormed a
   c = accepted-wellFormed a accepted
@@ -82,34 +89,25 @@ module _ (a : Algebra) (accepted : Accepted a) where
     unfolding listed
     factors-left = ap (pruned (a .size) []) mapList-all
 
-  -- storage for any algebra is enough for this one
-  module _ {maps suffixes table met needed : List ℕ} (s : Storage maps suffixes table met needed) where
-    pub storage-table : 4096 ≤ length table
-    storage-table = omega (arith, s .pairs)
-
-    pub storage-meet : a .size ≤ length met
-    storage-meet = omega (arith, s .meets, c .most)
-
-    pub storage-maps : mostFactorSpace (a .size) ≤ length maps
-    storage-maps = omega (arith, s .gathered, mostFactorSpace-most (a .size) (c .most))
-
+  -- on storage that is enough
+  module _ {maps suffixes table met needed : List ℕ} (s : Storage (a .size) maps suffixes table met needed) where
     module _ {r : Collected} {k : ℕ} (e : r ≡ All k) (after : List ℕ) (g : GatheredRight a r maps after) where
       all-gathered : GatheredRight a (All k) maps after
       all-gathered = subst (λ (z : Collected). GatheredRight a z maps after) e g
 
       pub gathered-fits : MapsListed (a .size) k after × (k * a .size + a .size ≤ length suffixes) × (k ≤ length needed)
       gathered-fits =
-          let h = gathered-few maps (all-gathered .1) (all-gathered .2) storage-maps in
-          let room : k * a .size ≤ 63 * a .size = mul-le-mul-right (a .size) (omega (arith, c .most)) in (
-            maps-listed maps (all-gathered .1) (all-gathered .2) storage-maps,
-            omega (arith, s .ends, c .most),
-            omega (arith, s .numbers, c .most),
+          let h = gathered-few maps (all-gathered .1) (all-gathered .2) (s .gathered) in
+          let room : k * a .size ≤ (a .size - 1) * a .size = mul-le-mul-right (a .size) h in (
+            maps-listed maps (all-gathered .1) (all-gathered .2) (s .gathered),
+            omega (arith, s .ends),
+            omega (arith, s .numbers),
           )
 
       pub found-listed : (lent : List ℕ) {found : Found} {lent′ : List ℕ} → (found, lent′) ≡ listedIn (a .size) (pruned (a .size) [] (mapList (a .size) k after)) lent
           → (found, lent′) ≡ foundIn a lent
       found-listed lent f =
-          f ∙ ap (λ (ms : List Map). listedIn (a .size) ms lent) (factors-left maps (all-gathered .1) (all-gathered .2) storage-maps)
+          f ∙ ap (λ (ms : List Map). listedIn (a .size) ms lent) (factors-left maps (all-gathered .1) (all-gathered .2) (s .gathered))
           ∙ sym (found-reducible a lent (all-gathered .0))
 
     pub found-joined : {r : Collected} {x y : Element} → r ≡ Joined x y → (after lent : List ℕ) → GatheredRight a r maps after → (Irreducible x y, lent) ≡ foundIn a lent

@@ -1,169 +1,211 @@
--- Decompose's first loop: what holds when k congruences are gathered (`Gathering`), the laws that start it, keep it and end it, and why it
--- may stop as soon as Separate gives the identity: the algebra is irreducible, and the pair is the one that 11 carries.
+-- Decompose's first loop: the laws that start `Gathering`, hand it over from one loop to the other, keep it and end it; why gathering may stop as soon as Separate gives
+-- the identity: the algebra is irreducible, and the pair is the one that 11 carries; and the laws of a step's two calls.
 use Prim.Native.Nat.{ℕ, suc, _+_, _-_, _*_, _≤_, _<_}
 use mathlib.Core.Bool.{Bool, true, false, not}
-use mathlib.Core.List.{List, [], _∷_, _++_, map, List·Memᴰ as Member, List·Memᴰ·head as here, List·Memᴰ·not-nil as not-nil, List·Memᴰ·eq-of-singleton as eq-of-singleton, Memᴰ·append-left as append-left, Memᴰ·append-right as append-right, List·Memᴰ·append-cases as append-cases, append-assoc, append-nil}
+use mathlib.Core.List.{List, [], _∷_, _++_, List·Memᴰ as Member, List·Memᴰ·head as here, List·Memᴰ·not-nil as not-nil, List·Memᴰ·eq-of-singleton as eq-of-singleton}
+use mathlib.Core.List.{Memᴰ·append-right as append-right, List·Memᴰ·append-cases as append-cases, append-assoc, append-nil}
 use mathlib.Core.Logic.{inl, inr, _≢_}
 use mathlib.Core.Path.{_≡_, refl, sym, ap, subst, _∙_}
 use native.Mathlib.Nat.{suc-mul, mul-le-mul-right}
 use native.Mathlib.Numerals.{add-one}
 use native.Mathlib.Omega.{arith}
 use lib.Dec.{T}
-use lib.ListN.{length, length-append, length-drop}
+use lib.ListN.{length, take, drop, length-append, length-drop}
+use lib.Seq.{take-at, drop-at, drop-drop, length-take-le}
 use borrow.Author.Tests.{not-true, not-false}
-use Rattle.equivalence.proofs.Laying.{laid-from, rest-whole}
-use Rattle.equivalence.specs.Equivalence.{Map, byte, blocks, identity, whole, isIdentity, meet}
+use borrow.Rule.Slice.PartMut.{putMid, midOf}
 use Rattle.kernel.specs.InnerKernel.{Canonical}
+use Rattle.equivalence.specs.Equivalence.{Map, byte, blocks, whole, isIdentity, meet, meetAll}
 use Rattle.equivalence.specs.Lists.{concat}
 use Rattle.equivalence.specs.Order.{Pair, firstHeld}
 use Rattle.equivalence.specs.Lent.{written, laid}
 use Rattle.equivalence.proofs.BlockNumbers.{blocks-le, blocks-some, blocks-more}
-use Rattle.equivalence.proofs.Maps.{Holds, IsMap, Discrete, identity-discrete, whole-map, whole-holds, isIdentity-of, of-isIdentity}
-use Rattle.equivalence.proofs.Meets.{meet-map, meet-holds, of-meet, AllHold}
+use Rattle.equivalence.proofs.Laying.{laid-from, rest-whole}
+use Rattle.equivalence.proofs.Maps.{Holds, IsMap, Discrete, identity-discrete, whole-map, isIdentity-of, of-isIdentity}
+use Rattle.equivalence.proofs.Meets.{meet-map, of-meet, meetAll-map, meetAll-holds}
 use Rattle.equivalence.proofs.Pairs.{of-pairs, firstHeld-law, firstHeld-first}
+use Rattle.equivalence.proofs.Stretches.{concat-append}
 use Rattle.equivalence.proofs.Tests.{T-of, not-T-of}
 use Rattle.equivalence.proofs.Writing.{written-length}
 use Rattle.algebra.specs.Algebra.{Algebra}
 use Rattle.algebra.specs.Accepted.{Accepted}
 use Rattle.algebra.proofs.Accepted.{WellFormed, accepted-wellFormed}
-use Rattle.algebra.proofs.Congruences.{IsCongruence}
+use Rattle.algebra.proofs.Congruences.{IsCongruence, congruence-is, congruence-of}
 use Rattle.theory.specs.Decompose.{added, gathered, listed, mostFactorSpace, reducible, commonPair}
 use Rattle.theory.specs.Splitting.{Splitting}
 use Rattle.theory.specs.Extremal.{separated}
-use Rattle.decomposition.specs.InnerGathering.{AddStep, pairFound, GatheredRight}
 use Rattle.theory.proofs.CommonPair.{Common, commonPair-law, refuse-when, unsplit-when, reducible-when}
 use Rattle.theory.proofs.Factors.{added-law, split, gathered-end, gathered-step}
-use Rattle.maplist.proofs.MapLists.{Begins, begins-is, begins-refl, begins-written, begins-canonical, begins-meet, begins-isIdentity, begins-firstHeld, onwards, laid-snoc, concat-length}
 use Rattle.theory.proofs.Separation.{separated-law, lex-asym}
-use borrow.Rule.Slice.PartMut.{putMid}
+use Rattle.maplist.proofs.MapLists.{Begins, begins-is, begins-sym, begins-take, begins-refl, begins-written, begins-canonical, begins-meet, begins-isIdentity, begins-firstHeld}
+use Rattle.maplist.proofs.MapLists.{meetAll-snoc, onwards, onwards-canonical, laid-snoc, concat-length}
+use Rattle.decomposition.specs.InnerGathering.{Gathering, Unmet, Wanted, Separated, Meetable, Met, pairFound, GatheredRight}
 use Rattle.decomposition.specs.declared.gather.Collected.{Collected}
-use Rattle.decomposition.specs.declared.gather.Collected.the-variants.{All}
+use Rattle.decomposition.specs.declared.gather.Collected.the-variants.{All, Joined}
+
+-- ---- a step's calls
 
 -- the first pair of a map that is not the identity
-pub first-below : (n : ℕ) (m : Map) → ¬ T (isIdentity n m) → (firstHeld n m .0 < firstHeld n m .1) × (firstHeld n m .1 < n)
-first-below n m t = of-pairs n (firstHeld n m) (firstHeld-law n m (λ f. t (isIdentity-of n m f)) .0)
+pub first-below : {n : ℕ} {met : List ℕ} {v w : ℕ} → Unmet n met → _≡_ {A = Pair} (v, w) (firstHeld n met) → (v < w) × (w < n)
+first-below {n} {met} u e =
+    subst (λ (p : Pair). (p .0 < p .1) × (p .1 < n)) (sym e)
+    (of-pairs n (firstHeld n met) (firstHeld-law n met (λ f. not-T-of (u .going) (isIdentity-of n met f)) .0))
 
-added-is : (a : Algebra) (d : Map) (p : Pair) → p ≡ firstHeld (a .size) d → separated a (p .0) (p .1) ≡ added a d
-unfolding added
-added-is a d p e = ap (λ (q : Pair). separated a (q .0) (q .1)) e
+-- its two elements are bytes
+pub pair-bytes : {n : ℕ} {met : List ℕ} {v w : ℕ} → Unmet n met → _≡_ {A = Pair} (v, w) (firstHeld n met) → (v < 64) × (w < 64)
+pair-bytes u e = let b = first-below u e in (omega (arith, b .0, b .1, u .most), omega (arith, b .1, u .most))
+
+pub pair-found : (n : ℕ) (met : List ℕ) {v w : ℕ} → _≡_ {A = Pair} (v, w) (firstHeld n met) → pairFound (v, w) ≡ pairFound (firstHeld n met)
+pair-found n met e = ap pairFound e
+
+-- what Separate is asked for, and where its answer goes
+module _ {a : Algebra} {at : ℕ} {met bytes : List ℕ} (want : Wanted a at met bytes) {v w : ℕ} (pair : _≡_ {A = Pair} (v, w) (firstHeld (a .size) met)) where
+  pub wanted-pair : Accepted a × ((v < a .size) × ((w < a .size) × ((v ≡ w → ⊥) × (a .size ≤ length (onwards at bytes)))))
+  wanted-pair =
+      let b = first-below (want .unmet) pair in (
+        want .accepted,
+        (omega (arith, b .0, b .1), (b .1, (omega (arith, b .0), rw (rest-whole at bytes, length-drop at bytes) (omega (arith, want .fits))))),
+      )
+
+  pub wanted-laid : {part : List ℕ} → part ≡ written (separated a v w) (midOf at (length bytes - at) bytes) → Separated a at met bytes (putMid at (length bytes - at) bytes part)
+  unfolding added
+  wanted-laid e =
+      ap (putMid at (length bytes - at) bytes) (e ∙ ap (λ (p : Pair). written (separated a (p .0) (p .1)) (midOf at (length bytes - at) bytes)) pair)
+      ∙ laid-from at bytes (added a met) (omega (arith, want .fits))
+
+-- what is met
+module _ {n at : ℕ} {bytes table met : List ℕ} (m : Meetable n at bytes table met) where
+  pub meetable-new : (n ≤ length (onwards at bytes)) × Canonical n (byte (onwards at bytes))
+  meetable-new = (rw (rest-whole at bytes, length-drop at bytes) (omega (arith, m .fits)), onwards-canonical at bytes (m .new))
+
+  pub meetable-both : (n ≤ 64) × ((n ≤ length (onwards at bytes)) × ((4096 ≤ length table) × ((n ≤ length met) × (Canonical n (byte (onwards at bytes)) × Canonical n (byte met)))))
+  meetable-both = (m .most, (meetable-new .0, (m .pairs, (m .enough, (meetable-new .1, m .old)))))
+
+pub met-stop : {n : ℕ} (at : ℕ) (bytes met : List ℕ) {r : Bool} → r ≡ isIdentity n (onwards at bytes) → r ≡ true → Met n at bytes met true met
+met-stop {n} at bytes met e t =
+    record { identity = sym t ∙ e ∙ ap (isIdentity n) (rest-whole at bytes); stays = λ z. refl; meets = λ z. absurd (not-T-of z tt) }
+
+pub met-more : {n : ℕ} (at : ℕ) (bytes met : List ℕ) {r : Bool} {met′ : List ℕ} → r ≡ isIdentity n (onwards at bytes) → r ≡ false
+    → met′ ≡ written (meet n met (onwards at bytes)) met → Met n at bytes met false met′
+met-more {n} at bytes met e t f =
+    record {
+      identity = sym t ∙ e ∙ ap (isIdentity n) (rest-whole at bytes);
+      stays = λ z. absurd (T-of z);
+      meets = λ z. f ∙ ap (λ (l : List ℕ). written (meet n met l) met) (rest-whole at bytes);
+    }
+
+-- ---- the loops
 
 pub begins-added : (a : Algebra) {b d : Map} → Begins (a .size) b d → added a b ≡ added a d
 unfolding added
 begins-added a g = ap (λ (q : Pair). separated a (q .0) (q .1)) (begins-firstHeld g)
 
--- a step: what Separate gave for the first pair is the congruence that is added
-module _ (a : Algebra) (accepted : Accepted a) (met : List ℕ) (more : isIdentity (a .size) met ≡ false) {v w : ℕ} (pair : _≡_ {A = Pair} (v, w) (firstHeld (a .size) met)) where
-  pub step-pair : (v < w) × (w < a .size)
-  step-pair = subst (λ (p : Pair). (p .0 < p .1) × (p .1 < a .size)) (sym pair) (first-below (a .size) met (not-T-of more))
-
-  module _ (lent : List ℕ) {after : List ℕ} (got : after ≡ written (separated a v w) lent) where
-    new : after ≡ written (added a met) lent
-    new = got ∙ ap (λ (m : Map). written m lent) (added-is a met (v, w) pair)
-
-    is-map : IsMap (a .size) (added a met)
-    is-map = added-law a (accepted-wellFormed a accepted) met (λ g. not-T-of more (isIdentity-of (a .size) met g)) .5 .cong .map
-
-    begun : Begins (a .size) after (added a met)
-    begun = begins-written (added a met) lent new is-map
-
-    pub step-canonical : Canonical (a .size) (byte after)
-    step-canonical = begins-canonical begun is-map
-
-    module _ {r : Bool} (e : r ≡ isIdentity (a .size) after) where
-      pub step-stop : r ≡ true → AddStep a met lent true met after
-      step-stop t = record { identity = sym t ∙ e ∙ begins-isIdentity begun; new = new; stays = λ z. refl; meets = λ z. absurd (not-T-of z tt) }
-
-      pub step-more : {met′ : List ℕ} → r ≡ false → met′ ≡ written (meet (a .size) met after) met → AddStep a met lent false met′ after
-      step-more t f =
-          record {
-            identity = sym t ∙ e ∙ begins-isIdentity begun;
-            new = new;
-            stays = λ z. absurd (T-of z);
-            meets = λ z. f ∙ ap (λ (m : Map). written m met) (begins-meet (begins-refl refl) begun);
-          }
-
-pub record Gathering (a : Algebra) (lent : List ℕ) (k : ℕ) (d bytes : List ℕ) : Type 0 where
-  pub found : List Map
-  pub number : length found ≡ k
-  pub each : (m : Map) → Member m found → IsCongruence a m × ¬ Discrete (a .size) m
-  pub more : gathered (a .size) a (whole (a .size)) ≡ found ++ gathered (a .size - k) a d
-  pub fuel : a .size < a .size - k + blocks (a .size) d
-  pub map : IsMap (a .size) d
-  pub common : (x y : ℕ) → x < a .size → y < a .size → AllHold found x y → Holds d x y
-  pub laid : bytes ≡ written (concat found) lent
-
-pub gathering-start : (a : Algebra) → WellFormed a → (lent : List ℕ) → Gathering a lent 0 (whole (a .size)) lent
-unfolding written concat
-gathering-start a c lent =
-    let w : 1 ≤ blocks (a .size) (whole (a .size)) = blocks-some (a .size) (whole (a .size)) (c .some) (whole-map (a .size)) in
-    let all : a .size - 0 ≡ a .size = omega arith in
+pub gathering-start : {a : Algebra} → Accepted a → 2 ≤ a .size → (lent met : List ℕ) {met′ : List ℕ} → mostFactorSpace (a .size) ≤ length lent → a .size ≤ length met
+    → met′ ≡ written (whole (a .size)) met → Gathering a lent 0 0 met′ lent
+unfolding written concat meetAll
+gathering-start {a} accepted two lent met room enough e =
+    let n : ℕ = a .size in
+    let w : 1 ≤ blocks n (whole n) = blocks-some n (whole n) (accepted-wellFormed a accepted .some) (whole-map n) in
+    let all : n - 0 ≡ n = omega arith in
     record {
+      accepted = accepted;
+      two = two;
+      room = room;
+      enough = rw (e, written-length (whole n) met (omega (arith, whole-map n .long))) enough;
       found = [];
       number = refl;
+      few = omega arith;
+      most = accepted-wellFormed a accepted .most;
+      place = omega arith;
+      small = omega arith;
       each = λ m i. absurd (not-nil i);
+      meets = rw e (take-at (whole n) (drop (length (whole n)) met) n (whole-map n .long));
       more = rw all;
       fuel = omega arith;
-      map = whole-map (a .size);
-      common = λ x y l k h. whole-holds (a .size) x y l k;
       laid = refl;
+      long = refl;
     }
 
-module _ {a : Algebra} (c : WellFormed a) {lent : List ℕ} {k : ℕ} {d bytes : List ℕ} (g : Gathering a lent k d bytes) where
-  -- fewer than n are gathered
-  pub gathering-few : k < a .size
-  gathering-few = omega (arith, g .fuel, blocks-le (a .size) d)
+-- bytes written over some of them
+written-over : (one two lent : List ℕ) → written (one ++ two) (written one lent) ≡ written (one ++ two) lent
+unfolding written
+written-over one two lent =
+    let over : List ℕ → List ℕ = λ l. drop (length one + length two) l in
+    let behind : over (one ++ drop (length one) lent) ≡ over lent =
+    sym (drop-drop (length two) (length one) (one ++ drop (length one) lent)) ∙ ap (drop (length two)) (drop-at one (drop (length one) lent) (length one) refl)
+    ∙ drop-drop (length two) (length one) lent in
+    rw (length-append one two, behind)
 
-  long : (m : Map) → Member m (g .found) → length m ≡ a .size
-  long m i = g .each m i .0 .map .long
+module _ {a : Algebra} {lent : List ℕ} {k at : ℕ} {met bytes : List ℕ} (g : Gathering a lent k at met bytes) where
+  c : WellFormed a
+  c = accepted-wellFormed a (g .accepted)
+
+  abbrev d : Map
+  d = meetAll (a .size) (g .found)
+
+  map : IsMap (a .size) d
+  map = meetAll-map (a .size) (g .found)
+
+  begins : Begins (a .size) met d
+  begins = begins-is (begins-sym (begins-take met)) (g .meets)
+
+  pub gathering-canonical : (a .size ≤ length met) × Canonical (a .size) (byte met)
+  gathering-canonical = (g .enough, begins-canonical begins map)
+
+  proper : (m : Map) → Member m (g .found) → IsCongruence a m × ¬ Discrete (a .size) m
+  proper m i = (congruence-is a m (g .each m i .0), λ f. g .each m i .1 (isIdentity-of (a .size) m f))
 
   -- the bytes that are written
-  pub gathering-end : k * a .size ≡ length (concat (g .found))
-  gathering-end = ap (λ (i : ℕ). i * a .size) (sym (g .number)) ∙ sym (concat-length (a .size) (g .found) long)
+  end : k * a .size ≡ length (concat (g .found))
+  end = ap (λ (i : ℕ). i * a .size) (sym (g .number)) ∙ sym (concat-length (a .size) (g .found) (λ m i. proper m i .0 .map .long))
 
-  pub gathering-long : k * a .size ≤ length lent → length bytes ≡ length lent
-  gathering-long h = rw (g .laid) (written-length (concat (g .found)) lent (omega (arith, gathering-end)))
+  fits : k * a .size ≤ length lent
+  fits = let h : k ≤ a .size - 1 = omega (arith, g .few) in omega (arith, g .room, mul-le-mul-right (a .size) h)
 
-  finer : ¬ Discrete (a .size) d → blocks (a .size) d < blocks (a .size) (meet (a .size) d (added a d))
-  finer f =
-      let n : ℕ = a .size in
-      let q = added-law a c d f in
-      blocks-more n d (meet n d (added a d)) (g .map) (meet-map n d (added a d)) (λ x y l i e. of-meet n d (added a d) x y l i e .0) (q .0) (q .1) (q .2) (q .3) (q .4)
-      (λ e. q .5 .apart (of-meet n d (added a d) (q .0) (q .1) (q .2) (q .3) e .1))
-
-  -- and fewer than n - 1 where their meet is not the identity, so there is room for one more
-  pub gathering-room : ¬ Discrete (a .size) d → k + 1 ≤ a .size - 1
-  gathering-room f = omega (arith, g .fuel, blocks-le (a .size) (meet (a .size) d (added a d)), finer f)
-
-  -- one congruence more, which is not the identity
-  pub gathering-more : ¬ Discrete (a .size) d → ¬ Discrete (a .size) (added a d) → k * a .size + a .size ≤ length lent
-      → Gathering a lent (k + 1) (meet (a .size) d (added a d)) (laid bytes (k * a .size) (added a d))
-  gathering-more f proper room =
-      let n : ℕ = a .size in
-      let q = added-law a c d f in
-      let m : Map = meet n d (added a d) in
-      let one : n - k ≡ suc (n - (k + 1)) = omega (arith, gathering-few) in
+  -- handed over: what is gathered might as well have been laid over itself, and what is then found is right for the bytes that were lent first
+  pub gathering-here : Gathering a bytes k at met bytes
+  gathering-here =
       record {
-        found = g .found ++ (added a d ∷ []);
-        number = rw (length-append (g .found) (added a d ∷ []), g .number) refl;
-        each = λ s i. elim (append-cases (g .found) i) [ inl h ↦ g .each s h | inr h ↦ rw (eq-of-singleton h) (q .5 .cong, proper) ];
-        more = g .more ∙ ap (λ (i : ℕ). g .found ++ gathered i a d) one ∙ ap (λ (l : List Map). g .found ++ l) (gathered-step (n - (k + 1)) a d f)
-            ∙ sym (append-assoc (g .found) (added a d ∷ []) (gathered (n - (k + 1)) a m));
-        fuel = omega (arith, g .fuel, finer f);
-        map = meet-map n d (added a d);
-        common = λ x y l i h. meet-holds n d (added a d) x y l i (g .common x y l i (λ s j. h s (append-left (added a d ∷ []) j))) (h (added a d) (append-right (g .found) (here refl)));
-        laid = ap (λ (z : List ℕ). laid z (k * n) (added a d)) (g .laid)
-            ∙ laid-snoc (g .found) (added a d) lent (k * n) gathering-end (omega (arith, gathering-end, suc-mul k n));
+        accepted = g .accepted;
+        two = g .two;
+        room = rw (g .long) (g .room);
+        enough = g .enough;
+        found = g .found;
+        number = g .number;
+        few = g .few;
+        most = g .most;
+        place = g .place;
+        small = g .small;
+        each = g .each;
+        meets = g .meets;
+        more = g .more;
+        fuel = g .fuel;
+        laid = g .laid ∙ sym (rw append-nil at (written-over (concat (g .found)) [] lent)) ∙ ap (written (concat (g .found))) (sym (g .laid));
+        long = refl;
       }
 
-  -- when the meet is the identity, all are gathered
-  pub gathering-all : Discrete (a .size) d → g .found ≡ gathered (a .size) a (whole (a .size))
-  gathering-all f = sym (g .more ∙ ap (λ (l : List Map). g .found ++ l) (gathered-end (a .size - k) a d f) ∙ append-nil (g .found))
+  all-over : (all : List Map) → all ≡ g .found ++ gathered (a .size - k) a d → written (concat all) bytes ≡ written (concat all) lent
+  all-over all e =
+      let rest : List Map = gathered (a .size - k) a d in
+      rw (e, concat-append (g .found) rest, g .laid) (written-over (concat (g .found)) (concat rest) lent)
 
-  pub gathering-reducible : 2 ≤ a .size → Discrete (a .size) d → T (reducible a)
-  gathering-reducible two f = reducible-when a c two (λ m i. g .each m (subst (λ (l : List Map). Member m l) (sym (gathering-all f)) i) .1)
+  pub gathered-on : (r : Collected) (after : List ℕ) → GatheredRight a r bytes after → GatheredRight a r lent after
+  gathered-on (All j) after h = (h .0, h .1, h .2 ∙ all-over (gathered (a .size) a (whole (a .size))) (g .more))
+  gathered-on (Joined x y) after h = h
 
-  -- Separate gave the identity for the first pair of d: every other congruence holds that pair, and d holds every pair that they all hold
-  module _ (two : 2 ≤ a .size) (f : ¬ Discrete (a .size) d) (is : Discrete (a .size) (added a d)) where
+  -- the meet is the identity: all are gathered
+  pub gathering-all : {b : Bool} → b ≡ isIdentity (a .size) met → not b ≡ false → GatheredRight a (All k) lent bytes
+  gathering-all {b} same t =
+      let f : Discrete (a .size) d = of-isIdentity (a .size) d (rw (begins-isIdentity begins) at (T-of (sym same ∙ not-false b t))) in
+      let e : g .found ≡ gathered (a .size) a (whole (a .size)) =
+      sym (g .more ∙ ap (λ (l : List Map). g .found ++ l) (gathered-end (a .size - k) a d f) ∙ append-nil (g .found)) in (
+        reducible-when a c (g .two) (λ m i. proper m (subst (λ (l : List Map). Member m l) (sym e) i) .1),
+        sym (g .number) ∙ ap length e,
+        g .laid ∙ ap (λ (l : List Map). written (concat l) lent) e,
+      )
+
+  -- Separate gives the identity for the first pair of the meet: every other congruence holds that pair, and the meet holds every pair that they all hold
+  module _ (f : ¬ Discrete (a .size) d) (is : Discrete (a .size) (added a d)) where
     p : Pair
     p = firstHeld (a .size) d
 
@@ -181,16 +223,16 @@ module _ {a : Algebra} (c : WellFormed a) {lent : List ℕ} {k : ℕ} {d bytes :
     unsplit-here : (ms : List Map) → ¬ Splitting a ms
     unsplit-here = unsplit-when a c (p .0) (p .1) (omega (arith, order .0, order .1)) (order .1) (omega (arith, order .0)) shared
 
-    pub stop-irreducible : ¬ T (reducible a)
+    stop-irreducible : ¬ T (reducible a)
     stop-irreducible t = unsplit-here (listed a) (split a c t)
 
-    pub stop-pair : commonPair a ≡ firstHeld (a .size) d
+    stop-pair : commonPair a ≡ firstHeld (a .size) d
     unfolding p
     stop-pair =
-        let q = commonPair-law a c two unsplit-here in
+        let q = commonPair-law a c (g .two) unsplit-here in
         let held : Holds d (commonPair a .0) (commonPair a .1) =
-        g .common (commonPair a .0) (commonPair a .1) (omega (arith, q .order, q .below)) (q .below)
-        (λ m i. q .shared m (g .each m i .0) (λ e. g .each m i .1 (subst (λ (z : Map). Discrete (a .size) z) (sym e) (identity-discrete (a .size))))) in
+        meetAll-holds (a .size) (g .found) (commonPair a .0) (commonPair a .1) (omega (arith, q .order, q .below)) (q .below)
+        (λ m i. q .shared m (proper m i .0) (λ e. proper m i .1 (subst (λ (z : Map). Discrete (a .size) z) (sym e) (identity-discrete (a .size))))) in
         elim (q .first (p .0) (p .1) (order .0) (order .1) shared) [
           | inl e ↦ e
           | inr b ↦ elim (firstHeld-first (a .size) d (commonPair a .0) (commonPair a .1) (q .order) (q .below) held) [
@@ -199,109 +241,111 @@ module _ {a : Algebra} (c : WellFormed a) {lent : List ℕ} {k : ℕ} {d bytes :
           ]
         ]
 
--- ---- the loop, over slices
-
-pub record Collecting (a : Algebra) (lent : List ℕ) (k at : ℕ) (met bytes : List ℕ) : Type 0 where
-  pub wellFormed : WellFormed a
-  pub two : 2 ≤ a .size
-  pub room : mostFactorSpace (a .size) ≤ length lent
-  pub enough : a .size ≤ length met
-  pub meet : Map
-  pub begins : Begins (a .size) met meet
-  pub place : at ≡ k * a .size
-  pub gathering : Gathering a lent k meet bytes
-
-pub collecting-start : {a : Algebra} → Accepted a → 2 ≤ a .size → (lent met : List ℕ) {met′ : List ℕ} → mostFactorSpace (a .size) ≤ length lent → a .size ≤ length met
-    → met′ ≡ written (whole (a .size)) met → Collecting a lent 0 0 met′ lent
-collecting-start {a} accepted two lent met room enough e =
-    record {
-      wellFormed = accepted-wellFormed a accepted;
-      two = two;
-      room = room;
-      enough = rw (e, written-length (whole (a .size)) met (omega (arith, whole-map (a .size) .long))) enough;
-      meet = whole (a .size);
-      begins = begins-written (whole (a .size)) met e (whole-map (a .size));
-      place = omega arith;
-      gathering = gathering-start a (accepted-wellFormed a accepted) lent;
-    }
-
-module _ {a : Algebra} {lent : List ℕ} {k at : ℕ} {met bytes : List ℕ} (s : Collecting a lent k at met bytes) where
-  pub collecting-canonical : Canonical (a .size) (byte met)
-  collecting-canonical = begins-canonical (s .begins) (s .gathering .map)
-
-  pub collecting-few : (k < a .size) × (a .size ≤ 64)
-  collecting-few = (gathering-few (s .wellFormed) (s .gathering), s .wellFormed .most)
-
-  pub collecting-long : length bytes ≡ length lent
-  collecting-long =
-      gathering-long (s .wellFormed) (s .gathering) (omega (arith, s .room, mul-le-mul-right (a .size) (let h : k ≤ a .size - 1 = omega (arith, collecting-few) in h)))
-
-  -- the meet is the identity
-  pub collecting-all : {b : Bool} → b ≡ isIdentity (a .size) met → not b ≡ false → GatheredRight a (All k) lent bytes
-  collecting-all {b} same t =
-      let f : Discrete (a .size) (s .meet) = of-isIdentity (a .size) (s .meet) (rw (begins-isIdentity (s .begins)) at (T-of (sym same ∙ not-false b t))) in
-      let e = gathering-all (s .wellFormed) (s .gathering) f in
-      (gathering-reducible (s .wellFormed) (s .gathering) (s .two) f, sym (s .gathering .number) ∙ ap length e, s .gathering .laid ∙ ap (λ (l : List Map). written (concat l) lent) e)
-
-  -- it is not yet
+  -- the meet is not the identity yet
   module _ {b : Bool} (same : b ≡ isIdentity (a .size) met) (t : not b ≡ true) where
-    pub collecting-going : isIdentity (a .size) met ≡ false
-    collecting-going = sym same ∙ not-true b t
+    going : isIdentity (a .size) met ≡ false
+    going = sym same ∙ not-true b t
 
-    discrete : ¬ Discrete (a .size) (s .meet)
-    discrete f = not-T-of collecting-going (rw (begins-isIdentity (s .begins)) (isIdentity-of (a .size) (s .meet) f))
+    discrete : ¬ Discrete (a .size) d
+    discrete f = not-T-of going (rw (begins-isIdentity begins) (isIdentity-of (a .size) d f))
 
-    -- there is room for one more
+    finer : blocks (a .size) d < blocks (a .size) (meet (a .size) d (added a d))
+    finer =
+        let n : ℕ = a .size in
+        let q = added-law a c d discrete in
+        blocks-more n d (meet n d (added a d)) map (meet-map n d (added a d)) (λ x y l i e. of-meet n d (added a d) x y l i e .0) (q .0) (q .1) (q .2) (q .3) (q .4)
+        (λ e. q .5 .apart (of-meet n d (added a d) (q .0) (q .1) (q .2) (q .3) e .1))
+
+    -- so there is room for one more
     short : k + 1 ≤ a .size - 1
-    short = gathering-room (s .wellFormed) (s .gathering) discrete
+    short = omega (arith, g .fuel, blocks-le (a .size) (meet (a .size) d (added a d)), finer)
 
-    pub collecting-fits : at + a .size ≤ length bytes
-    collecting-fits =
-        omega (arith, s .place, s .room, collecting-long, mul-le-mul-right (a .size) short, suc-mul k (a .size), ap (λ (z : ℕ). z * a .size) (add-one k))
+    behind : at + a .size ≤ length bytes
+    behind = omega (arith, g .place, g .room, g .long, mul-le-mul-right (a .size) short, suc-mul k (a .size), ap (λ (z : ℕ). z * a .size) (add-one k))
 
-    pub collecting-small : at + a .size ≤ 4032
-    collecting-small =
-        let h : k + 1 ≤ 63 = omega (arith, short, s .wellFormed .most) in
-        omega (arith, s .place, mul-le-mul-right (a .size) h, suc-mul k (a .size), ap (λ (z : ℕ). z * a .size) (add-one k), s .wellFormed .most)
+    next-small : at + a .size ≤ 4032
+    next-small =
+        let h : k + 1 ≤ 63 = omega (arith, short, g .most) in
+        omega (arith, g .place, mul-le-mul-right (a .size) h, suc-mul k (a .size), ap (λ (z : ℕ). z * a .size) (add-one k), g .most)
 
-    pub collecting-part : a .size ≤ length (onwards at bytes)
-    collecting-part = rw (rest-whole at bytes, length-drop at bytes) (omega (arith, collecting-fits))
+    unmet : Unmet (a .size) met
+    unmet = record { some = c .some; most = g .most; enough = g .enough; canonical = gathering-canonical .1; going = going }
 
-    module _ {stop : Bool} {met′ after : List ℕ} (p : AddStep a met (onwards at bytes) stop met′ after) where
-      -- one step that does not stop
-      pub collecting-more : stop ≡ false → Collecting a lent (k + 1) (at + a .size) met′ (putMid at (length bytes - at) bytes after)
-      collecting-more e =
-          let whole-bytes : putMid at (length bytes - at) bytes after ≡ laid bytes at (added a met) =
-          ap (putMid at (length bytes - at) bytes) (p .new) ∙ laid-from at bytes (added a met) (omega (arith, collecting-fits)) in
-          let new : added a met ≡ added a (s .meet) = begins-added a (s .begins) in
-          let i : ¬ T (isIdentity (a .size) (added a met)) = not-T-of (sym (p .identity) ∙ e) in
+    pub gathering-wanted : Wanted a at met bytes
+    gathering-wanted = record { accepted = g .accepted; unmet = unmet; fits = behind }
+
+    module _ {bytes′ : List ℕ} (s : Separated a at met bytes bytes′) where
+      new-map : IsMap (a .size) (added a met)
+      new-map = added-law a c met (λ f. not-T-of going (isIdentity-of (a .size) met f)) .5 .cong .map
+
+      new-begins : Begins (a .size) (drop at bytes′) (added a met)
+      unfolding laid
+      new-begins =
+          begins-written (added a met) (drop at bytes)
+          (ap (drop at) s ∙ drop-at (take at bytes) (written (added a met) (drop at bytes)) at (length-take-le at bytes (omega (arith, behind)))) new-map
+
+      long : length bytes′ ≡ length bytes
+      unfolding laid
+      long =
+          rw (s, length-append (take at bytes) (written (added a met) (drop at bytes)), written-length (added a met) (drop at bytes) (omega (arith, new-map .long, length-drop at bytes, behind)))
+          (omega (arith, length-take-le at bytes (omega (arith, behind)), length-drop at bytes, behind))
+
+      pub gathering-meetable : {table : List ℕ} → 4096 ≤ length table → Meetable (a .size) at bytes′ table met
+      gathering-meetable h =
           record {
-            wellFormed = s .wellFormed;
-            two = s .two;
-            room = s .room;
-            enough = rw (p .meets e, written-length (meet (a .size) met (added a met)) met (omega (arith, meet-map (a .size) met (added a met) .long, s .enough))) (s .enough);
-            meet = meet (a .size) (s .meet) (added a (s .meet));
-            begins = begins-is (begins-written (meet (a .size) met (added a met)) met (p .meets e) (meet-map (a .size) met (added a met))) (begins-meet (s .begins) (begins-refl new));
-            place = omega (arith, s .place, suc-mul k (a .size), ap (λ (z : ℕ). z * a .size) (add-one k));
-            gathering = subst (λ (l : List ℕ). Gathering a lent (k + 1) (meet (a .size) (s .meet) (added a (s .meet))) l)
-                (sym (whole-bytes ∙ ap (λ (z : ℕ). laid bytes z (added a met)) (s .place) ∙ ap (laid bytes (k * a .size)) new))
-                (gathering-more (s .wellFormed) (s .gathering) discrete (λ z. i (rw new (isIdentity-of (a .size) (added a (s .meet)) z)))
-                (omega (arith, s .room, mul-le-mul-right (a .size) short, suc-mul k (a .size), ap (λ (z : ℕ). z * a .size) (add-one k))));
+            most = g .most;
+            fits = omega (arith, long, behind);
+            pairs = h;
+            enough = g .enough;
+            new = begins-canonical new-begins new-map;
+            old = gathering-canonical .1;
           }
 
-      -- one step that stops: the meet is as it was, and not the identity
-      module _ (e : stop ≡ true) where
-        pub stopped-enough : a .size ≤ length met′
-        stopped-enough = rw (p .stays e) (s .enough)
+      module _ {stop : Bool} {met′ : List ℕ} (p : Met (a .size) at bytes′ met stop met′) where
+        is-identity : stop ≡ isIdentity (a .size) (added a d)
+        is-identity = p .identity ∙ begins-isIdentity new-begins ∙ ap (isIdentity (a .size)) (begins-added a begins)
 
-        pub stopped-canonical : Canonical (a .size) (byte met′)
-        stopped-canonical = rw (p .stays e) collecting-canonical
+        -- one congruence more
+        pub gathering-more : stop ≡ false → Gathering a lent (k + 1) (at + a .size) met′ bytes′
+        unfolding written
+        gathering-more e =
+            let n : ℕ = a .size in
+            let new : added a met ≡ added a d = begins-added a begins in
+            let i : ¬ T (isIdentity n (added a d)) = not-T-of (sym is-identity ∙ e) in
+            let both : meet n met (drop at bytes′) ≡ meet n d (added a d) = begins-meet begins (begins-is new-begins new) in
+            let met-all : meetAll n (g .found ++ (added a d ∷ [])) ≡ meet n d (added a d) = meetAll-snoc n (g .found) (added a d) in
+            let one : n - k ≡ suc (n - (k + 1)) = omega (arith, g .few) in
+            let m : IsMap n (meet n met (drop at bytes′)) = meet-map n met (drop at bytes′) in
+            record {
+              accepted = g .accepted;
+              two = g .two;
+              room = g .room;
+              enough = rw (p .meets e, written-length (meet n met (drop at bytes′)) met (omega (arith, m .long, g .enough))) (g .enough);
+              found = g .found ++ (added a d ∷ []);
+              number = rw (length-append (g .found) (added a d ∷ []), g .number) refl;
+              few = omega (arith, short);
+              most = g .most;
+              place = omega (arith, g .place, suc-mul k n, ap (λ (z : ℕ). z * n) (add-one k));
+              small = next-small;
+              each = λ s j. elim (append-cases (g .found) j) [
+                | inl h ↦ g .each s h
+                | inr h ↦ rw (eq-of-singleton h) (congruence-of a (added a d) (added-law a c d discrete .5 .cong), i)
+              ];
+              meets = ap (take n) (p .meets e) ∙ take-at (meet n met (drop at bytes′)) (drop (length (meet n met (drop at bytes′))) met) n (m .long) ∙ both ∙ sym met-all;
+              more = g .more ∙ ap (λ (i : ℕ). g .found ++ gathered i a d) one ∙ ap (λ (l : List Map). g .found ++ l) (gathered-step (n - (k + 1)) a d discrete)
+                  ∙ sym (append-assoc (g .found) (added a d ∷ []) (gathered (n - (k + 1)) a (meet n d (added a d))))
+                  ∙ ap (λ (z : Map). (g .found ++ (added a d ∷ [])) ++ gathered (n - (k + 1)) a z) (sym met-all);
+              fuel = rw met-all (omega (arith, g .fuel, finer));
+              laid = s ∙ ap (laid bytes at) new ∙ ap (λ (z : List ℕ). laid z at (added a d)) (g .laid) ∙ laid-snoc (g .found) (added a d) lent at (g .place ∙ end) (omega (arith, end, fits));
+              long = long ∙ g .long;
+            }
 
-        pub stopped-going : isIdentity (a .size) met′ ≡ false
-        stopped-going = rw (p .stays e) collecting-going
+        -- the identity: the meet is as it was
+        module _ (e : stop ≡ true) where
+          pub gathering-unmet : Unmet (a .size) met′
+          gathering-unmet = rw (p .stays e) unmet
 
-        pub collecting-stop : {r : Collected} (bytes′ : List ℕ) → r ≡ pairFound (firstHeld (a .size) met′) → GatheredRight a r lent bytes′
-        collecting-stop bytes′ f =
-            let is : Discrete (a .size) (added a (s .meet)) = of-isIdentity (a .size) (added a (s .meet)) (rw (begins-added a (s .begins)) at (T-of (sym (p .identity) ∙ e))) in
-            rw (f, p .stays e)
-            (stop-irreducible (s .wellFormed) (s .gathering) (s .two) discrete is, stop-pair (s .wellFormed) (s .gathering) (s .two) discrete is ∙ sym (begins-firstHeld (s .begins)))
+          pub gathering-stop : {r : Collected} (after : List ℕ) → r ≡ pairFound (firstHeld (a .size) met′) → GatheredRight a r lent after
+          gathering-stop after f =
+              let is : Discrete (a .size) (added a d) = of-isIdentity (a .size) (added a d) (T-of (sym is-identity ∙ e)) in
+              rw (f, p .stays e) (stop-irreducible discrete is, stop-pair discrete is ∙ sym (begins-firstHeld begins))

@@ -1,5 +1,3 @@
 pub mod Gathering
-pub mod Pruning
 pub mod Finding
-pub mod Writing
 pub mod Factoring

@@ -1,5 +1,5 @@
 -- What Decompose finds of an algebra, and what it leaves in the lent list.
-use Prim.Native.Nat.{ℕ, _*_}
+use Prim.Native.Nat.{ℕ, _+_, _*_, _≤_}
 use mathlib.Core.Bool.{true, false}
 use mathlib.Core.Path.{_≡_}
 use mathlib.Core.List.{List}
@@ -10,17 +10,17 @@ use Rattle.equivalence.specs.Lists.{concat}
 use Rattle.equivalence.specs.Lent.{written}
 use Rattle.equivalence.specs.Order.{Pair}
 use Rattle.algebra.specs.Algebra.{Algebra}
-use Rattle.theory.specs.Decompose.{listed, reducible, commonPair}
+use Rattle.theory.specs.Decompose.{mostFactorSpace, listed, reducible, commonPair}
 use Rattle.decomposition.specs.declared.Found.{Found}
 use Rattle.decomposition.specs.declared.Found.the-variants.{Factors, Short, Irreducible}
 
--- working storage for any algebra: 63 maps, the meets of 64 suffixes, the table for meets, a meet, and a number for each map
-pub record Storage (maps suffixes table met needed : List ℕ) : Type 0 where
-  pub gathered : length maps ≡ 4032
-  pub ends : length suffixes ≡ 4096
-  pub pairs : length table ≡ 4096
-  pub meets : length met ≡ 64
-  pub numbers : length needed ≡ 64
+-- working storage is enough for n elements: n - 1 maps, the meets of as many suffixes and one more, the table for meets, a meet, and a number for each map
+pub record Storage (n : ℕ) (maps suffixes table met needed : List ℕ) : Type 0 where
+  pub gathered : mostFactorSpace n ≤ length maps
+  pub ends : mostFactorSpace n + n ≤ length suffixes
+  pub pairs : 4096 ≤ length table
+  pub meets : n ≤ length met
+  pub numbers : n ≤ length needed
 
 -- the maps over n elements with their count, one after the other at the start of the lent bytes; or nothing, where fewer bytes are lent
 unfoldable pub listedIn : ℕ → List Map → List ℕ → Found × List ℕ

@@ -1,3 +1,2 @@
 pub mod InnerGathering
-pub mod InnerPruning
 pub mod InnerFactored

@@ -11,13 +11,15 @@ ghost use Rattle.maplist.specs.InnerMapLists.{mapList, MapsListed};
 ghost use Rattle.decomposition.specs.InnerFactored.{Storage, listedIn, foundIn};
 use crate::gather::Collected;
 use crate::gather::gather;
-use crate::prune::mark_needed;
 use crate::write::write_if_room;
 use equivalence::Element;
 use equivalence::lattice::NAME_PAIRS;
+use pruning::mark_needed;
 
 pub mod gather;
-mod prune;
+mod gather_kept;
+mod pace;
+mod step;
 mod write;
 
 // What was found: so many factors, which are written; more factors than the lent space takes; or, of an irreducible algebra, the first pair common
@@ -65,7 +67,7 @@ fn factors_in(
 ) -> Found
     requires { ⌜ Accepted (algebraIn n arities cells) ⌝ }
     requires { ⌜ 2 ≤ n ⌝ }
-    requires { ⌜ Storage (now maps) (now suffixes) (now table) (now met) (now needed) ⌝ }
+    requires { ⌜ Storage n (now maps) (now suffixes) (now table) (now met) (now needed) ⌝ }
     ensures { λ r. ⌜ (r, now (out .exit)) ≡ foundIn (algebraIn n (arities .entry) (cells .entry)) (now (out .entry)) ⌝ }
 {
     let gathered = gather(n, arities, cells, table, met, maps);

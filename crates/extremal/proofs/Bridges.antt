@@ -30,7 +30,7 @@ use Rattle.theory.proofs.Above.{extended-is, Below, generated-is}
 use Rattle.theory.proofs.GreatestCongruence.{contained-is}
 use Rattle.theory.proofs.Separation.{separated-is, lex-asym}
 use Rattle.closure.specs.InnerStarts.{JoinsPairs, Extends}
-use Rattle.separation.specs.InnerSearch.{Before, Earliest}
+use Rattle.bounding.specs.InnerSettled.{Before, Earliest}
 use Rattle.refinement.proofs.Refinements.{canonical-same, compatible-same}
 use Rattle.extremal.specs.InnerExtension.{MapExtended}
 

@@ -9,6 +9,7 @@ ghost use Rattle.equivalence.specs.Lent.{written};
 ghost use Rattle.algebra.specs.Algebra.{algebraIn};
 ghost use Rattle.algebra.specs.Accepted.{Accepted};
 ghost use Rattle.theory.specs.Extremal.{generated, contained, separated};
+ghost use Rattle.keeping.specs.InnerKeeping.{Keeping};
 ghost use Rattle.extremal.specs.InnerExtension.{MapExtended};
 
 // The least congruence that holds the pairs of a flat list goes to out. How many merges made it.
@@ -52,14 +53,45 @@ pub fn contained_into(n: usize, arities: &[u8], cells: &[u8], map: &[u8], out: &
     refinement::refine(out, n, arities, cells);
 }
 
-// The earliest congruence that holds v and w apart goes to out.
-pub fn separated_into(n: usize, arities: &[u8], cells: &[u8], v: usize, w: usize, out: &mut [u8])
+// The earliest congruence that holds v and w apart goes to out. How many pairs were tried in vain.
+pub fn separated_into(
+    n: usize,
+    arities: &[u8],
+    cells: &[u8],
+    v: usize,
+    w: usize,
+    out: &mut [u8],
+) -> usize
     requires { ⌜ Accepted (algebraIn n arities cells) ⌝ }
     requires { ⌜ v < n ⌝ }
     requires { ⌜ w < n ⌝ }
     requires { ⌜ (v ≡ w → ⊥) ⌝ }
     requires { ⌜ n ≤ length (now out) ⌝ }
     ensures { λ _. ⌜ now (out .exit) ≡ written (separated (algebraIn n (arities .entry) (cells .entry)) v w) (now (out .entry)) ⌝ }
+    ensures { λ r. ⌜ r ≤ 4096 ⌝ }
 {
-    separation::earliest_apart(n, arities, cells, v, w, out);
+    separation::earliest_apart(n, arities, cells, v, w, out)
+}
+
+// The same, by what pairs give, which is kept in `maps` with its marks in `marks`: for whoever asks many times of one algebra.
+pub fn separated_kept_into(
+    maps: &mut [u8],
+    marks: &mut [u8],
+    n: usize,
+    arities: &[u8],
+    cells: &[u8],
+    v: usize,
+    w: usize,
+    out: &mut [u8],
+)
+    requires { ⌜ Keeping (algebraIn n arities cells) (now maps) (now marks) ⌝ }
+    requires { ⌜ Accepted (algebraIn n arities cells) ⌝ }
+    requires { ⌜ v < n ⌝ }
+    requires { ⌜ w < n ⌝ }
+    requires { ⌜ (v ≡ w → ⊥) ⌝ }
+    requires { ⌜ n ≤ length (now out) ⌝ }
+    ensures { λ _. ⌜ now (out .exit) ≡ written (separated (algebraIn n (arities .entry) (cells .entry)) v w) (now (out .entry)) ⌝ }
+    ensures { λ _. ⌜ Keeping (algebraIn n (arities .entry) (cells .entry)) (now (maps .exit)) (now (marks .exit)) ⌝ }
+{
+    keptsearch::earliest_apart(maps, marks, n, arities, cells, v, w, out);
 }

@@ -1,14 +1,11 @@
 -- `factors_in`: what was gathered is a list of maps in the storage, and those of it that are needed are the factors.
-use native.Mathlib.Omega.{arith}
 use borrow.Author.Needs.{needs}
-use Rattle.decomposition.proofs.Factoring.{storage-table, storage-meet, storage-maps, gathered-fits, found-joined, found-listed}
+use Rattle.decomposition.proofs.Factoring.{gathered-fits, found-joined, found-listed}
 use Rattle.decomposition.proofs.factors_in.Statement.{statement}
 use Rattle.decomposition.proofs.factors_in.Tie as tie
 
 gather-requires : tie.Need-gather-requires
-gather-requires c κs =
-    let p = c .before .before .before .before .before .before .before .before .before .before .before .pre in
-    (p .0, (p .1 .0, (storage-table _ (p .0) (p .1 .1), (storage-meet _ (p .0) (p .1 .1), storage-maps _ (p .0) (p .1 .1)))))
+gather-requires c κs = (search needs, (search needs, (search needs, (search needs, search needs))))
 
 enum-known-gathered : tie.Need-enum-known-gathered
 enum-known-gathered c = search needs
@@ -22,7 +19,7 @@ list-needed-requires c κs =
     let g = m .before .before .before .before .before .before .before .before in
     let p = g .before .before .before .before .before .before .before .before .before .before .before .before .pre in
     let fits = gathered-fits _ (p .0) (p .1 .1) (m .gathered2 .given .1) _ (g .gather .ensures) in
-    (fits .0, (fits .1, (omega (arith, storage-table _ (p .0) (p .1 .1), g .gather .kept .1 .1 .1 .0), (omega (arith, storage-meet _ (p .0) (p .1 .1), g .gather .kept .1 .1 .1 .1 .0), fits .2))))
+    (fits .0, (fits .1, (search needs, (search needs, fits .2))))
 
 same-length : tie.Need-same-length
 same-length c = search needs
@@ -56,10 +53,11 @@ same-length-9 c = search needs
 
 returns-2 : tie.Need-returns-2
 returns-2 c =
-    let m = c .before .before .before .before .before .before .before .before .before .before .before .before .before .before .before .before .before .before in
+    let l = c .before .before .before .before .before .before .before .before .before .before in
+    let m = l .before .before .before .before .before .before .before .before in
     let g = m .before .before .before .before .before .before .before .before in
     let p = g .before .before .before .before .before .before .before .before .before .before .before .before .pre in
-    found-listed _ (p .0) (p .1 .1) (m .gathered2 .given .1) _ (g .gather .ensures) _ (c .before .before .before .before .before .before .before .before .before .before .list-needed .ensures)
+    found-listed _ (p .0) (p .1 .1) (m .gathered2 .given .1) _ (g .gather .ensures) _ (l .list-needed .ensures)
 
 pub factors-in-spec : {M : Type 1} → statement M
 factors-in-spec =

@@ -1,6 +1,6 @@
 -- `list_needed`: those whose numbers are marked are what is left of the list.
 use borrow.Author.Needs.{needs}
-use Rattle.decomposition.proofs.Writing.{needed-listed}
+use Rattle.decomposition.proofs.Finding.{needed-listed}
 use Rattle.decomposition.proofs.list_needed.Statement.{statement}
 use Rattle.decomposition.proofs.list_needed.Tie as tie
 

@@ -11,7 +11,7 @@ same-length : tie.Need-same-length
 same-length c = search needs
 
 returns : tie.Need-returns
-returns c = search separated-written
+returns c = (search separated-written, search needs)
 
 pub separated-into-spec : {M : Type 1} → statement M
 separated-into-spec = tie.close (tie.spec earliest-apart-requires same-length returns)

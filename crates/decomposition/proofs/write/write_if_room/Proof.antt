@@ -1,6 +1,6 @@
 -- `write_if_room`: there is too little room, or all are written.
 use borrow.Author.Needs.{needs}
-use Rattle.decomposition.proofs.Writing.{chosen-counted, room-short, room-enough}
+use Rattle.decomposition.proofs.Finding.{chosen-counted, room-short, room-enough}
 use Rattle.decomposition.proofs.write.write_if_room.Statement.{statement}
 use Rattle.decomposition.proofs.write.write_if_room.Tie as tie
 

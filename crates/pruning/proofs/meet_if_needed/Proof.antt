@@ -1,8 +1,8 @@
 -- `meet_if_needed`: the map is dropped, or met.
 use borrow.Author.Needs.{needs}
-use Rattle.decomposition.proofs.Pruning.{turn-drop, turn-keep}
-use Rattle.decomposition.proofs.prune.meet_if_needed.Statement.{statement}
-use Rattle.decomposition.proofs.prune.meet_if_needed.Tie as tie
+use Rattle.pruning.proofs.Pruning.{turn-drop, turn-keep}
+use Rattle.pruning.proofs.meet_if_needed.Statement.{statement}
+use Rattle.pruning.proofs.meet_if_needed.Tie as tie
 
 meets-in-identity-requires : tie.Need-meets-in-identity-requires
 meets-in-identity-requires c κs = (search needs, (search needs, (search needs, (search needs, (search needs, search needs)))))

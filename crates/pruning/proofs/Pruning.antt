@@ -20,7 +20,7 @@ use Rattle.equivalence.proofs.Meets.{meet-map, meetAll-map}
 use Rattle.equivalence.proofs.Tests.{T?, T-of, not-T-of, pick-yes, pick-no, true-is, false-is}
 use Rattle.theory.specs.Decompose.{pruned}
 use Rattle.maplist.specs.InnerMapLists.{mapList, MapsListed, SuffixMeets}
-use Rattle.decomposition.specs.InnerPruning.{inTurn, chosen, NeededMaps}
+use Rattle.pruning.specs.InnerPruning.{inTurn, chosen, NeededMaps}
 use Rattle.theory.proofs.Certificates.{isIdentity-meets, of-isIdentity-meets}
 use Rattle.theory.proofs.Factors.{pruned-drop, pruned-keep}
 use Rattle.maplist.proofs.MapLists.{Begins, begins-sym, begins-is, begins-take, begins-written, begins-canonical, begins-meet}

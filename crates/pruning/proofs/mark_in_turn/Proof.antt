@@ -4,9 +4,9 @@ use mathlib.Core.Path.{_≡_, refl}
 use native.Mathlib.Omega.{arith}
 use lib.ListN.{length, length-set}
 use borrow.Author.Needs.{needs}
-use Rattle.decomposition.proofs.Pruning.{Pruning, pruning-start, pruning-part, pruning-fit, pruning-canonical, pruning-more, pruning-all}
-use Rattle.decomposition.proofs.prune.mark_in_turn.Statement.{statement}
-use Rattle.decomposition.proofs.prune.mark_in_turn.Tie as tie
+use Rattle.pruning.proofs.Pruning.{Pruning, pruning-start, pruning-part, pruning-fit, pruning-canonical, pruning-more, pruning-all}
+use Rattle.pruning.proofs.mark_in_turn.Statement.{statement}
+use Rattle.pruning.proofs.mark_in_turn.Tie as tie
 
 abbrev Inv-loop : tie.InvT-loop
 Inv-loop n count maps suffixes table₀ met₀ needed₀ kept₀ i₀ at₀ table met needed kept i at =
@@ -40,18 +40,19 @@ part-meet-if-needed-end : tie.Need-part-meet-if-needed-end Inv-loop μ-loop
 part-meet-if-needed-end c = omega (arith, pruning-part (c .before .loop .inv .1) (c .loop-test .taken))
 
 sub-meet-if-needed-2 : tie.Need-sub-meet-if-needed-2 Inv-loop μ-loop
-sub-meet-if-needed-2 c = omega (arith, pruning-part (c .before .before .loop .inv .1) (c .before .loop-test .taken))
+sub-meet-if-needed-2 c = let t = c .before in omega (arith, pruning-part (t .before .loop .inv .1) (t .loop-test .taken))
 
 part-meet-if-needed-start-2 : tie.Need-part-meet-if-needed-start-2 Inv-loop μ-loop
-part-meet-if-needed-start-2 c = omega (arith, pruning-part (c .before .before .loop .inv .1) (c .before .loop-test .taken))
+part-meet-if-needed-start-2 c = let t = c .before in omega (arith, pruning-part (t .before .loop .inv .1) (t .loop-test .taken))
 
 part-meet-if-needed-end-2 : tie.Need-part-meet-if-needed-end-2 Inv-loop μ-loop
-part-meet-if-needed-end-2 c = omega (arith, pruning-part (c .before .before .loop .inv .1) (c .before .loop-test .taken))
+part-meet-if-needed-end-2 c = let t = c .before in omega (arith, pruning-part (t .before .loop .inv .1) (t .loop-test .taken))
 
 meet-if-needed-requires : tie.Need-meet-if-needed-requires Inv-loop μ-loop
 meet-if-needed-requires c κs =
-    let p = c .before .before .before .before .before .loop .inv .1 in
-    let l = c .before .before .before .before .loop-test .taken in
+    let t = c .before .before .before .before in
+    let p = t .before .loop .inv .1 in
+    let l = t .loop-test .taken in
     let f = pruning-fit p l in
     let g = pruning-canonical p l in
     (p .listed .most, (f .0, (f .1, (search needs, (search needs, (g .0, (g .1, g .2)))))))

@@ -16,17 +16,9 @@ use Rattle.equivalence.specs.Lent.{stretch, written}
 use Rattle.equivalence.proofs.Maps.{IsMap, of-isMap}
 use Rattle.equivalence.proofs.Stretches.{concat-append}
 use Rattle.equivalence.proofs.Writing.{written-length}
-use Rattle.decomposition.specs.InnerPruning.{chosen, ChosenMaps, NeededMaps}
-use Rattle.decomposition.specs.InnerFactored.{listedIn}
-use Rattle.decomposition.specs.declared.Found.{Found}
-use Rattle.decomposition.specs.declared.Found.the-variants.{Factors, Short}
-use Rattle.decomposition.proofs.Finding.{listed-short, listed-all}
-use Rattle.theory.specs.Decompose.{pruned}
-use Rattle.maplist.specs.InnerMapLists.{mapList}
+use Rattle.pruning.specs.InnerPruning.{chosen, ChosenMaps}
 use Rattle.maplist.proofs.MapLists.{Begins, begins-sym, begins-take, onwards, laid-snoc, copied-laid}
 use borrow.Rule.Slice.PartMut.{midOf, putMid}
-use mir.Syntax.{w64}
-use mir.Val.{Fits}
 
 pub record NeededWritten (n : ℕ) (maps : List ℕ) (k : ℕ) (needed lent : List ℕ) (i at : ℕ) (out : List ℕ) : Type 0 where
   pub numbers : ChosenMaps n maps k needed
@@ -92,28 +84,3 @@ module _ {n : ℕ} {maps : List ℕ} {k : ℕ} {needed lent : List ℕ} {i at : 
           bytes = copied-laid at out part front this (omega (arith, needed-written-part)) same copied
               ∙ rw (w .bytes, laid-snoc (chosen n maps i needed) m lent at old (omega (arith, w .total, fits)), more);
         }
-
--- ---- written where there is room
-
-module _ {n : ℕ} {maps : List ℕ} {k : ℕ} {needed : List ℕ} (c : ChosenMaps n maps k needed) where
-  -- as many are chosen as there are numbers
-  chosen-length : length (chosen n maps k needed) ≡ k
-  chosen-length = length-map (take k needed) (stretch n maps) ∙ length-take-le k needed (c .room)
-
-  -- and their bytes are counted in a word
-  pub chosen-counted : k ≤ 63 → Fits w64 (k * n)
-  chosen-counted few = omega (arith, mul-le-mul {n₂ = 63} {m₂ = 64} few (c .most))
-
-  module _ (lent : List ℕ) where
-    pub room-short : length lent < k * n → _≡_ {A = Found × List ℕ} (Short, lent) (listedIn n (chosen n maps k needed) lent)
-    room-short h = sym (listed-short n (chosen n maps k needed) lent (rw chosen-length h))
-
-    pub room-enough : k * n ≤ length lent → {after : List ℕ} → after ≡ written (concat (chosen n maps k needed)) lent
-        → _≡_ {A = Found × List ℕ} (Factors k, after) (listedIn n (chosen n maps k needed) lent)
-    room-enough h e = sym (listed-all n (chosen n maps k needed) lent (rw chosen-length h) ∙ rw (chosen-length, e))
-
--- what is needed of a list of maps
-pub needed-listed : {n count : ℕ} {maps : List ℕ} {kept : ℕ} {needed : List ℕ} (lent : List ℕ) {found : Found} {after : List ℕ}
-    → NeededMaps n count maps kept needed → (found, after) ≡ listedIn n (chosen n maps kept needed) lent
-    → (found, after) ≡ listedIn n (pruned n [] (mapList n count maps)) lent
-needed-listed {n} lent m e = e ∙ ap (λ (ms : List Map). listedIn n ms lent) (m .left)

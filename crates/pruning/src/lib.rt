@@ -6,11 +6,13 @@ ghost use lib.ListN.{length};
 ghost use Rattle.equivalence.specs.Equivalence.{byte};
 ghost use Rattle.kernel.specs.InnerKernel.{Canonical};
 ghost use Rattle.maplist.specs.InnerMapLists.{mapList, MapsListed, SuffixMeets};
-ghost use Rattle.decomposition.specs.InnerPruning.{inTurn, NeededMaps};
+ghost use Rattle.pruning.specs.InnerPruning.{inTurn, NeededMaps};
 use equivalence::lattice::meet_with;
 use maplist::meets_in_identity;
 use maplist::suffix_meets;
 use maplist::whole_into;
+
+pub mod write;
 
 // A map in its turn. `met` is the meet of those needed so far and `after` that of those behind the map: where these two meet in the identity it
 // is dropped, else it is met. How many more are needed: one or none. `table` is working storage.

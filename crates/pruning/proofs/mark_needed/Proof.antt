@@ -1,7 +1,7 @@
 -- `mark_needed`: the meets of the suffixes, then every map in its turn.
 use borrow.Author.Needs.{needs}
-use Rattle.decomposition.proofs.prune.mark_needed.Statement.{statement}
-use Rattle.decomposition.proofs.prune.mark_needed.Tie as tie
+use Rattle.pruning.proofs.mark_needed.Statement.{statement}
+use Rattle.pruning.proofs.mark_needed.Tie as tie
 
 suffix-meets-requires : tie.Need-suffix-meets-requires
 suffix-meets-requires c κs = (search needs, (search needs, (search needs, search needs)))

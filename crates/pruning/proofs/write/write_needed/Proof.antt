@@ -2,9 +2,9 @@
 use Prim.Native.Nat.{_-_}
 use native.Mathlib.Omega.{arith}
 use borrow.Author.Needs.{needs}
-use Rattle.decomposition.proofs.Writing.{NeededWritten, needed-written-none, needed-written-part, needed-written-fit, needed-written-more, needed-written-long, needed-written-all}
-use Rattle.decomposition.proofs.write.write_needed.Statement.{statement}
-use Rattle.decomposition.proofs.write.write_needed.Tie as tie
+use Rattle.pruning.proofs.Writing.{NeededWritten, needed-written-none, needed-written-part, needed-written-fit, needed-written-more, needed-written-long, needed-written-all}
+use Rattle.pruning.proofs.write.write_needed.Statement.{statement}
+use Rattle.pruning.proofs.write.write_needed.Tie as tie
 
 abbrev Inv-loop : tie.InvT-loop
 Inv-loop n maps kept needed out₀ i₀ at₀ out i at = NeededWritten n maps kept needed out₀ i at out
@@ -16,34 +16,34 @@ loop-holds : tie.Need-loop-holds Inv-loop μ-loop
 loop-holds c = search needed-written-none
 
 shared-slice-read-from : tie.Need-shared-slice-read-from Inv-loop μ-loop
-shared-slice-read-from c = omega (arith, needed-written-part (c .before .before .loop .inv) (c .before .loop-test .taken))
+shared-slice-read-from c = let t = c .before in omega (arith, needed-written-part (t .before .loop .inv) (t .loop-test .taken))
 
 cast-from : tie.Need-cast-from Inv-loop μ-loop
 cast-from c = omega (arith, c .shared-slice-known3 .given (c .before .before .loop .i))
 
 mul-from : tie.Need-mul-from Inv-loop μ-loop
-mul-from c = omega (arith, needed-written-part (c .before .before .loop .inv) (c .before .loop-test .taken))
+mul-from c = let t = c .before in omega (arith, needed-written-part (t .before .loop .inv) (t .loop-test .taken))
 
 sub-copy : tie.Need-sub-copy Inv-loop μ-loop
-sub-copy c = omega (arith, needed-written-part (c .before .before .loop .inv) (c .before .loop-test .taken))
+sub-copy c = let t = c .before in omega (arith, needed-written-part (t .before .loop .inv) (t .loop-test .taken))
 
 part-copy-start : tie.Need-part-copy-start Inv-loop μ-loop
-part-copy-start c = omega (arith, needed-written-part (c .before .before .loop .inv) (c .before .loop-test .taken))
+part-copy-start c = let t = c .before in omega (arith, needed-written-part (t .before .loop .inv) (t .loop-test .taken))
 
 part-copy-end : tie.Need-part-copy-end Inv-loop μ-loop
-part-copy-end c = omega (arith, needed-written-part (c .before .before .loop .inv) (c .before .loop-test .taken))
+part-copy-end c = let t = c .before in omega (arith, needed-written-part (t .before .loop .inv) (t .loop-test .taken))
 
 sub-copy-2 : tie.Need-sub-copy-2 Inv-loop μ-loop
-sub-copy-2 c = omega (arith, needed-written-part (c .before .before .before .loop .inv) (c .before .before .loop-test .taken))
+sub-copy-2 c = let t = c .before .before in omega (arith, needed-written-part (t .before .loop .inv) (t .loop-test .taken))
 
 part-copy-start-2 : tie.Need-part-copy-start-2 Inv-loop μ-loop
-part-copy-start-2 c = omega (arith, needed-written-part (c .before .before .before .loop .inv) (c .before .before .loop-test .taken))
+part-copy-start-2 c = let t = c .before .before in omega (arith, needed-written-part (t .before .loop .inv) (t .loop-test .taken))
 
 part-copy-end-2 : tie.Need-part-copy-end-2 Inv-loop μ-loop
-part-copy-end-2 c = omega (arith, needed-written-part (c .before .before .before .loop .inv) (c .before .before .loop-test .taken))
+part-copy-end-2 c = let t = c .before .before in omega (arith, needed-written-part (t .before .loop .inv) (t .loop-test .taken))
 
 copy-requires : tie.Need-copy-requires Inv-loop μ-loop
-copy-requires c κs = needed-written-fit (c .before .before .before .before .loop .inv) (c .before .before .before .loop-test .taken)
+copy-requires c κs = let t = c .before .before .before in needed-written-fit (t .before .loop .inv) (t .loop-test .taken)
 
 add-at : tie.Need-add-at Inv-loop μ-loop
 add-at c =
