@@ -381,6 +381,24 @@ pub fn hard(n: usize, rng: &mut Rng) -> Vec<Named> {
     list
 }
 
+/// Algebras of which Decompose finds many factors, each after many trials: it begins to keep what pairs
+/// give.
+pub fn slow_to_decompose(n: usize) -> Vec<Named> {
+    let of = |name: &str, algebra: Algebra| named(format!("{name}, n = {n}"), algebra);
+    let mut list = vec![
+        of("no operations", bare(n)),
+        of("chain", chain(n)),
+        of("projection", projection(n, 2, 0)),
+        of("projections", together(&projection(n, 2, 0), &projection(n, 2, 1))),
+        of("saturated sum", saturated_sum(n, 2)),
+        of("minimum with up", minimum_with_up(n)),
+    ];
+    if n <= 32 {
+        list.push(of("median", median(n)));
+    }
+    list
+}
+
 /// One random algebra of a random kind with n up to `limit`.
 pub fn any(limit: usize, cells: usize, rng: &mut Rng) -> Named {
     let n = rng.within(1, limit);

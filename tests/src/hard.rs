@@ -124,4 +124,21 @@ pub fn suites(run: &mut Run, library: Library, share: usize) {
             }
         }
     });
+    run.suite(&name("kept pairs, n from 3 to 64"), |s| {
+        let mut list = Vec::new();
+        for n in (3..=64).step_by(share) {
+            for one in algebras::slow_to_decompose(n) {
+                let algebra = algebras::renamed(&one.algebra, &mut s.rng);
+                list.push(Named { name: format!("{}, renamed", one.name), algebra });
+                list.push(one);
+            }
+        }
+        let mut comparison = Comparison::new(library, s);
+        for one in list {
+            comparison.decompose(&one.algebra);
+            if comparison.suite.is_over() {
+                break;
+            }
+        }
+    });
 }
