@@ -127,6 +127,7 @@ static int respects_ternary(const struct members *m, const uint8_t *t, size_t n)
     return good;
 }
 
+/* The identity and one block always are. */
 static int is_congruence(const struct algebra *al, const uint8_t *map)
 {
     struct members m;
@@ -135,7 +136,10 @@ static int is_congruence(const struct algebra *al, const uint8_t *map)
         return 1;
     }
     list_members(&m, map, al->n);
-    for (unsigned i = 0; m.count && i < al->count && good; i++) {
+    if (m.count == 0 || m.names_count == 1) {
+        return 1;
+    }
+    for (unsigned i = 0; i < al->count && good; i++) {
         const uint8_t *t = al->operation[i].table;
         switch (al->operation[i].arity) {
         case 1:
