@@ -9,7 +9,7 @@ use lib.Dec.{eqb}
 use lib.ListN.{length}
 use borrow.Author.Tests.{eqb-true, eq-eqb}
 use Rattle.equivalence.specs.Equivalence.{byte}
-use Rattle.kernel.specs.InnerKernel.{Canonical, Within, Joined, names}
+use Rattle.kernel.specs.InnerKernel.{Canonical, Within, names}
 use Rattle.kernel.proofs.Kernels.{identity-canonical, identity-within}
 use Rattle.algebra.specs.Accepted.{Accepted}
 use Rattle.algebra.specs.Algebra.{Algebra}
@@ -102,25 +102,6 @@ least-compatible {a} ok {f} {g} {f′} cf cg wf wg least x y lx ly e j lj pre po
     (λ u v lu lv k. wf (result a j (pre ++ (u ∷ post))) (result a j (pre ++ (v ∷ post))) (result-below a ok j (pre ++ (u ∷ post))) (result-below a ok j (pre ++ (v ∷ post))) (cf u v lu lv k j lj pre post s p q))
     (λ u v lu lv k. wg (result a j (pre ++ (u ∷ post))) (result a j (pre ++ (v ∷ post))) (result-below a ok j (pre ++ (u ∷ post))) (result-below a ok j (pre ++ (v ∷ post))) (cg u v lu lv k j lj pre post s p q))
     x y lx ly e
-
--- the join of two congruences, one of them laid over the other by its names
-pub join-compatible : {a : Algebra} → WellFormed a → {f g f′ : ℕ → ℕ} → Canonical (a .size) g → Compatible a f → Compatible a g → Joined (a .size) (a .size) g f f′ → Compatible a f′
-join-compatible ok {g = g} c cf cg d =
-    least-compatible ok cf cg (d .within) (names-within (record { each = d .holds })) (λ h wf wg. d .least h wf (within-names {f = g} c wg .each))
-
--- the same with a queue
-pub grown-compatible : {a : Algebra} → WellFormed a → {g : ℕ → ℕ} {s t : QueueState} → Canonical (a .size) g → Compatible a (s .map) → Compatible a g → JoinedTo (a .size) (a .size) g s t → Compatible a (t .map)
-grown-compatible ok c cf cg d = least-compatible ok cf cg (d .grown .within) (names-within (d .joined)) (λ h wf wg. d .grown .sound h (within-names c wg) wf)
-
--- a congruence joined with the least congruence that joins x and y
-pub joined-closed : {a : Algebra} {x y : ℕ} {g : ℕ → ℕ} {s t : QueueState} → Accepted a → x < a .size → y < a .size → Compatible a (s .map) → Closed a (λ h. h x ≡ h y) g
-    → JoinedTo (a .size) (a .size) g s t → Closed a (λ h. Within (a .size) (s .map) h × (h x ≡ h y)) (t .map)
-joined-closed {a} {x} {y} ok lx ly cf c d = record {
-  canonical = d .grown .ready .queued .canonical;
-  compatible = grown-compatible (accepted-wellFormed a ok) (c .canonical) cf (c .compatible) d;
-  good = (d .grown .within, names-within (d .joined) x y lx ly (c .good));
-  least = λ h ch above. d .grown .sound h (within-names (c .canonical) (c .least h ch (above .1))) (above .0);
-}
 
 -- ---- closing
 
