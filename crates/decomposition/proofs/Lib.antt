@@ -1,3 +1,4 @@
 pub mod Gathering
 pub mod Finding
 pub mod Factoring
+pub mod Pacing

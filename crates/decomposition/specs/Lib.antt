@@ -1,2 +1,3 @@
 pub mod InnerGathering
 pub mod InnerFactored
+pub mod InnerPace

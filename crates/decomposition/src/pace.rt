@@ -1,6 +1,10 @@
 // When Decompose begins to keep what pairs give. Keeping pays where many pairs are tried again and again; whatever is answered here, what is gathered is the same.
+ghost use mathlib.Core.Path.{_≡_};
 ghost use Prim.Native.Nat.{_≤_};
 ghost use lib.ListN.{length};
+ghost use Rattle.equivalence.specs.Equivalence.{byte};
+ghost use Rattle.kernel.specs.InnerKernel.{names};
+ghost use Rattle.decomposition.specs.InnerPace.{cutsLittle, isDear, isSlow};
 use equivalence::map::block_count;
 
 // So many trials in vain for each four congruences are few. Of unary operations a trial is cheap; where an operation has more arguments, or there is none, keeping pays at once.
@@ -25,6 +29,7 @@ pub fn few_trials(n: usize, arities: &[u8]) -> usize
 fn cuts_little(n: usize, count: usize, met: &[u8]) -> bool
     requires { ⌜ n ≤ length (now met) ⌝ }
     requires { ⌜ count ≤ 64 ⌝ }
+    ensures { λ r. ⌜ r ≡ cutsLittle count (names n (byte (now (met .entry)))) ⌝ }
 {
     if count < 2 {
         return false;
@@ -36,6 +41,7 @@ fn cuts_little(n: usize, count: usize, met: &[u8]) -> bool
 pub fn is_dear(n: usize, few: usize, count: usize, met: &[u8]) -> bool
     requires { ⌜ n ≤ length (now met) ⌝ }
     requires { ⌜ count ≤ 64 ⌝ }
+    ensures { λ r. ⌜ r ≡ isDear few count (names n (byte (now (met .entry)))) ⌝ }
 {
     if few != 0 {
         return false;
@@ -49,6 +55,7 @@ pub fn is_slow(n: usize, few: usize, count: usize, trials: usize, met: &[u8]) ->
     requires { ⌜ few ≤ 192 ⌝ }
     requires { ⌜ count ≤ 64 ⌝ }
     requires { ⌜ trials ≤ 262144 ⌝ }
+    ensures { λ r. ⌜ r ≡ isSlow few count trials (names n (byte (now (met .entry)))) ⌝ }
 {
     if 4 * trials < few * count {
         return false;
