@@ -1,4 +1,6 @@
 // Algebras as texts: the writer and the reader of whole algebras.
+#![tactic(auto)]
+
 ghost use Rattle.std.specs.Prelude.{◌≡◌};
 ghost use Rattle.equivalence.specs.Refusal.{lowest};
 ghost use Rattle.algebra.specs.Algebra.{algebra_in};
@@ -11,14 +13,14 @@ use equivalence::{Check, Refusal};
 mod reading;
 
 // What the writer answers: how long the text is, or a refusal.
-#[derive(Drop)]
+#[derive(Clone, Copy)]
 pub enum TextWritten {
     Length(usize),
     Refused(Refusal),
 }
 
 // What the reader answers: the size, how many operations there are, their arities with 0 behind them, and how many cells; where the check failed, zeros.
-#[derive(Drop)]
+#[derive(Clone, Copy)]
 pub struct AlgebraRead {
     pub check: Check,
     pub size: u8,

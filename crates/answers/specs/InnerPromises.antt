@@ -1,6 +1,6 @@
 -- What inner functions promise each other: the line that a request is answered with, and the bytes and the room that they are lent.
 use Rattle.std.specs.Prelude.{ℕ, ◌+◌, ◌*◌, ◌≤◌, ◌<◌, List, ◌≡◌, length, replicate}
-use Rattle.std.specs.Borrow.{Bor}
+use Rattle.std.specs.Borrow.{MutBor}
 use Rattle.algebra.specs.Algebra.{Algebra}
 use Rattle.theory.specs.Decompose.{most_factor_space}
 use Rattle.congruence.specs.declared.Decomposed.{Decomposed}
@@ -14,7 +14,7 @@ use Rattle.answers.specs.Answers.{answer}
 use Rattle.answers.specs.Room.{line_room}
 
 -- the answer to what is asked was laid in a lent slice, from its start to this place
-abbrev pub Answered : Algebra → Asked → List ℕ → Bor (List ℕ) → Bor (List ℕ) → ℕ → Type 0
+abbrev pub Answered : Algebra → Asked → List ℕ → MutBor (List ℕ) → MutBor (List ℕ) → ℕ → Type 0
 Answered a asked numbers lent out end = Laid lent.now 0 (answer a asked numbers) out.now end
 
 -- an algebra of n elements and so many cells, and room for its longest line

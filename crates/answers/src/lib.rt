@@ -1,4 +1,6 @@
 // The answers to requests: what a service answers, written as a line, and a quotient as the lines of an algebra.
+#![tactic(auto)]
+
 ghost use Rattle.std.specs.Prelude.{[], length};
 ghost use Rattle.algebra.specs.Algebra.{algebra_in};
 ghost use Rattle.theory.specs.Decompose.{most_factor_space};

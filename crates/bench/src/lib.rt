@@ -1,6 +1,8 @@
 // The bench: eight sheets for class work over one n, each with a map, a tally of the blocks that it lost, and points to go back to; and what the bench
 // lost before its sheets had tallies, which no call but Start alters.
 // A bench is a value: it goes into a call and comes back beside the answer. Any bench is legal, also one that no call here gave.
+#![tactic(auto)]
+
 ghost use Rattle.std.specs.Prelude.{◌≡◌, [], ◌∷◌, ◌+◌, ◌<◌, ◌≤◌};
 ghost use Rattle.equivalence.specs.Refusal.{lowest};
 ghost use Rattle.equivalence.specs.declared.Check.TheVariants.{Passed};
@@ -17,14 +19,14 @@ use sheet::{NAME_BYTES, Sheet};
 // The top of a tally.
 const MAX_TALLY: u64 = 18446744073709551615;
 
-#[derive(Drop)]
+#[derive(Clone, Copy)]
 pub enum Answer {
     Done,
     Refused(Refusal),
 }
 
 // What a call gives back: its answer, and the bench after it.
-#[derive(Drop)]
+#[derive(Clone, Copy)]
 pub struct Benched {
     pub answer: Answer,
     pub bench: Bench,

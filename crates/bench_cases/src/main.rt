@@ -1,5 +1,7 @@
 // The calls of the bench and the conversions of old benches on cases that a reader can check by hand, a short class hour with points, and one that two
 // lecturers share. The algebra has the elements 0 to 3 and one unary operation with cells 1 0 3 2, but where a line says otherwise.
+#![tactic(auto)]
+
 use bench::Bench;
 use lines::{add, add_under, clear, forget, return_to, say, set, show, start};
 use samples::{bytes, forged, plain, pointed, tallied};

@@ -2,6 +2,8 @@
 // Standard input has the letter of the workload, and the number of turns in three bytes, the lowest first; a byte that is not there is 0. The line that is
 // printed has the turns that were done, the earlier total, the tallies of the sheets, and two sums over all that is on the sheets.
 // `benches/classwork_race.c` does the same with a bench in C, and `benches/classwork` times the two.
+#![tactic(auto)]
+
 use bench::{Answer, Bench, Benched, SHEETS};
 use sheet::{NAME_BYTES, PLACES, Point, Sheet};
 
@@ -124,7 +126,7 @@ fn turn(workload: u8, bench: Bench, cells: &[u8], number: usize) -> Benched {
 }
 
 // The bench after the turns, and how many were done: a refusal ends them.
-#[derive(Drop)]
+#[derive(Clone, Copy)]
 struct Played {
     bench: Bench,
     turns: usize,
@@ -155,7 +157,7 @@ fn play(workload: u8, begun: Bench, cells: &[u8], turns: usize) -> Played {
 }
 
 // The sum of the numbers so far, and the sum of all these sums.
-#[derive(Drop)]
+#[derive(Clone, Copy)]
 struct Sums {
     low: u64,
     high: u64,

@@ -1,4 +1,6 @@
 // A bench, eight sheets over one n: made, one of its sheets changed, its sheets tested.
+#![tactic(auto)]
+
 ghost use Rattle.std.specs.Prelude.{◌≡◌, ◌<◌, ◌≤◌, length};
 ghost use Rattle.equivalence.specs.Equivalence.{identity};
 ghost use Rattle.equivalence.specs.Lists.{every};
@@ -10,7 +12,7 @@ use sheet::Sheet;
 // How many sheets a bench has.
 pub const SHEETS: usize = 8;
 
-#[derive(Drop)]
+#[derive(Clone, Copy)]
 pub struct Bench {
     pub n: usize,
     pub earlier: u64,

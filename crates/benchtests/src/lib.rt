@@ -1,4 +1,6 @@
 // The tests of the bench's calls, by rising number; 13 is Add's own, since it needs the congruence.
+#![tactic(auto)]
+
 ghost use Rattle.std.specs.Prelude.{◌≡◌, [], ◌∷◌, ◌≤◌};
 ghost use Rattle.equivalence.specs.Refusal.{lowest};
 ghost use Rattle.algebra.specs.Algebra.{algebra_in};

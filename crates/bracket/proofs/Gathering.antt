@@ -14,7 +14,7 @@ use Rattle.kernel.specs.InnerKernel.{bit}
 use Rattle.equivalence.specs.Lent.{written, laid}
 use Rattle.tablereader.specs.Laying.{Laid}
 use Rattle.tablereader.proofs.Laying.{laid_none, laid_more}
-use Rattle.bracket.specs.Transcript.{State, goes}
+use Rattle.bracket.specs.Transcript.{State}
 use Rattle.bracket.specs.Fills.{room_at, Position, over, due, piece_of, position_after, Fill, ended, short, takes}
 use Rattle.bracket.specs.Standings.{state_of, position_by, position_of, room_from, standing_room, Sound, Kept, Filling}
 use Rattle.bracket.specs.InnerSteps.{step_of, Lent, Stepping, closed_at, Lined}

@@ -1,6 +1,6 @@
 -- What the inner functions of a run promise each other: a step, and a line with what it lays.
 use Rattle.std.specs.Prelude.{ℕ, ◌+◌, ◌≤◌, Bool, true, false, List, [], ◌≡◌, ltb, length}
-use Rattle.std.specs.Borrow.{Bor}
+use Rattle.std.specs.Borrow.{Bor, MutBor}
 use Rattle.equivalence.specs.declared.Check.{Check}
 use Rattle.equivalence.specs.declared.Check.TheVariants.{Passed, Failed}
 use Rattle.bracket.specs.Transcript.{State, Step, goes, ends, first_step}
@@ -35,17 +35,17 @@ pub record Stepping (text : List ℕ) (at : ℕ) (d : Step) (lent arities room o
   pub past : at + bit r.standing.goes ≤ r.standing.at
 
 -- the steps over lent slices: the text, the arities, the room and the output before, and the last three after
-abbrev pub StepIn : (List ℕ → State → Step) → Bor (List ℕ) → Standing → Bor (List ℕ) → Bor (List ℕ) → Bor (List ℕ) → Bor (List ℕ) → Bor (List ℕ) → Bor (List ℕ) → Stepped → Type 0
+abbrev pub StepIn : (List ℕ → State → Step) → List ℕ → Standing → List ℕ → List ℕ → List ℕ → List ℕ → List ℕ → List ℕ → Stepped → Type 0
 StepIn step text s arities room lent arities' room' out r =
-    Stepping text.now s.at (step text.now (state_of s arities.now room.now)) lent.now arities'.now room'.now out.now r
+    Stepping text s.at (step text (state_of s arities room)) lent arities' room' out r
 
 -- the step that is due
-abbrev pub DueIn : Bor (List ℕ) → Standing → Bor (List ℕ) → Bor (List ℕ) → Bor (List ℕ) → Bor (List ℕ) → Bor (List ℕ) → Bor (List ℕ) → Stepped → Type 0
+abbrev pub DueIn : Bor (List ℕ) → Standing → MutBor (List ℕ) → MutBor (List ℕ) → MutBor (List ℕ) → MutBor (List ℕ) → MutBor (List ℕ) → MutBor (List ℕ) → Stepped → Type 0
 DueIn text s arities room lent arities' room' out r =
     Stepping text.now s.at (due text.now (position_of s arities.now room.now)) lent.now arities'.now room'.now out.now r
 
 -- the first step, which stores nothing
-abbrev pub FirstStepIn : Bor (List ℕ) → Bor (List ℕ) → Bor (List ℕ) → Stepped → Type 0
+abbrev pub FirstStepIn : Bor (List ℕ) → MutBor (List ℕ) → MutBor (List ℕ) → Stepped → Type 0
 FirstStepIn text lent out r = (arities room : List ℕ) → Stepping text.now 0 (first_step text.now) lent.now arities room out.now r
 
 -- where a run stands behind the lines of its algebra, before any request; it goes on, or it is over
@@ -75,11 +75,11 @@ pub record Lined (text : List ℕ) (s : Standing) (arities room lent arities' ro
   pub kept : Kept s arities room r.standing arities' room'
 
 -- a line over lent slices: the text, the arities, the room and the output before, and the last three after
-abbrev pub LinedIn : Bor (List ℕ) → Standing → Bor (List ℕ) → Bor (List ℕ) → Bor (List ℕ) → Bor (List ℕ) → Bor (List ℕ) → Bor (List ℕ) → Stepped → Type 0
+abbrev pub LinedIn : Bor (List ℕ) → Standing → MutBor (List ℕ) → MutBor (List ℕ) → MutBor (List ℕ) → MutBor (List ℕ) → MutBor (List ℕ) → MutBor (List ℕ) → Stepped → Type 0
 LinedIn text s arities room lent arities' room' out r =
     Lined text.now s arities.now room.now lent.now arities'.now room'.now out.now r
 
 -- the same of a fill
-abbrev pub FillingIn : Bor (List ℕ) → Standing → Bor (List ℕ) → Bor (List ℕ) → Bor (List ℕ) → Bor (List ℕ) → Bor (List ℕ) → Bor (List ℕ) → Stepped → Type 0
+abbrev pub FillingIn : Bor (List ℕ) → Standing → MutBor (List ℕ) → MutBor (List ℕ) → MutBor (List ℕ) → MutBor (List ℕ) → MutBor (List ℕ) → MutBor (List ℕ) → Stepped → Type 0
 FillingIn text s arities room lent arities' room' out r =
     Filling text.now s arities.now room.now lent.now arities'.now room'.now out.now r

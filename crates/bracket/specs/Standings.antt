@@ -1,6 +1,6 @@
 -- The run as the program keeps it: a standing, and lent slices that hold the arities and the cells. What its fills lay and where they lead is what `Fills` says.
 use Rattle.std.specs.Prelude.{ℕ, zero, suc, ◌≤◌, ◌<◌, Bool, true, false, ◌&&◌, List, ◌≡◌, T, leb, length, take, drop}
-use Rattle.std.specs.Borrow.{Bor}
+use Rattle.std.specs.Borrow.{Bor, MutBor}
 use Rattle.algebra.specs.Algebra.{algebra_of}
 use Rattle.bracket.specs.Transcript.{State}
 use Rattle.answers.specs.Room.{line_room}
@@ -82,6 +82,6 @@ pub record FillPromise (text : List ℕ) (s : Standing) (arities room lent ariti
       → (r ≡ record { standing = unread false; wrote = 0 }) × (arities' ≡ arities) × (room' ≡ room) × (out ≡ lent)
 
 -- the same of lent slices: the text, the arities, the room and the output before, and the last three after
-abbrev pub FillPromiseIn : Bor (List ℕ) → Standing → Bor (List ℕ) → Bor (List ℕ) → Bor (List ℕ) → Bor (List ℕ) → Bor (List ℕ) → Bor (List ℕ) → Stepped → Type 0
+abbrev pub FillPromiseIn : Bor (List ℕ) → Standing → MutBor (List ℕ) → MutBor (List ℕ) → MutBor (List ℕ) → MutBor (List ℕ) → MutBor (List ℕ) → MutBor (List ℕ) → Stepped → Type 0
 FillPromiseIn text s arities room lent arities' room' out r =
     FillPromise text.now s arities.now room.now lent.now arities'.now room'.now out.now r

@@ -16,7 +16,7 @@ const WORD_ROOM: usize = 256;
 
 // Where a run stands: whether it goes on, the start of the next line, the algebra's size, how many operations and cells it has, and whether a request has
 // come. The arities of the operations, and the cells, stand first in two slices that the caller lends to every fill.
-#[derive(Drop)]
+#[derive(Clone, Copy)]
 pub struct Standing {
     pub goes: bool,
     pub at: usize,
@@ -27,7 +27,7 @@ pub struct Standing {
 }
 
 // Where the run stands after some lines, and how many bytes they wrote.
-#[derive(Drop)]
+#[derive(Clone, Copy)]
 pub struct Stepped {
     pub standing: Standing,
     pub wrote: usize,

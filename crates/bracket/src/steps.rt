@@ -75,7 +75,7 @@ fn operation_step(
     requires sound { Sound text.now standing }
     requires lent { Lent text.now standing arities.old room.old out.old }
     requires at_in_bounds { standing.at + 3 ≤ length text.now }
-    ensures step_in { StepIn operation_step text.entry standing arities.entry room.entry out.entry arities.exit room.exit out.exit result }
+    ensures step_in { StepIn operation_step text.now standing arities.old room.old out.old arities.new room.new out.new result }
     ensures kept { Kept standing arities.old room.old result.standing arities.new room.new }
 {
     let algebra = AlgebraSoFar {
@@ -99,7 +99,7 @@ fn request_step(
     requires sound { Sound text.now standing }
     requires lent { Lent text.now standing arities.now room.old out.old }
     requires at_nonzero { 0 < standing.at }
-    ensures step_in { StepIn request_step text.entry standing arities.entry room.entry out.entry arities.entry room.exit out.exit result }
+    ensures step_in { StepIn request_step text.now standing arities.now room.old out.old arities.now room.new out.new result }
     ensures kept { Kept standing arities.now room.old result.standing arities.now room.new }
 {
     let operations = standing.operations;

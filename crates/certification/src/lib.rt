@@ -1,4 +1,6 @@
 // Certify of an accepted algebra: the conditions on a list of maps, the cheapest first.
+#![tactic(auto)]
+
 ghost use Rattle.std.specs.Prelude.{◌≡◌, ◌&&◌};
 ghost use Rattle.equivalence.specs.Lists.{every};
 ghost use Rattle.equivalence.specs.Equivalence.{is_map};

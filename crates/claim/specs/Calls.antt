@@ -1,7 +1,7 @@
 -- Demand 3 is a claim over calls together: Decompose; for every factor, Quotient of the same algebra by the factor's map as listed; and Decompose on
 -- the tables and b that this Quotient gave, with the arities as before and nothing lent. Here stand these calls, one after the other, and the claim.
 use Rattle.std.specs.Prelude.{ℕ, zero, suc, ◌+◌, ◌≤◌, ◌<◌, ◌≡◌, List, [], length}
-use Rattle.std.specs.Borrow.{Bor}
+use Rattle.std.specs.Borrow.{MutBor}
 use denote.Triple.Both.{Both}
 use Rattle.equivalence.specs.Equivalence.{Map}
 use Rattle.equivalence.specs.Lent.{stretch}
@@ -53,7 +53,7 @@ irreducible_among a list tables (suc i) = irreducible_among a list tables i + ir
 
 -- a lent slice, when a call begins and when it has ended
 abbrev pub Slice : Type 0
-Slice = Both (Bor (List ℕ)) (Bor (List ℕ))
+Slice = Both (MutBor (List ℕ)) (MutBor (List ℕ))
 
 -- the calls were made: the first answer, how many last calls answered 11, and every lent byte afterwards
 pub record CallsMade (a : Algebra) (list tables : Slice) (r : FactorsDecomposed) : Type 0 where

@@ -1,5 +1,7 @@
 // Demand 3's claim as one function: Decompose; for every factor, Quotient of the same algebra by the factor's map as listed; and Decompose on the
 // tables and b that this Quotient gave, with the arities as before and nothing lent. Every last call answers 11.
+#![tactic(auto)]
+
 ghost use Rattle.std.specs.Prelude.{[], ◌≡◌, ◌*◌, ◌≤◌, length};
 ghost use Rattle.algebra.specs.Algebra.{algebra_in};
 ghost use Rattle.congruence.specs.Calls.{algebra_from, decompose_call};
@@ -9,7 +11,7 @@ ghost use Rattle.claim.specs.InnerPromises.{TablesFit};
 use congruence::{Decomposed, Divided};
 
 // What the calls came to: the answer of the first, and how many of the last ones answered 11.
-#[derive(Drop)]
+#[derive(Clone, Copy)]
 pub struct FactorsDecomposed {
     pub first: Decomposed,
     pub irreducible: usize,

@@ -2,6 +2,8 @@
 //
 // A merge takes one name away, and the queue holds the names taken away. Each queued element is taken once, with the name that its block
 // then has, through every translation whose other arguments are still in use; after that it is in use no more itself.
+#![tactic(auto)]
+
 ghost use Rattle.std.specs.Prelude.{◌≡◌, ℕ, ◌+◌, ◌<◌, ◌≤◌, length};
 ghost use Rattle.equivalence.specs.Equivalence.{byte};
 ghost use Rattle.kernel.specs.InnerKernel.{Canonical, KeptPast, names};

@@ -1,4 +1,6 @@
 // The services over an algebra: the congruences they give, the answers and the lent bytes.
+#![tactic(auto)]
+
 ghost use Rattle.std.specs.Prelude.{◌≡◌};
 ghost use Rattle.algebra.specs.Algebra.{algebra_in};
 ghost use Rattle.congruence.specs.Calls.{decompose_call, generate_call, contained_call, separate_call, quotient_call, certify_call};
@@ -9,21 +11,21 @@ use equivalence::{Check, Refusal, Written};
 mod checks;
 
 // What Generate answers: how many merges made the congruence.
-#[derive(Drop)]
+#[derive(Clone, Copy)]
 pub enum Generated {
     Merges(u8),
     Refused(equivalence::Refusal),
 }
 
 // What Quotient answers: how many blocks the quotient has.
-#[derive(Drop)]
+#[derive(Clone, Copy)]
 pub enum Divided {
     Blocks(u8),
     Refused(equivalence::Refusal),
 }
 
 // What Decompose answers: how many factors it wrote; or reason 11, with the first pair common to all congruences but the identity.
-#[derive(Drop)]
+#[derive(Clone, Copy)]
 pub enum Decomposed {
     Factors(u8),
     Irreducible(equivalence::Element, equivalence::Element),
@@ -31,7 +33,7 @@ pub enum Decomposed {
 }
 
 // What Certify answers.
-#[derive(Drop)]
+#[derive(Clone, Copy)]
 pub enum Certified {
     Yes,
     No,

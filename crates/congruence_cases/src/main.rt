@@ -1,5 +1,7 @@
 // Generate, Contained, Separate, Quotient and Certify on cases that a reader can check by hand: each line is a call on the bytes n, arities, cells and
 // the service's own input, its lent bytes before it all 9, and what came of it.
+#![tactic(auto)]
+
 use congruence::{Certified, Divided, Generated};
 use equivalence::{Refusal, Written};
 

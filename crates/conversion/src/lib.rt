@@ -1,4 +1,6 @@
 // The conversion of a bench of the third kind into today's.
+#![tactic(auto)]
+
 ghost use Rattle.std.specs.Prelude.{◌≡◌, map};
 ghost use Rattle.conversion.specs.Conversion.{untallied, with_tallies, convert_v3_call};
 

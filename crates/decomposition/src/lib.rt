@@ -1,5 +1,7 @@
 // Decompose of an accepted algebra: congruences are gathered, those not needed are dropped, and what is left is written where it has room. Working
 // storage: 63 maps, the meets of 64 suffixes, the table for meets, one meet, and the numbers of the maps that are needed.
+#![tactic(auto)]
+
 ghost use Rattle.std.specs.Prelude.{[], ◌≡◌, ◌+◌, ◌*◌, ◌≤◌, length};
 ghost use Rattle.algebra.specs.Algebra.{algebra_in};
 ghost use Rattle.algebra.specs.Accepted.{Accepted};
@@ -17,7 +19,7 @@ mod write;
 
 // What was found: so many factors, which are written; more factors than the lent space takes; or, of an irreducible algebra, the first pair common
 // to all congruences but the identity.
-#[derive(Drop)]
+#[derive(Clone, Copy)]
 pub enum Found {
     Factors(u8),
     Short,

@@ -1,6 +1,6 @@
 -- What the program lends to a run, and what is written out where a run paused.
 use Rattle.std.specs.Prelude.{ℕ, ◌+◌, ◌*◌, ◌≤◌, List, ◌≡◌, length, drop}
-use Rattle.std.specs.Borrow.{Bor}
+use Rattle.std.specs.Borrow.{Bor, MutBor}
 use Rattle.bracket.specs.Transcript.{transcript}
 use Rattle.bracket.specs.Standings.{position_of, Sound}
 use Rattle.bracket.specs.InnerRemaining.{remaining, distance}
@@ -27,7 +27,7 @@ pub record WrittenOut (text arities room : List ℕ) (p : Paused) : Type 0 where
   pub bounded : p.written + 131328 * distance text (position_of p.standing arities room) ≤ 131328 * (length text + 2)
 
 -- the same of lent slices
-abbrev pub WrittenOutIn : Bor (List ℕ) → Bor (List ℕ) → Bor (List ℕ) → Paused → Type 0
+abbrev pub WrittenOutIn : Bor (List ℕ) → MutBor (List ℕ) → MutBor (List ℕ) → Paused → Type 0
 WrittenOutIn text arities room p = WrittenOut text.now arities.now room.now p
 
 -- what is left of a run: its arities and cells stand first in these slices, which are no longer than the storage for the longest text

@@ -2,6 +2,8 @@
 //
 // A function's storage is touched when it starts, page by page, which costs more than answering a short text. So `main` has little storage, and what is left of
 // a run that wants more goes to `finish`, whose own storage is enough for any text.
+#![tactic(auto)]
+
 ghost use Rattle.std.specs.Prelude.{◌≡◌, ◌+◌, ◌^◌, ◌≤◌, ◌<◌, length};
 ghost use Rattle.bracket.specs.Transcript.{transcript};
 ghost use Rattle.desk.specs.Writing.{Next};
@@ -17,7 +19,7 @@ const SHORT_TEXT: usize = 32768;
 const SHORT_OUT: usize = 36864;
 
 // A run that paused: where it stands, and how many bytes are written out.
-#[derive(Drop)]
+#[derive(Clone, Copy)]
 struct Paused {
     standing: Standing,
     written: usize,
@@ -81,7 +83,8 @@ fn run_on(text: &[u8], paused: Paused, arities: &mut [u8], room: &mut [u8], out:
 }
 
 // What is left of a run, in storage for the longest text, to which the arities and the cells are carried. How many bytes are written then. It has a loop of its
-// own, and two callers: else the compiler makes its storage a part of `main`'s.
+// own, and is kept apart: else the compiler makes its storage a part of `main`'s.
+#[inline(never)]
 fn finish(text: &[u8], paused: Paused, arities: &[u8], cells: &[u8]) -> usize
     requires { LeftOver text.now arities.now cells.now paused }
     ensures { result ≡ length (transcript text.now) }

@@ -60,6 +60,7 @@ module _ {ℓ} {A : Type ℓ} where
   keep_no p a l t = pick_no (p a) (a ∷ keep p l) (keep p l) t
 
   pub keep_member : (p : A → Bool) (l : List A) (a : A) → Member a l → T (p a) → Member a (keep p l)
+  keep_member p [] a x'' t = elim x'' [ ]
   keep_member p (b ∷ l) a (here e) t = rw (keep_yes p b l (subst (λ (x : A). T (p x)) e t)) (here e)
   keep_member p (b ∷ l) a (there m) t =
       elim (T? (p b)) [
@@ -117,6 +118,7 @@ module _ {ℓ} {A : Type ℓ} where
 
   pub member_concat : (ls : List (List A)) (l : List A) (a : A) → Member l ls → Member a l → Member a (concat ls)
   unfolding concat
+  member_concat [] l a x'' m = elim x'' [ ]
   member_concat (k ∷ ls) l a (here e) m = append_left (concat ls) (subst (λ (x : List A). Member a x) e m)
   member_concat (k ∷ ls) l a (there h) m = append_right k (member_concat ls l a h m)
 

@@ -1,10 +1,12 @@
 // Equivalences on the elements 0 to n - 1, written as maps; and the types that every layer above shares.
+#![tactic(auto)]
+
 pub mod blocks;
 pub mod checks;
 pub mod map;
 
 // The reasons to decline, by their numbers. Reason 11 carries two elements: it is a case of `Decomposed`.
-#[derive(Drop)]
+#[derive(Clone, Copy)]
 pub enum Refusal {
     Size,
     Operations,
@@ -24,25 +26,25 @@ pub enum Refusal {
 }
 
 // What the tests of a call found.
-#[derive(Drop)]
+#[derive(Clone, Copy)]
 pub enum Check {
     Passed,
     Failed(Refusal),
 }
 
 // An element of an algebra.
-#[derive(Drop)]
+#[derive(Clone, Copy)]
 pub struct Element(pub u8);
 
 // What a service answers that only writes a map.
-#[derive(Drop)]
+#[derive(Clone, Copy)]
 pub enum Written {
     Done,
     Refused(Refusal),
 }
 
 // Two elements.
-#[derive(Drop)]
+#[derive(Clone, Copy)]
 pub struct Pair {
     pub x: usize,
     pub y: usize,

@@ -40,27 +40,18 @@ pub fn self_named(name: u8, x: usize) -> usize
     if name as usize == x { 1 } else { 0 }
 }
 
-// The same as a byte: bytes that are compared with bytes and counted in one are taken many at once.
-pub fn own_name(name: u8, x: usize) -> u8
-    requires { x < 64 }
-    ensures { result ≡ bit (eqb name x) }
-{
-    if name == x as u8 { 1 } else { 0 }
-}
-
 // How many of the first n bytes name their own element: the number of blocks.
 pub fn block_count(n: usize, m: &[u8]) -> usize
-    requires n_bound { n ≤ 64 }
-    requires n_in_bounds { n ≤ length m.now }
+    requires { n ≤ length m.now }
     ensures { result ≡ names n (byte m.now) }
 {
-    let mut count: u8 = 0;
+    let mut count = 0;
     let mut x = 0;
     while x < n {
-        count += own_name(m[x], x);
+        count += self_named(m[x], x);
         x += 1;
     }
-    count as usize
+    count
 }
 
 // Whether every pair that a holds is held by b: each element is compared with the first of its block in a.

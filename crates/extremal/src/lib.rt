@@ -1,4 +1,6 @@
 // The least, the greatest and the earliest congruence of an accepted algebra, written at the start of a lent slice. Bytes past the first n keep their value.
+#![tactic(auto)]
+
 ghost use Rattle.std.specs.Prelude.{◌≡◌, ℕ, ◌-◌, ◌<◌, ◌≤◌, T, length};
 ghost use Rattle.equivalence.specs.Equivalence.{byte, is_map, blocks};
 ghost use Rattle.kernel.specs.InnerKernel.{Canonical};

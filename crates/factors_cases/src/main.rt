@@ -1,5 +1,7 @@
 // Decompose on cases that a reader can check by hand: each line is a call on the bytes n, arities and cells, its lent bytes before it all 9, and what came
 // of it. Then the calls of demand 3's claim together: the first answer, how many of the last calls answered 11, and the two lent slices.
+#![tactic(auto)]
+
 use congruence::Decomposed;
 
 // The call's name and the algebra.

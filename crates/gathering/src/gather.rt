@@ -15,7 +15,7 @@ use maplist::whole_into;
 use pairorder::order::first_held;
 
 // What gathering found: so many congruences, none of them the identity, that meet in it; or a pair that all but the identity join.
-#[derive(Drop)]
+#[derive(Clone, Copy)]
 pub enum Collected {
     All(usize),
     Joined(Element, Element),

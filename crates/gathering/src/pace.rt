@@ -26,7 +26,6 @@ pub fn few_trials(n: usize, arities: &[u8]) -> usize
 
 // Have the congruences so far, two or more, cut off little more than a block each?
 fn cuts_little(n: usize, count: usize, met: &[u8]) -> bool
-    requires n_bound { n ≤ 64 }
     requires n_in_bounds { n ≤ length met.now }
     requires count_bound { count ≤ 64 }
     ensures { result ≡ cuts_little count (names n (byte met.now)) }
@@ -39,7 +38,6 @@ fn cuts_little(n: usize, count: usize, met: &[u8]) -> bool
 
 // Is gathering slow where each trial is dear? Where little is cut off.
 pub fn is_dear(n: usize, few: usize, count: usize, met: &[u8]) -> bool
-    requires n_bound { n ≤ 64 }
     requires n_in_bounds { n ≤ length met.now }
     requires count_bound { count ≤ 64 }
     ensures { result ≡ is_dear few count (names n (byte met.now)) }
@@ -52,7 +50,6 @@ pub fn is_dear(n: usize, few: usize, count: usize, met: &[u8]) -> bool
 
 // Is it slow where trials are cheap? Where little is cut off, by many trials.
 pub fn is_slow(n: usize, few: usize, count: usize, trials: usize, met: &[u8]) -> bool
-    requires n_bound { n ≤ 64 }
     requires n_in_bounds { n ≤ length met.now }
     requires few_bound { few ≤ 192 }
     requires count_bound { count ≤ 64 }

@@ -1,4 +1,6 @@
 // The answers of the writer and the reader of algebras as numbers, and the reader's as bytes: what the tests see of them.
+#![tactic(auto)]
+
 ghost use Rattle.std.specs.Prelude.{◌≡◌, ◌≤◌, length};
 ghost use Rattle.equivalence.specs.Refusal.{number_of};
 ghost use Rattle.algebratext.specs.Bounds.{TextBounded, ReadBounded};

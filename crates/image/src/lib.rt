@@ -1,6 +1,8 @@
 // A bench as 5,201 bytes, its image: eight maps of 64 bytes, the bench's n, the tallies of the sheets, what was lost earlier; then for each sheet how many
 // points it holds, and its eight places, a name and a map each. Benches of older kinds have one tally where today's have nine numbers: one of the third kind
 // has 5,137 bytes; one of the second, which has no points, 521; one of the first, whose tally is shorter, 517.
+#![tactic(auto)]
+
 ghost use Rattle.std.specs.Prelude.{◌≡◌, map, ◌+◌, ◌≤◌, ◌<◌, length};
 ghost use Rattle.equivalence.specs.Lists.{up_to, concat};
 ghost use Rattle.imagepart.specs.InnerSteps.{Laid};

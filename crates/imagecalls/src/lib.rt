@@ -1,4 +1,6 @@
 // Calls of the bench over its image.
+#![tactic(auto)]
+
 ghost use Rattle.std.specs.Prelude.{◌≡◌, length};
 ghost use Rattle.algebra.specs.Algebra.{algebra_in};
 ghost use Rattle.equivalence.specs.Outcome.{packed};

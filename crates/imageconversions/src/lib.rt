@@ -1,4 +1,6 @@
 // Conversions of old benches over their images.
+#![tactic(auto)]
+
 ghost use Rattle.std.specs.Prelude.{◌≡◌, length};
 ghost use Rattle.imagecalls.specs.Calls.{bench_v2_shown, bench_v3_shown, first_image_call, second_image_call, old_image_call};
 

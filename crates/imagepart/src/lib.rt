@@ -1,5 +1,7 @@
 // Parts of a bench's image: numbers with the lowest byte first, names and maps as they are, a point as its name and its map, the points of a sheet as their
 // count and the eight places. Each is read from the byte where it begins, and written there; every other byte stays.
+#![tactic(auto)]
+
 ghost use Rattle.std.specs.Prelude.{◌≡◌, map, ◌+◌, ◌*◌, ◌≤◌, ◌<◌, ◌^◌, length};
 ghost use Rattle.equivalence.specs.Lists.{concat};
 ghost use Rattle.imagepart.specs.Parts.{part, little, little_in, point_bytes, points_bytes, map_in, place_in, places_in};

@@ -1,5 +1,7 @@
 // Certify's second and third condition: the list meets in the identity, and none of it can be left out. Working storage: the meets of 64 suffixes, the
 // table for meets, and one meet.
+#![tactic(auto)]
+
 ghost use Rattle.std.specs.Prelude.{◌≡◌, not, ◌+◌, ◌*◌, ◌≤◌, length};
 ghost use Rattle.equivalence.specs.Lists.{up_to, every, without};
 ghost use Rattle.equivalence.specs.Equivalence.{is_identity, meet_all};

@@ -32,17 +32,6 @@ use Rattle.keeping.proofs.Storing.{from, from_long, from_byte}
 pub joined_images : {a : Algebra} → WellFormed a → {x y : ℕ} {f f' : ℕ → ℕ} → Within a.size f f' → ImagesJoined a x y f → ImagesJoined a x y f'
 joined_images {a} ok {x} {y} w h = record { each = λ j l. images_kept a ok j (λ c. c < a.size) x y w (h.each j l) }
 
-module _ {a : Algebra} where
-  -- images of one element, of two the other way round, of two by a third
-  pub images_same : {x : ℕ} {f : ℕ → ℕ} → ImagesJoined a x x f
-  images_same = record { each = λ j l pre post s p q. refl }
-
-  pub images_swap : {x y : ℕ} {f : ℕ → ℕ} → ImagesJoined a x y f → ImagesJoined a y x f
-  images_swap h = record { each = λ j l pre post s p q. sym (h.each j l pre post s p q) }
-
-  pub images_chain : {x y z : ℕ} {f : ℕ → ℕ} → ImagesJoined a x y f → ImagesJoined a y z f → ImagesJoined a x z f
-  images_chain h k = record { each = λ j l pre post s p q. h.each j l pre post s p q ∙ k.each j l pre post s p q }
-
 module _ {a : Algebra} (ok : WellFormed a) {f f' : ℕ → ℕ} (same : (z : ℕ) → z < 64 → f' z ≡ f z) where
   alike : (z : ℕ) → z < a.size → f' z ≡ f z
   alike z l = same z (omega (arith, ok.most))
@@ -185,10 +174,10 @@ module _ {a : Algebra} (ok : WellFormed a) {x y p k : ℕ} {m maps marks maps' m
   small : y < 64
   small = omega (arith, ok.most)
 
-  stored_kept : PairKept a x y (kept_at maps' p)
+  pub stored_kept : PairKept a x y (kept_at maps' p)
   stored_kept = alike_kept ok d.map (omega arith) h pair
 
-  stored_whole : k ≡ 2 → Compatible a (kept_at maps' p)
+  pub stored_whole : k ≡ 2 → Compatible a (kept_at maps' p)
   stored_whole two = alike_compatible ok d.map (whole two)
 
   pub keeping_stored : Keeping a maps' marks'
@@ -230,8 +219,8 @@ kept_made {a} {r = r} {marks = marks} ok s l h e none made mark d = record {
 }
 
 -- a kept map, read from its place on
-pub kept_room : {a : Algebra} {x y p : ℕ} {maps marks : List ℕ} → Keeping a maps marks → PlaceOf x y p → 64 ≤ length (from (p * 64) maps)
-kept_room {p = p} {maps} k e = omega (arith, from_long (p * 64) maps, k.maps_room, e.small)
+pub kept_room : {a : Algebra} {x y p : ℕ} {maps marks : List ℕ} → Keeping a maps marks → PlaceOf x y p → a.size ≤ length (from (p * 64) maps)
+kept_room {p = p} {maps} k e = omega (arith, from_long (p * 64) maps, k.most, k.maps_room, e.small)
 
 pub kept_from : {a : Algebra} {x y p : ℕ} {old maps marks : List ℕ} → Accepted a → x < y → y < a.size → KeptHere a x y old maps marks p → PairKept a x y (byte (from (p * 64) maps))
 kept_from {a} {p = p} {maps = maps} ok l h k =
@@ -239,5 +228,5 @@ kept_from {a} {p = p} {maps = maps} ok l h k =
 
 -- both, as a join asks them
 pub kept_joinable : {a : Algebra} {x y p : ℕ} {old maps marks : List ℕ} → KeptHere a x y old maps marks p → Accepted a → x < y → y < a.size
-    → (64 ≤ length (from (p * 64) maps)) × Canonical a.size (byte (from (p * 64) maps))
+    → (a.size ≤ length (from (p * 64) maps)) × Canonical a.size (byte (from (p * 64) maps))
 kept_joinable k ok l h = (kept_room k.keeping k.place, (kept_from ok l h k).canonical)

@@ -1,3 +1,5 @@
 pub mod PairPlaces
 pub mod Storing
 pub mod Keepings
+pub mod Closings
+pub mod Insides

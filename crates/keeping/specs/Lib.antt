@@ -1,1 +1,3 @@
 pub mod InnerKeeping
+pub mod InnerPrincipal
+pub mod InnerInside

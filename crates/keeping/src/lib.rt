@@ -1,7 +1,12 @@
 // What pairs of elements give is kept, for whoever closes the same pairs again and again. For x < y, 64 bytes at the place of the pair hold a map that joins x and y and
 // their images under all translations, and that lies inside every congruence that joins x and y; one pass makes it. Its mark says whether it is a congruence itself:
-// closing it is left to `keptprincipal`, and then done once.
+// closing it is left to `principal::principal`, and then done once.
+#![tactic(auto)]
+
+pub mod inside;
+pub mod join;
 pub mod pairs;
+pub mod principal;
 
 // How many pairs 64 elements have: as many marks are lent.
 pub const PLACES: usize = 2016;

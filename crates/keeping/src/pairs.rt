@@ -96,7 +96,7 @@ fn pass(
 }
 
 // The mark of a map, by whether it is known to be a congruence.
-fn mark_of(whole: bool) -> u8
+pub fn mark_of(whole: bool) -> u8
     ensures { result ≡ mark_of whole }
 {
     if whole { WHOLE } else { KEPT }

@@ -14,20 +14,17 @@ use Rattle.algebra.proofs.Accepted.{WellFormed, accepted_well_formed}
 use Rattle.translation.specs.InnerTranslations.{Compatible, Closed}
 use Rattle.sweep.specs.InnerQueue.{QueueState}
 use Rattle.keeping.specs.InnerKeeping.{PairKept, kept_at, Keeping, PlaceOf}
-use Rattle.keptjoin.specs.InnerJoin.{JoinedTo}
-use Rattle.kepttaking.specs.InnerTaking.{FullMap}
-use Rattle.keptprincipal.specs.InnerPrincipal.{PrincipalHere}
+use Rattle.keeping.specs.InnerPrincipal.{JoinedTo, FullMap, PrincipalHere}
 use Rattle.keeping.proofs.Storing.{from, from_byte}
 use Rattle.keeping.proofs.Keepings.{alike_compatible, alike_kept, keeping_at, keeping_whole, kept_room}
-use Rattle.keptjoin.proofs.JoinedNames.{names_within}
-use Rattle.keptprincipal.proofs.Closings.{principal_from}
+use Rattle.keeping.proofs.Closings.{names_within, principal_from}
 use Rattle.bounding.specs.InnerSettled.{Settled}
 use Rattle.bounding.proofs.Settling.{settled_pass, settled_take, settled_skip, settled_row, settled_skip_row}
 use Rattle.keptsearch.specs.InnerRows.{AlwaysJoins, RowJoined, KeptStanding, RowLent, WithKept, Generating}
 use Rattle.keptsearch.proofs.Rowing.{with_closed, joined_start, joined_grow, joined_next, joined_stop, joined_settled}
 
 -- a join with a queue that is not used
-pub joined_with : {n : ℕ} {f : ℕ → ℕ} {s t : QueueState} → JoinedTo n f s t → WithKept n t.map_bytes f s.map t.map
+pub joined_with : {n : ℕ} {f : ℕ → ℕ} {s t : QueueState} → JoinedTo n n f s t → WithKept n t.map_bytes f s.map t.map
 joined_with d = record {
   full = record { most = d.grown.ready.most; room = d.grown.ready.map_room; canonical = d.grown.ready.queued.canonical; padded = d.grown.ready.padded };
   within = d.grown.within;

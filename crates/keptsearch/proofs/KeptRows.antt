@@ -18,8 +18,8 @@ use Rattle.algebra.proofs.Accepted.{accepted_well_formed}
 use Rattle.translation.specs.InnerTranslations.{Refined}
 use Rattle.translation.proofs.Translations.{identity_compatible}
 use Rattle.refinement.specs.InnerSplitting.{Represented}
-use Rattle.keptinside.specs.InnerInside.{ListedElements, Proved}
-use Rattle.keptinside.proofs.Insides.{names_meet}
+use Rattle.keeping.specs.InnerInside.{ListedElements, Proved}
+use Rattle.keeping.proofs.Insides.{names_meet}
 use Rattle.bounding.specs.InnerSettled.{Earliest}
 use Rattle.bounding.specs.InnerBounds.{NamesAmong, RowSettled, BoundLent, Tightened}
 use Rattle.bounding.proofs.Settling.{settled_start, settled_grows}

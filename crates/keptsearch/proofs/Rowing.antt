@@ -8,8 +8,7 @@ use Rattle.kernel.specs.InnerKernel.{Canonical, Within}
 use Rattle.algebra.specs.Algebra.{Algebra}
 use Rattle.algebra.proofs.Accepted.{WellFormed}
 use Rattle.translation.specs.InnerTranslations.{Compatible, Closed}
-use Rattle.keptjoin.proofs.JoinedNames.{names_within, within_names}
-use Rattle.kepttaking.proofs.Takings.{least_compatible}
+use Rattle.keeping.proofs.Closings.{names_within, within_names, least_compatible}
 use Rattle.bounding.specs.InnerSettled.{Before, KeepsBefore, Refused, Settled}
 use Rattle.keptsearch.specs.InnerRows.{AlwaysJoins, RowJoined, WithKept}
 

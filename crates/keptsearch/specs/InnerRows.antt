@@ -7,8 +7,7 @@ use Rattle.algebra.specs.Algebra.{Algebra, algebra_of}
 use Rattle.algebra.specs.Accepted.{Accepted}
 use Rattle.translation.specs.InnerTranslations.{Compatible, Closed}
 use Rattle.sweep.specs.InnerQueue.{Padded}
-use Rattle.keptjoin.specs.InnerJoin.{JoinsNames}
-use Rattle.kepttaking.specs.InnerTaking.{FullMap}
+use Rattle.keeping.specs.InnerPrincipal.{JoinsNames, FullMap}
 use Rattle.bounding.specs.InnerSettled.{Settled}
 
 -- every congruence that joins x and y joins v and w
@@ -50,5 +49,5 @@ pub record WithKept (n k : ℕ) (f g g' : ℕ → ℕ) : Type 0 where
 
 -- the first n bytes of a slice are the least congruence that joins x and y
 pub record Generating (a : Algebra) (x y : ℕ) (kept : List ℕ) : Type 0 where
-  pub room : 64 ≤ length kept
+  pub room : a.size ≤ length kept
   pub closed : Closed a (λ g. g x ≡ g y) (byte kept)

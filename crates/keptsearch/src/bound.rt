@@ -12,7 +12,7 @@ ghost use Rattle.keptsearch.specs.InnerRows.{KeptStanding};
 
 use bounding::blocks::two_blocks;
 use equivalence::Pair;
-use keptinside::is_proved;
+use keeping::inside::is_proved;
 
 // 1 where a test holds, else 0.
 fn one_if(test: bool) -> usize

@@ -1,4 +1,6 @@
 // Separate by kept pairs, for whoever separates pair after pair of one algebra: what two elements give is joined instead of closed anew.
+#![tactic(auto)]
+
 ghost use Rattle.std.specs.Prelude.{◌≡◌, ◌<◌, ◌≤◌, length};
 ghost use Rattle.equivalence.specs.Equivalence.{byte};
 ghost use Rattle.kernel.specs.InnerKernel.{KeptPast};

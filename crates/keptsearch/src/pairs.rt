@@ -7,7 +7,7 @@ ghost use Rattle.keptsearch.specs.InnerRows.{KeptStanding, Generating};
 use crate::row::unite;
 use equivalence::Pair;
 use equivalence::blocks::copy;
-use keptprincipal::principal;
+use keeping::principal::principal;
 
 // m is joined with the map `kept`, the least congruence that joins x and y, where the marked elements stay apart.
 fn take_apart(

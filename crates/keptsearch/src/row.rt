@@ -4,19 +4,19 @@ ghost use Rattle.equivalence.specs.Equivalence.{byte};
 ghost use Rattle.kernel.specs.InnerKernel.{Canonical};
 ghost use Rattle.algebra.specs.Algebra.{algebra_in};
 ghost use Rattle.keeping.specs.InnerKeeping.{Keeping};
-ghost use Rattle.kepttaking.specs.InnerTaking.{FullMap};
+ghost use Rattle.keeping.specs.InnerPrincipal.{FullMap};
 ghost use Rattle.keptsearch.specs.InnerRows.{KeptStanding, RowLent, WithKept};
 
 use equivalence::Pair;
 use keeping::WHOLE;
+use keeping::join::join_kept;
 use keeping::pairs::place;
-use keptjoin::join_kept;
-use keptprincipal::principal;
+use keeping::principal::principal;
 
 // Joins each element with its name in `kept`.
 pub fn unite(all: &mut [u8], n: usize, kept: &[u8])
     requires full_map { FullMap n (length all.old) (byte all.old) }
-    requires in_bounds { 64 ≤ length kept.now }
+    requires n_in_bounds { n ≤ length kept.now }
     requires canonical { Canonical n (byte kept.now) }
     ensures { WithKept n (length all.new) (byte kept.now) (byte all.old) (byte all.new) }
 {

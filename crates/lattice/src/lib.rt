@@ -1,4 +1,6 @@
 // Meets and joins of maps: Meet and Join with their tests; what writes them, for other crates too, is in `meets` and `joins`.
+#![tactic(auto)]
+
 ghost use Rattle.std.specs.Prelude.{◌≡◌};
 ghost use Rattle.equivalence.specs.Refusal.{lowest};
 ghost use Rattle.lattice.specs.Calls.{two_maps_tests, meet_call, join_call};
@@ -9,7 +11,7 @@ pub mod joins;
 pub mod meets;
 
 // The tests of a call that is handed two maps and writes one into `room` bytes.
-fn maps_space_check(n: usize, a: &[u8], b: &[u8], room: usize) -> Check
+pub fn maps_space_check(n: usize, a: &[u8], b: &[u8], room: usize) -> Check
     ensures { result ≡ lowest (two_maps_tests n a.now b.now room) }
 {
     let check = checks::maps_check(n, a, b);

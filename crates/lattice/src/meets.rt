@@ -67,7 +67,7 @@ pub fn meet_with(n: usize, b: &[u8], table: &mut [u8], m: &mut [u8])
     requires n_bound { n ≤ 64 }
     requires n_in_bounds { n ≤ length b.now }
     requires in_bounds { 4096 ≤ length table.old }
-    requires* n_bound_2 { do ⌜ n ≤ (← ⟦m.len()⟧) ⌝ }
+    requires m_room { n ≤ length m.old }
     requires canonical { Canonical n (byte b.now) }
     requires canonical_2 { Canonical n (byte m.old) }
     ensures { m.new ≡ written (meet n m.old b.now) m.old }
@@ -85,7 +85,7 @@ pub fn meet_into(n: usize, a: &[u8], b: &[u8], out: &mut [u8])
     requires n_bound { n ≤ 64 }
     requires n_in_bounds { n ≤ length a.now }
     requires n_in_bounds_2 { n ≤ length b.now }
-    requires* n_bound_2 { do ⌜ n ≤ (← ⟦out.len()⟧) ⌝ }
+    requires out_room { n ≤ length out.old }
     requires canonical { Canonical n (byte a.now) }
     requires canonical_2 { Canonical n (byte b.now) }
     ensures { out.new ≡ written (meet n a.now b.now) out.old }

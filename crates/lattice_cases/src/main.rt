@@ -1,5 +1,7 @@
 // Meet, Join, Prefer and pair places on cases that a reader can check by hand: each line is a call, its lent bytes before it all 9, and
 // what came of it. A map is written as its bytes.
+#![tactic(auto)]
+
 use equivalence::Written;
 use pairorder::Place;
 

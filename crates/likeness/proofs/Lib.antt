@@ -1,2 +1,1 @@
 pub mod Likeness
-pub mod KeptRows

@@ -26,7 +26,7 @@ use Rattle.translation.proofs.Translations.{congruence_compatible, compatible_co
 use Rattle.refinement.specs.InnerSplitting.{Sifted, MapLent}
 use Rattle.refinement.proofs.Splits.{never}
 use Rattle.refinement.proofs.Compatibility.{result_cell, accepted_lent, TableThere, table_there}
-use Rattle.likeness.specs.InnerAlike.{Says, Others, WalkLent, Stretches, Along, StretchAlike, PartsAlike, TableAlike, NamesAlike}
+use Rattle.likeness.specs.InnerAlike.{Says, Others, WalkLent, Stretches, StretchAlike, PartsAlike, TableAlike, NamesAlike}
 
 -- ---- answers
 
@@ -188,24 +188,24 @@ beside {base = base} {first = first} {i = i} p s l = record {
   expected_below = p.below (first + i) (omega (arith, s.there));
 }
 
-module _ {u v : ℕ → ℕ} {base first : ℕ} where
-  pub stretch_none : Along 0 u v base first
+module _ {cells : List ℕ} {f : ℕ → ℕ} {base first : ℕ} where
+  pub stretch_none : StretchAlike 0 cells f base first
   stretch_none = record { cell = λ i l. absurd (omega arith) }
 
-  pub stretch_more : {i : ℕ} → Along i u v base first → u (base + i) ≡ v (first + i) → Along (i + 1) u v base first
-  stretch_more {i} h e = record { cell = below_more (λ (z : ℕ). u (base + z) ≡ v (first + z)) i h.cell e }
+  pub stretch_more : {i : ℕ} → StretchAlike i cells f base first → f (get_or cells (base + i) 0) ≡ f (get_or cells (first + i) 0) → StretchAlike (i + 1) cells f base first
+  stretch_more {i} h e = record { cell = below_more (λ (z : ℕ). f (get_or cells (base + z) 0) ≡ f (get_or cells (first + z) 0)) i h.cell e }
 
-  pub stretch_all : {count i : ℕ} → i ≤ count → count ≤ i → Along i u v base first → Says true (Along count u v base first)
+  pub stretch_all : {count i : ℕ} → i ≤ count → count ≤ i → StretchAlike i cells f base first → Says true (StretchAlike count cells f base first)
   stretch_all l k h = says_true (record { cell = λ z lz. h.cell z (omega arith) })
 
-  pub stretch_apart : {count i : ℕ} → i < count → (u (base + i) ≡ v (first + i) → ⊥) → Says false (Along count u v base first)
+  pub stretch_apart : {count i : ℕ} → i < count → (f (get_or cells (base + i) 0) ≡ f (get_or cells (first + i) 0) → ⊥) → Says false (StretchAlike count cells f base first)
   stretch_apart {i = i} l k = says_false (λ h. k (h.cell i l))
 
   -- the next `more` cells of a stretch are a stretch themselves
-  stretch_part : {more : ℕ} (i count : ℕ) → i + more ≤ count → Along count u v base first → Along more u v (base + i) (first + i)
+  stretch_part : {more : ℕ} (i count : ℕ) → i + more ≤ count → StretchAlike count cells f base first → StretchAlike more cells f (base + i) (first + i)
   stretch_part i count l h = record { cell = λ z lz. let p : (b : ℕ) → b + i + z ≡ b + (i + z) = λ b. omega arith in rw (p base, p first) (h.cell (i + z) (omega arith)) }
 
-  stretch_longer : {i more : ℕ} → Along i u v base first → Along more u v (base + i) (first + i) → Along (i + more) u v base first
+  stretch_longer : {i more : ℕ} → StretchAlike i cells f base first → StretchAlike more cells f (base + i) (first + i) → StretchAlike (i + more) cells f base first
   stretch_longer {i} {more} h k = record {
     cell = λ z lz.
         elim (dec_lt z i) [
@@ -214,14 +214,14 @@ module _ {u v : ℕ → ℕ} {base first : ℕ} where
         ];
   }
 
-  module _ (i : ℕ) {more : ℕ} {r : Bool} (s : Says r (Along more u v (base + i) (first + i))) where
-    pub turn_apart : {count : ℕ} → not r ≡ true → i + more ≤ count → Says false (Along count u v base first)
+  module _ (i : ℕ) {more : ℕ} {r : Bool} (s : Says r (StretchAlike more cells f (base + i) (first + i))) where
+    pub turn_apart : {count : ℕ} → not r ≡ true → i + more ≤ count → Says false (StretchAlike count cells f base first)
     turn_apart {count} e l = says_false (λ h. not_yes r e (s.no (stretch_part i count l h)))
 
-    pub turn_more : not r ≡ false → Along i u v base first → Along (i + more) u v base first
+    pub turn_more : not r ≡ false → StretchAlike i cells f base first → StretchAlike (i + more) cells f base first
     turn_more e h = stretch_longer h (s.yes (not_no r e))
 
-    pub turn_last : {count : ℕ} → i + more ≡ count → Along i u v base first → Says r (Along count u v base first)
+    pub turn_last : {count : ℕ} → i + more ≡ count → StretchAlike i cells f base first → Says r (StretchAlike count cells f base first)
     turn_last {count} e h = rw (← e) (record { yes = λ q. stretch_longer h (s.yes q); no = λ k. s.no (stretch_part i (i + more) (omega arith) k) })
 
 -- ---- parts of a table

@@ -1,7 +1,7 @@
 -- Inner vocabulary: no contract of a service and no theorem cites this file.
 -- The test whether a map is a congruence: a table has a part for each first argument; each part is compared with that of its element's name, cell by
 -- cell, and the parts of names are tables of the arity below.
-use Rattle.std.specs.Prelude.{ℕ, zero, suc, ◌+◌, ◌*◌, ◌^◌, ◌≤◌, ◌<◌, ◌≡◌, Bool, true, List, length, get_or}
+use Rattle.std.specs.Prelude.{ℕ, zero, suc, ◌+◌, ◌*◌, ◌^◌, ◌≤◌, ◌<◌, ◌≡◌, Bool, true, List, get_or}
 use Rattle.equivalence.specs.Equivalence.{byte}
 use Rattle.kernel.specs.InnerKernel.{Listed}
 use Rattle.refinement.specs.InnerSplitting.{Elements, MapLent}
@@ -26,34 +26,9 @@ pub record Stretches (size base first count : ℕ) : Type 0 where
   pub here : base + count ≤ size
   pub there : first + count ≤ size
 
--- u at each of `count` places from `base` on is v at the place as far from `first`
-pub record Along (count : ℕ) (u v : ℕ → ℕ) (base first : ℕ) : Type 0 where
-  pub cell : (i : ℕ) → i < count → u (base + i) ≡ v (first + i)
-
 -- f joins each of `count` cells from `base` on with the cell as far from `first`
-abbrev pub StretchAlike : ℕ → List ℕ → (ℕ → ℕ) → ℕ → ℕ → Type 0
-StretchAlike count cells f base first = Along count (λ k. f (get_or cells k 0)) (λ k. f (get_or cells k 0)) base first
-
--- the names in f of `count` cells from `base` on stand in `named` from `at` on
-abbrev pub NamesAt : ℕ → List ℕ → (ℕ → ℕ) → ℕ → List ℕ → ℕ → Type 0
-NamesAt count cells f base named at = Along count (λ k. f (get_or cells k 0)) (byte named) base at
-
--- they are written there, and the rest of `named` stays
-pub record RowWritten (count : ℕ) (cells : List ℕ) (f : ℕ → ℕ) (base at : ℕ) (named named' : List ℕ) : Type 0 where
-  pub names : NamesAt count cells f base named' at
-  pub before : (k : ℕ) → k < at → byte named' k ≡ byte named k
-  pub behind : (k : ℕ) → at + count ≤ k → byte named' k ≡ byte named k
-
--- of the rows of a plane, n cells each from `base` on: where a name is marked, the names of its row are kept, in rows of 64
-pub record RowsKept (n : ℕ) (cells : List ℕ) (f : ℕ → ℕ) (base : ℕ) (named marks : List ℕ) : Type 0 where
-  pub named_room : length named ≡ 4096
-  pub marks_room : length marks ≡ 64
-  pub row : (r : ℕ) → r < n → ¬ (byte marks r ≡ 0) → NamesAt n cells f (base + r * n) named (r * 64)
-
--- after which the row of x is kept too
-pub record RowKept (n : ℕ) (cells : List ℕ) (f : ℕ → ℕ) (base x : ℕ) (named marks : List ℕ) : Type 0 where
-  pub rows : RowsKept n cells f base named marks
-  pub here : ¬ (byte marks x ≡ 0)
+pub record StretchAlike (count : ℕ) (cells : List ℕ) (f : ℕ → ℕ) (base first : ℕ) : Type 0 where
+  pub cell : (i : ℕ) → i < count → f (get_or cells (base + i) 0) ≡ f (get_or cells (first + i) 0)
 
 -- so it does the part of each element with that of its name, `part` cells each, from `base` on
 pub record PartsAlike (n part : ℕ) (cells : List ℕ) (f : ℕ → ℕ) (base : ℕ) : Type 0 where

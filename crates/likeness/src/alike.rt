@@ -9,10 +9,8 @@ ghost use Rattle.translation.specs.InnerTranslations.{Compatible};
 ghost use Rattle.refinement.specs.InnerSplitting.{MapLent};
 ghost use Rattle.likeness.specs.InnerAlike.{Says, WalkLent, Stretches, StretchAlike, PartsAlike, TableAlike, NamesAlike};
 
-use crate::rows::rows_alike;
-
 // How many cells are compared in one turn: the compiler lays them out one behind the other.
-pub const TURN: usize = 8;
+const TURN: usize = 8;
 
 // Whether each of `count` cells from `base` on is in one block with the cell as far from `first`.
 fn few_alike(m: &[u8], n: usize, cells: &[u8], base: usize, first: usize, count: usize) -> bool
@@ -137,7 +135,7 @@ fn plane_alike(m: &[u8], n: usize, cells: &[u8], base: usize, others: &[u8], lef
     requires n_in_bounds { base + n * n ≤ length cells.now }
     ensures { Says result (TableAlike n cells.now (byte m.now) base 2) }
 {
-    if !rows_alike(m, n, cells, base, others, left) {
+    if !parts_alike(m, n, cells, base, n, others, left) {
         return false;
     }
     lines_alike(m, n, cells, base, others, left)

@@ -1,4 +1,6 @@
 // The test whether a map is a congruence: each cell is compared with the cell where one argument is replaced by its name, and the first that is in another block ends it.
+#![tactic(auto)]
+
 ghost use Rattle.std.specs.Prelude.{◌≡◌, ◌≤◌, T, length};
 ghost use Rattle.equivalence.specs.Equivalence.{byte, is_map};
 ghost use Rattle.algebra.specs.Accepted.{Accepted};
@@ -7,7 +9,6 @@ ghost use Rattle.algebra.specs.Congruence.{is_congruence};
 ghost use Rattle.likeness.specs.InnerAlike.{Others};
 
 mod alike;
-mod rows;
 
 // Lists the elements that are no smallest members. How many there are.
 fn list_others(n: usize, m: &[u8], others: &mut [u8]) -> usize

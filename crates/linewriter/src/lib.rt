@@ -1,4 +1,6 @@
 // Writing the lines of answers into a lent buffer, each from its start on.
+#![tactic(auto)]
+
 ghost use Rattle.std.specs.Prelude.{[], ◌∷◌, ◌++◌, map, ◌+◌, ◌*◌, ◌≤◌, ◌<◌, length};
 ghost use Rattle.equivalence.specs.Lists.{up_to};
 ghost use Rattle.equivalence.specs.Lent.{stretch};

@@ -1,4 +1,6 @@
 // Meets of the maps of a list. A list of maps is a slice, map i in the n bytes from i × n on; a map alone is the first n bytes of a slice.
+#![tactic(auto)]
+
 ghost use Rattle.std.specs.Prelude.{◌≡◌, ◌+◌, ◌*◌, ◌≤◌, length, drop};
 ghost use Rattle.equivalence.specs.Equivalence.{byte, is_identity, whole, meet};
 ghost use Rattle.kernel.specs.InnerKernel.{Canonical};

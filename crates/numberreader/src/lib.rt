@@ -1,4 +1,6 @@
 // Reading bracket text by places: bytes, words, gaps and numbers. Past the end of a text every byte counts as 0, which no form has.
+#![tactic(auto)]
+
 ghost use Rattle.std.specs.Prelude.{◌≡◌, ◌+◌, ◌≤◌, length};
 ghost use Rattle.numberreader.specs.Reading.{byte_at, begins};
 ghost use Rattle.numberreader.specs.Numbers.{number};
@@ -8,7 +10,7 @@ ghost use Rattle.numberreader.specs.InnerPromises.{is_digit, GapRead, NumberRead
 const MAX_NUMBER: u16 = 255;
 
 // A number that was read, and the place after it; where `ok` is false, nothing.
-#[derive(Drop)]
+#[derive(Clone, Copy)]
 pub struct Number {
     pub ok: bool,
     pub value: u8,

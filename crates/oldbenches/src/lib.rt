@@ -1,5 +1,7 @@
 // Benches of older kinds, which no call takes but the conversion into the next kind; an older bench goes through the conversions in turn. Here are those into the second
 // and the third kind; `conversion` has the one into today's.
+#![tactic(auto)]
+
 ghost use Rattle.std.specs.Prelude.{◌≡◌, map, ◌≤◌, take};
 ghost use Rattle.equivalence.specs.Equivalence.{is_map};
 ghost use Rattle.equivalence.specs.Lists.{every};
@@ -11,13 +13,13 @@ use equivalence::{Check, Refusal};
 use sheet::{MAP_BYTES, NAME_BYTES, PLACES, Point};
 
 // A sheet of the first two kinds: a map alone.
-#[derive(Drop)]
+#[derive(Clone, Copy)]
 pub struct SheetV1 {
     pub map: [u8; MAP_BYTES],
 }
 
 // The first kind: its tally has 32 bits.
-#[derive(Drop)]
+#[derive(Clone, Copy)]
 pub struct BenchV1 {
     pub n: usize,
     pub tally: u32,
@@ -25,7 +27,7 @@ pub struct BenchV1 {
 }
 
 // The second kind: its sheets have no points.
-#[derive(Drop)]
+#[derive(Clone, Copy)]
 pub struct BenchV2 {
     pub n: usize,
     pub tally: u64,
@@ -33,14 +35,14 @@ pub struct BenchV2 {
 }
 
 // What the conversion into the second kind gives.
-#[derive(Drop)]
+#[derive(Clone, Copy)]
 pub struct BenchedV2 {
     pub answer: Answer,
     pub bench: BenchV2,
 }
 
 // A sheet of the third kind: a map and points.
-#[derive(Drop)]
+#[derive(Clone, Copy)]
 pub struct SheetV3 {
     pub map: [u8; MAP_BYTES],
     pub count: usize,
@@ -48,7 +50,7 @@ pub struct SheetV3 {
 }
 
 // The third kind: one tally for all its sheets.
-#[derive(Drop)]
+#[derive(Clone, Copy)]
 pub struct BenchV3 {
     pub n: usize,
     pub tally: u64,
@@ -56,7 +58,7 @@ pub struct BenchV3 {
 }
 
 // What the conversion into the third kind gives.
-#[derive(Drop)]
+#[derive(Clone, Copy)]
 pub struct BenchedV3 {
     pub answer: Answer,
     pub bench: BenchV3,

@@ -1,4 +1,6 @@
 // The number of each case of an answer: reason + 256 × count + 65,536 × first element + 16,777,216 × second element.
+#![tactic(auto)]
+
 ghost use Rattle.std.specs.Prelude.{◌≡◌};
 ghost use Rattle.pairorder.specs.Order.{place_of};
 ghost use Rattle.equivalence.specs.Outcome.{packed, success, refusal, written_outcome};

@@ -1,4 +1,6 @@
 // The order of pairs and of maps: Prefer, and the place of a pair; what other crates use of the order is in `order`.
+#![tactic(auto)]
+
 ghost use Rattle.std.specs.Prelude.{◌≡◌};
 ghost use Rattle.pairorder.specs.Calls.{Preferred};
 ghost use Rattle.pairorder.specs.Order.{place_of};
@@ -8,7 +10,7 @@ use equivalence::{Check, checks};
 pub mod order;
 
 // Where a pair stands in the order of pairs.
-#[derive(Drop)]
+#[derive(Clone, Copy)]
 pub enum Place {
     At(usize),
     Nowhere,

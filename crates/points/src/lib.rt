@@ -1,4 +1,6 @@
 // The points of a sheet change: one is stored, gone back to, or forgotten.
+#![tactic(auto)]
+
 ghost use Rattle.std.specs.Prelude.{◌≡◌, suc, ◌<◌, ◌≤◌, T, take};
 ghost use Rattle.equivalence.specs.Lent.{written};
 ghost use Rattle.sheet.specs.Sheet.{sheet_with};

@@ -1,4 +1,6 @@
 // What the programs of cases share: the parts of a line that shows a call. Each function says how many of the bytes that it was given were printed.
+#![tactic(auto)]
+
 ghost use Rattle.std.specs.Prelude.{◌+◌, ◌≤◌, length};
 
 // The bytes on standard output, each after a space, until a write fails.

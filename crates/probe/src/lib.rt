@@ -1,4 +1,6 @@
 // Services that have no C function, made callable for the comparisons in tests/ (tests/PROBE.md). Only the tests link this library.
+#![tactic(auto)]
+
 ghost use Rattle.std.specs.Prelude.{◌≡◌};
 ghost use Rattle.lattice.specs.Calls.{meet_call, join_call};
 ghost use Rattle.pairorder.specs.Order.{place_of};

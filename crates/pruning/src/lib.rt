@@ -1,5 +1,7 @@
 // Decompose's second loop: of a list of maps that meets in the identity, those without which the rest would not. Here they are only marked;
 // `write` writes them.
+#![tactic(auto)]
+
 ghost use Rattle.std.specs.Prelude.{◌≡◌, ◌+◌, ◌*◌, ◌≤◌, length};
 ghost use Rattle.equivalence.specs.Equivalence.{byte};
 ghost use Rattle.kernel.specs.InnerKernel.{Canonical};

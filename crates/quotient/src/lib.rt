@@ -1,4 +1,6 @@
 // The quotient of an algebra by a map: the numbers of the blocks, and the tables over blocks.
+#![tactic(auto)]
+
 ghost use Rattle.std.specs.Prelude.{◌≡◌, ◌≤◌, T, length};
 ghost use Rattle.equivalence.specs.Equivalence.{is_map, blocks};
 ghost use Rattle.equivalence.specs.Lent.{written};
@@ -12,7 +14,7 @@ pub mod numbers;
 pub mod tables;
 
 // A block number of a quotient. Blocks are numbered from 0 by smallest member.
-#[derive(Drop)]
+#[derive(Clone, Copy)]
 pub struct Block(pub u8);
 
 // Numbers the blocks, then writes each table read at smallest members.

@@ -19,8 +19,8 @@ pub fn block_of(numbers: &[u8], e: Element) -> Block
 // Gives the number of blocks, the number of each element's block, and each block's smallest member.
 pub fn number_blocks(n: usize, map: &[u8], numbers: &mut [u8], names: &mut [u8]) -> usize
     requires n_bound { n ≤ 64 }
-    requires* n_bound_2 { do ⌜ n ≤ (← ⟦numbers.len()⟧) ⌝ }
-    requires* n_bound_3 { do ⌜ n ≤ (← ⟦names.len()⟧) ⌝ }
+    requires numbers_room { n ≤ length numbers.old }
+    requires names_room { n ≤ length names.old }
     requires t { T (is_map n map.now) }
     ensures { Numbered n map.now numbers.new names.new result }
 {

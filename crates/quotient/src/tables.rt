@@ -12,7 +12,7 @@ use equivalence::Element;
 fn divide_cell(cells: &[u8], from: usize, numbers: &[u8], out: &mut [u8], to: usize)
     requires from_in_bounds { from < length cells.now }
     requires from_in_bounds_2 { byte cells.now from < length numbers.now }
-    requires* to_bound { do ⌜ to < (← ⟦out.len()⟧) ⌝ }
+    requires out_room { to < length out.old }
     ensures { out.new ≡ laid out.old to (cell_divided cells.now numbers.now from) }
 {
     let e = Element(cells[from]);

@@ -1,6 +1,6 @@
 -- What inner readers of lines promise: what they came to, where they stand, and what they laid in the lent bytes.
 use Rattle.std.specs.Prelude.{ℕ, ◌+◌, ◌-◌, ◌^◌, ◌≤◌, Bool, true, false, List, [], ◌∷◌, ◌++◌, ◌≡◌, length, take}
-use Rattle.std.specs.Borrow.{Bor}
+use Rattle.std.specs.Borrow.{Bor, MutBor}
 use Rattle.numberreader.specs.Reading.{Read, Reader}
 use Rattle.numberreader.specs.InnerPromises.{read_of, Reached}
 use Rattle.tablereader.specs.InnerPromises.{RoomFor}
@@ -63,7 +63,7 @@ pub record Requested (text : List ℕ) (at : ℕ) (lent : List ℕ) (put : ℕ) 
   pub reached : Reached text at r.next
 
 -- the same of a reader over lent slices: the text, and the storage before and after
-abbrev pub RequestedBy : Reader Request → Bor (List ℕ) → ℕ → Bor (List ℕ) → ℕ → Bor (List ℕ) → RequestLine → Type 0
+abbrev pub RequestedBy : Reader Request → Bor (List ℕ) → ℕ → MutBor (List ℕ) → ℕ → MutBor (List ℕ) → RequestLine → Type 0
 RequestedBy read text at lent put after r = Requested text.now at lent.now put (read text.now at) after.now r
 
 -- the same of a request that stores nothing

@@ -13,7 +13,7 @@ use numberreader::{Number, begins_with, gap_end, read_number};
 use tablereader::read_table;
 
 // What an operation line came to: its arity, the place after it, and how many cells there are with its own; or a refusal.
-#[derive(Drop)]
+#[derive(Clone, Copy)]
 pub struct OperationLine {
     pub check: equivalence::Check,
     pub arity: u8,

@@ -10,7 +10,7 @@ use numberreader::begins_with;
 use tablereader::{Spot, read_items};
 
 // What a request asks: Generate, Contained or Quotient with the numbers that were stored, Separate with two elements, Decompose.
-#[derive(Drop)]
+#[derive(Clone, Copy)]
 pub enum Asked {
     Generate,
     Contained,
@@ -20,7 +20,7 @@ pub enum Asked {
 }
 
 // What is asked, the place after it in the text, and the place after its numbers in the storage; where `ok` is false, the line is faulty and nothing is asked.
-#[derive(Drop)]
+#[derive(Clone, Copy)]
 pub struct RequestLine {
     pub ok: bool,
     pub asked: Asked,

@@ -7,7 +7,7 @@ use crate::lines::{read_operation, read_size};
 
 // An algebra as far as its lines are read: where the next line begins, its size, and how many operations and cells it has. The arities of its operations, and
 // the cells of their tables, stand first in two slices that the caller lends to every line.
-#[derive(Drop)]
+#[derive(Clone, Copy)]
 pub struct AlgebraSoFar {
     pub at: usize,
     pub size: u8,
@@ -16,7 +16,7 @@ pub struct AlgebraSoFar {
 }
 
 // What a line came to: the algebra with what it says, or a refusal, and the algebra before it.
-#[derive(Drop)]
+#[derive(Clone, Copy)]
 pub struct LineTaken {
     pub check: equivalence::Check,
     pub algebra: AlgebraSoFar,

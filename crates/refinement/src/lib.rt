@@ -1,4 +1,6 @@
 // The greatest congruence inside a map: a map is split along translations.
+#![tactic(auto)]
+
 ghost use Rattle.std.specs.Prelude.{◌≤◌, length};
 ghost use Rattle.equivalence.specs.Equivalence.{byte};
 ghost use Rattle.kernel.specs.InnerKernel.{Canonical, KeptPast};

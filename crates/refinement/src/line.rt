@@ -10,14 +10,14 @@ use equivalence::checks::MAX_SIZE;
 use lattice::meets::{NAME_PAIRS, NONE};
 
 // Where a line begins, and how far its cells are apart.
-#[derive(Drop)]
+#[derive(Clone, Copy)]
 pub struct Line {
     pub base: usize,
     pub stride: usize,
 }
 
 // What stays in a round of the walk: how many elements there are and how many of them are in use, and whether it is a later round than the first.
-#[derive(Drop)]
+#[derive(Clone, Copy)]
 pub struct Round {
     pub n: usize,
     pub used: usize,

@@ -9,7 +9,7 @@ ghost use Rattle.refinement.specs.InnerSplitting.{Elements, CellsLent, RowsLent,
 use super::line::{Line, Round, sift, split_at, split_line};
 
 // Where the lines of a plane begin, and how far these and the cells of each are apart.
-#[derive(Drop)]
+#[derive(Clone, Copy)]
 pub struct Plane {
     pub base: usize,
     pub row: usize,
@@ -17,7 +17,7 @@ pub struct Plane {
 }
 
 // Where the row of an element begins, and that of the smallest member of its block.
-#[derive(Drop)]
+#[derive(Clone, Copy)]
 struct Rows {
     here: usize,
     there: usize,

@@ -12,7 +12,7 @@ use super::plane::{Plane, split_lines, split_rows};
 
 // Where the planes of a solid begin, and how far these, the lines of each and the cells of each are apart; and which of the arguments that
 // stay are before the varied one: that of the planes, that of the lines.
-#[derive(Drop)]
+#[derive(Clone, Copy)]
 struct Solid {
     base: usize,
     layer: usize,

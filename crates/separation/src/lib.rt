@@ -1,4 +1,6 @@
 // Separate: the earliest congruence of an accepted algebra that holds two elements apart.
+#![tactic(auto)]
+
 ghost use Rattle.std.specs.Prelude.{◌≡◌, ◌<◌, ◌≤◌, length};
 ghost use Rattle.equivalence.specs.Equivalence.{byte};
 ghost use Rattle.kernel.specs.InnerKernel.{KeptPast};

@@ -1,5 +1,7 @@
 // A sheet of the bench: a map, a tally of the blocks that it lost, and up to eight points to go back to, each a map under a name. A sheet is a value. Any sheet is legal, also one that no
 // call gave: its count may be too large, and what stands in its places may be no map.
+#![tactic(auto)]
+
 ghost use Rattle.std.specs.Prelude.{◌≡◌, ◌≤◌, take};
 ghost use Rattle.equivalence.specs.Equivalence.{is_map, identity};
 ghost use Rattle.equivalence.specs.Lent.{written};
@@ -19,14 +21,14 @@ pub const NAME_BYTES: usize = 8;
 pub const PLACES: usize = 8;
 
 // A map that was on the sheet, under a name. Bytes of the map past n are never read.
-#[derive(Drop)]
+#[derive(Clone, Copy)]
 pub struct Point {
     pub name: [u8; NAME_BYTES],
     pub map: [u8; MAP_BYTES],
 }
 
 // A map in the first n bytes, and points in the first `count` places. Bytes past n and the other places are never read.
-#[derive(Drop)]
+#[derive(Clone, Copy)]
 pub struct Sheet {
     pub map: [u8; MAP_BYTES],
     pub tally: u64,

@@ -1,4 +1,6 @@
 // Sheets changed where the tests passed: by a point, and by a pair.
+#![tactic(auto)]
+
 ghost use Rattle.std.specs.Prelude.{◌≡◌, ◌<◌, take, T};
 ghost use Rattle.equivalence.specs.Equivalence.{is_map};
 ghost use Rattle.equivalence.specs.Refusal.{lowest};
@@ -45,7 +47,7 @@ pub fn without_point(bench: Bench, k: usize, name: [u8; NAME_BYTES]) -> Bench
 }
 
 // A sheet with a larger map, and how many blocks fewer it has.
-#[derive(Drop)]
+#[derive(Clone, Copy)]
 pub struct Grown {
     pub sheet: Sheet,
     pub lost: usize,

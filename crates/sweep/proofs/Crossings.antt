@@ -16,9 +16,9 @@ use Rattle.sweep.specs.declared.Stop.{Stop}
 use Rattle.sweep.specs.declared.LinePair.{LinePair}
 use Rattle.sweep.specs.InnerContexts.{JoinsAt, JoinsLine, JoinsBoth, JoinsCross, Contexts, LinesInside, Passed, PassedBoth}
 use Rattle.sweep.specs.InnerQueue.{QueueState}
-use Rattle.sweep.specs.InnerSweeps.{Yes, Halts, Sweeping, SweptTo, Swept, LookedAt}
+use Rattle.sweep.specs.InnerSweeps.{Yes, Halts, Sweeping, SweptTo, Swept}
 use Rattle.sweep.proofs.Queues.{grown_first}
-use Rattle.sweep.proofs.Sweeps.{yes_not, swept_none, swept_more, swept_halted, swept_as, each_more}
+use Rattle.sweep.proofs.Sweeps.{swept_none, swept_more, swept_halted, swept_as, each_more}
 
 -- ---- lines
 
@@ -95,16 +95,6 @@ joins_step {t = t} p q d = record {
   done = λ u. record { joined = ap t.map (sym p) ∙ d.done u ∙ ap t.map q };
 }
 
--- a look where they are joined already
-pub looked_joined : {n : ℕ} {refused : List ℕ} {stop : Stop} {cells : List ℕ} {lines : LinePair} {c : ℕ} {s : QueueState} {b : Bool} → Sweeping n stop s → Yes b (JoinsAt cells lines c s.map) → b ≡ true
-    → LookedAt n refused stop (JoinsAt cells lines c) s s false
-looked_joined k e y = record { swept = swept_none k (e.says y); ends = yes_not }
-
--- a look with a step
-pub looked_step : {n : ℕ} {refused : List ℕ} {stop : Stop} {Good : (ℕ → ℕ) → Type 0} {s t : QueueState} {over : Bool} → Swept n refused stop Good s t → Yes over (Halts stop t.size t.map)
-    → LookedAt n refused stop Good s t over
-looked_step d e = record { swept = d; ends = e }
-
 -- a line up to an index, and from there to another
 line_passed : {cells live : List ℕ} {count : ℕ} {lines : LinePair} {i r : ℕ} {f : ℕ → ℕ} → JoinsLine cells live i lines f → Passed cells live count lines i r f → JoinsLine cells live r lines f
 line_passed {i = i} o s = record { each = λ k l. elim (dec_lt k i) [ yes h ↦ o.each k h | no h ↦ s.joined k (omega arith) l ] }
@@ -176,19 +166,15 @@ module _ {n : ℕ} {cells live : List ℕ} {count : ℕ} (x : Contexts n cells l
   pub cross_whole : {f : ℕ → ℕ} → ((c : ℕ) → c < n → f c ≡ 0) → JoinsCross cells live count last first f
   cross_whole e = record { last_line = line_whole x h e; first_line = line_whole x k e }
 
-  module _ {refused : List ℕ} {stop : Stop} {i : ℕ} (l : i < count) {s t : QueueState} {r : Bool} (a : LookedAt n refused stop (JoinsAt cells last (byte live i)) s t r) where
+  module _ {refused : List ℕ} {stop : Stop} {i : ℕ} (l : i < count) {s t : QueueState} (a : Swept n refused stop (JoinsAt cells last (byte live i)) s t) where
     half : SweptTo n refused stop (JoinsBoth cells last first (byte live i)) (JoinsAt cells last (byte live i)) s t
-    half = record { sweeping = a.swept.sweeping; grown = grown_first (λ g good w. (good.0.last_at, good.1)) a.swept.grown; done = a.swept.done }
+    half = record { sweeping = a.sweeping; grown = grown_first (λ g good w. (good.0.last_at, good.1)) a.grown; done = a.done }
 
-    -- the first look ends the pass
-    pub both_halted : r ≡ true → LookedAt n refused stop (JoinsBoth cells last first (byte live i)) s t r
-    both_halted says = record { swept = swept_halted half a.ends says (λ z. record { last_at = at_whole h l z; first_at = at_whole k l z }); ends = a.ends }
+    pub both_halted : {r : Bool} → Yes r (Halts stop t.size t.map) → r ≡ true → Swept n refused stop (JoinsBoth cells last first (byte live i)) s t
+    both_halted y says = swept_halted half y says (λ z. record { last_at = at_whole h l z; first_at = at_whole k l z })
 
-    pub both_looked : {u : QueueState} {q : Bool} → LookedAt n refused stop (JoinsAt cells first (byte live i)) t u q → LookedAt n refused stop (JoinsBoth cells last first (byte live i)) s u q
-    both_looked b = record {
-      swept = swept_more half b.swept (λ g good w. good.first_at) (λ w o e. record { last_at = at_kept h l w o; first_at = e });
-      ends = b.ends;
-    }
+    pub both_swept : {u : QueueState} → Swept n refused stop (JoinsAt cells first (byte live i)) t u → Swept n refused stop (JoinsBoth cells last first (byte live i)) s u
+    both_swept b = swept_more half b (λ g good w. good.first_at) (λ w o e. record { last_at = at_kept h l w o; first_at = e })
 
   module _ {refused : List ℕ} {stop : Stop} where
     -- they are joined up to r, and a step joins them there

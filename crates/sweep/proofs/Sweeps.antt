@@ -14,7 +14,7 @@ use Rattle.kernel.specs.InnerKernel.{Canonical, Within, bit, names}
 use Rattle.kernel.proofs.Kernels.{names_positive}
 use Rattle.sweep.specs.declared.Stop.{Stop}
 use Rattle.sweep.specs.InnerQueue.{QueueState, Grown}
-use Rattle.sweep.specs.InnerSweeps.{TwoJoined, Yes, Halts, RefusedRightly, NamesRefused, Sweeping, SweptTo, Swept}
+use Rattle.sweep.specs.InnerSweeps.{chosen_of, TwoJoined, Yes, Halts, RefusedRightly, NamesRefused, Sweeping, SweptTo, Swept}
 use Rattle.sweep.proofs.Queues.{grown_none, grown_more, grown_first}
 
 -- ---- one block
@@ -114,7 +114,7 @@ refused_joins {n} {v} {w} {a} {b} {table} {f} {g} c la lb x h d e =
 
 module _ {n a b : ℕ} {refused : List ℕ} {stop : Stop} {s t : QueueState} (k : Sweeping n stop s) (la : a < n) (lb : b < n) where
   -- a step that joined v and w instead of a refused pair
-  pub swept_refused : {r : Bool} → Yes r (NamesRefused refused stop.v stop.w a b s.map) → r ≡ true → Grown n (λ g. g stop.v ≡ g stop.w) s t → t.map stop.v ≡ t.map stop.w
+  swept_refused : {r : Bool} → Yes r (NamesRefused refused stop.v stop.w a b s.map) → r ≡ true → Grown n (λ g. g stop.v ≡ g stop.w) s t → t.map stop.v ≡ t.map stop.w
       → Swept n refused stop (λ g. g a ≡ g b) s t
   swept_refused x y d e = record {
     sweeping = sweeping_grown k d;
@@ -123,5 +123,19 @@ module _ {n a b : ℕ} {refused : List ℕ} {stop : Stop} {s t : QueueState} (k 
   }
 
   -- a step that joined the pair
-  pub swept_joined : Grown n (λ g. g a ≡ g b) s t → t.map a ≡ t.map b → Swept n refused stop (λ g. g a ≡ g b) s t
+  swept_joined : Grown n (λ g. g a ≡ g b) s t → t.map a ≡ t.map b → Swept n refused stop (λ g. g a ≡ g b) s t
   swept_joined d e = record { sweeping = sweeping_grown k d; grown = grown_first (λ g good w. good.0) d; done = λ u. e }
+
+  swept_chosen : (r : Bool) → Yes r (NamesRefused refused stop.v stop.w a b s.map) → Grown n (λ g. g (chosen_of r stop.v a) ≡ g (chosen_of r stop.w b)) s t
+      → t.map (chosen_of r stop.v a) ≡ t.map (chosen_of r stop.w b) → Swept n refused stop (λ g. g a ≡ g b) s t
+  swept_chosen true x d e = swept_refused x refl d e
+  swept_chosen false x d e = swept_joined d e
+
+  -- a step with the pair that was chosen
+  pub swept_step : {r : Bool} {p q : ℕ} → Yes r (NamesRefused refused stop.v stop.w a b s.map) → p ≡ chosen_of r stop.v a → q ≡ chosen_of r stop.w b
+      → Grown n (λ g. g p ≡ g q) s t → t.map p ≡ t.map q → Swept n refused stop (λ g. g a ≡ g b) s t
+  swept_step {r} x e f d j = swept_chosen r x (subst₂ (λ (p q : ℕ). Grown n (λ g. g p ≡ g q) s t) e f d) (ap t.map (sym e) ∙ j ∙ ap t.map f)
+
+pub chosen_below : {n p x y : ℕ} (r : Bool) → x < n → y < n → p ≡ chosen_of r x y → p < n
+chosen_below true l k e = omega arith
+chosen_below false l k e = omega arith

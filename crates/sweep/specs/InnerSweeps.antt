@@ -22,6 +22,11 @@ Halts stop len f = (stop.limit ≤ len) ⊎ TwoJoined stop.v stop.w f
 pub record Yes (r : Bool) (P : Type 0) : Type 0 where
   pub says : r ≡ true → P
 
+-- `other` where a test says yes, else `own`
+abbrev pub chosen_of : Bool → ℕ → ℕ → ℕ
+chosen_of true other own = other
+chosen_of false other own = own
+
 -- a table of refused pairs, with rows of 64, has the pair p, q
 abbrev pub PairRefused : List ℕ → ℕ → ℕ → Type 0
 PairRefused table p q = byte table (p * 64 + q) ≡ 0 → ⊥
@@ -52,8 +57,3 @@ pub record SweptTo (n : ℕ) (refused : List ℕ) (stop : Stop) (Good Done : (�
 -- what a pass leaves: t's map is Good itself, unless it joins v and w
 abbrev pub Swept : ℕ → List ℕ → Stop → ((ℕ → ℕ) → Type 0) → QueueState → QueueState → Type 0
 Swept n refused stop Good s t = SweptTo n refused stop Good Good s t
-
--- what a look at lines leaves: as a pass does, and where it says that the pass is over, nothing more is to be done
-pub record LookedAt (n : ℕ) (refused : List ℕ) (stop : Stop) (Good : (ℕ → ℕ) → Type 0) (s t : QueueState) (over : Bool) : Type 0 where
-  pub swept : Swept n refused stop Good s t
-  pub ends : Yes over (Halts stop t.size t.map)

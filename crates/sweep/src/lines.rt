@@ -4,10 +4,10 @@ ghost use Rattle.equivalence.specs.Equivalence.{byte};
 ghost use Rattle.translation.specs.InnerLines.{line_at};
 ghost use Rattle.sweep.specs.InnerQueue.{state};
 ghost use Rattle.sweep.specs.InnerContexts.{JoinsAt, JoinsLine, JoinsBoth, JoinsCross, Contexts, LinesInside, Passed, PassedBoth};
-ghost use Rattle.sweep.specs.InnerSweeps.{Yes, Sweeping, Swept, LookedAt};
+ghost use Rattle.sweep.specs.InnerSweeps.{Yes, Sweeping, Swept};
 
 use crate::step::{halted, step};
-use crate::{LinePair, Looked, Stop};
+use crate::{LinePair, Stop};
 
 // The cell at c of a line.
 fn cell(cells: &[u8], base: usize, stride: usize, c: u8) -> u8
@@ -179,38 +179,8 @@ fn apart_on_one(
     count
 }
 
-// Joins the cells of two lines at element number i where they are apart: only then the pass may be over.
-fn look_at(
-    m: &mut [u8],
-    n: usize,
-    queue: &mut [u8],
-    len: usize,
-    cells: &[u8],
-    live: &[u8],
-    count: usize,
-    lines: LinePair,
-    i: usize,
-    refused: &[u8],
-    stop: Stop,
-) -> Looked
-    requires sweeping { Sweeping n stop (state m.old queue.old len) }
-    requires contexts { Contexts n cells.now live.now count }
-    requires lines_inside { LinesInside n cells.now lines }
-    requires i_lt_count { i < count }
-    ensures { LookedAt n refused.now stop (JoinsAt cells.now lines (byte live.now i)) (state m.old queue.old len) (state m.new queue.new result.len) result.over }
-{
-    if joins_at(m, n, cells, live, count, lines, i) {
-        return Looked { len, over: false };
-    }
-    let longer = step_at(
-        m, n, queue, len, cells, live, count, lines, i, refused, stop,
-    );
-    let over = halted(m, longer, stop);
-    Looked { len: longer, over }
-}
-
-// The same on both pairs of lines, unless the first look ends the pass.
-fn look_at_both(
+// Joins the cells of both pairs of lines at element number i.
+fn step_both(
     m: &mut [u8],
     n: usize,
     queue: &mut [u8],
@@ -223,22 +193,22 @@ fn look_at_both(
     i: usize,
     refused: &[u8],
     stop: Stop,
-) -> Looked
+) -> usize
     requires sweeping { Sweeping n stop (state m.old queue.old start) }
     requires contexts { Contexts n cells.now live.now count }
     requires lines_inside { LinesInside n cells.now last }
     requires lines_inside_2 { LinesInside n cells.now first }
     requires i_lt_count { i < count }
-    ensures { LookedAt n refused.now stop (JoinsBoth cells.now last first (byte live.now i)) (state m.old queue.old start) (state m.new queue.new result.len) result.over }
+    ensures { Swept n refused.now stop (JoinsBoth cells.now last first (byte live.now i)) (state m.old queue.old start) (state m.new queue.new result) }
 {
-    let one = look_at(
+    let len = step_at(
         m, n, queue, start, cells, live, count, last, i, refused, stop,
     );
-    if one.over {
-        return one;
+    if halted(m, len, stop) {
+        return len;
     }
-    look_at(
-        m, n, queue, one.len, cells, live, count, first, i, refused, stop,
+    step_at(
+        m, n, queue, len, cells, live, count, first, i, refused, stop,
     )
 }
 
@@ -269,11 +239,10 @@ pub fn cross(
         if j >= count {
             return len;
         }
-        let looked = look_at_both(
+        len = step_both(
             m, n, queue, len, cells, live, count, last, first, j, refused, stop,
         );
-        len = looked.len;
-        if looked.over {
+        if halted(m, len, stop) {
             return len;
         }
         i = j + 1;

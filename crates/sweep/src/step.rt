@@ -3,7 +3,7 @@
 ghost use Rattle.std.specs.Prelude.{◌≡◌, ◌⊎◌, ◌+◌, ◌*◌, ◌<◌, length};
 ghost use Rattle.equivalence.specs.Equivalence.{byte};
 ghost use Rattle.sweep.specs.InnerQueue.{state};
-ghost use Rattle.sweep.specs.InnerSweeps.{Yes, Halts, NamesRefused, Sweeping, Swept};
+ghost use Rattle.sweep.specs.InnerSweeps.{chosen_of, Yes, Halts, NamesRefused, Sweeping, Swept};
 
 use crate::Stop;
 use crate::queue::merge_queued;
@@ -51,8 +51,15 @@ fn is_refused(m: &[u8], a: u8, b: u8, refused: &[u8], stop: Stop) -> bool
     refused[place] != 0
 }
 
-// Joins a and b, or where the pair is refused, v and w alone. How many elements are queued then. A refused pair ends the pass, so that it is foreseen to be none, and
-// the merge does not wait for the test.
+// `other` where a test says yes, else `own`.
+fn chosen(test: bool, other: u8, own: u8) -> u8
+    ensures { result ≡ chosen_of test other own }
+{
+    if test { other } else { own }
+}
+
+// Joins a and b, or where the pair is refused, v and w alone. How many elements are queued then. There is one merge, of a pair that is chosen without a branch: the
+// code stays small enough to stand within the loops over lines.
 pub fn step(
     m: &mut [u8],
     n: usize,
@@ -68,11 +75,8 @@ pub fn step(
     requires b_lt_n { b < n }
     ensures { Swept n refused.now stop (λ g. g a ≡ g b) (state m.old queue.old len) (state m.new queue.new result) }
 {
-    if m[a as usize] == m[b as usize] {
-        return len;
-    }
-    if is_refused(m, a, b, refused, stop) {
-        return merge_queued(m, n, queue, len, stop.v as u8, stop.w as u8);
-    }
-    merge_queued(m, n, queue, len, a, b)
+    let over = is_refused(m, a, b, refused, stop);
+    let p = chosen(over, stop.v as u8, a);
+    let q = chosen(over, stop.w as u8, b);
+    merge_queued(m, n, queue, len, p, q)
 }

@@ -1,6 +1,6 @@
 -- What inner readers of tables want and promise: room in the storage, and what they laid in it.
 use Rattle.std.specs.Prelude.{ℕ, ◌+◌, ◌≤◌, List, ◌≡◌, length}
-use Rattle.std.specs.Borrow.{Bor}
+use Rattle.std.specs.Borrow.{Bor, MutBor}
 use Rattle.numberreader.specs.Reading.{Read, Reader}
 use Rattle.numberreader.specs.InnerPromises.{read_of, Reached}
 use Rattle.tablereader.specs.Laying.{Laid}
@@ -25,5 +25,5 @@ pub record Stored (text : List ℕ) (at : ℕ) (lent : List ℕ) (put : ℕ) (d 
   pub paced : r.put + at ≤ put + r.at
 
 -- the same of a reader over lent slices: the text, and the storage before and after
-abbrev pub StoredBy : Reader (List ℕ) → Bor (List ℕ) → ℕ → Bor (List ℕ) → ℕ → Bor (List ℕ) → Spot → Type 0
+abbrev pub StoredBy : Reader (List ℕ) → Bor (List ℕ) → ℕ → MutBor (List ℕ) → ℕ → MutBor (List ℕ) → Spot → Type 0
 StoredBy read text at lent put after r = Stored text.now at lent.now put (read text.now at) after.now r

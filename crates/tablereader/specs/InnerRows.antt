@@ -1,6 +1,6 @@
 -- Inner vocabulary of rows of numbers: how far one is read, and what is read of it two numbers at a time.
 use Rattle.std.specs.Prelude.{ℕ, ◌+◌, ◌-◌, ◌*◌, ◌≤◌, ◌<◌, Bool, true, false, List, ◌++◌, ◌≡◌, length}
-use Rattle.std.specs.Borrow.{Bor}
+use Rattle.std.specs.Borrow.{Bor, MutBor}
 use Rattle.kernel.specs.InnerKernel.{bit}
 use Rattle.numberreader.specs.Reading.{found, Reader, byte_at, onward}
 use Rattle.numberreader.specs.Numbers.{number}
@@ -27,7 +27,7 @@ pub record RowBegun (n : ℕ) (text : List ℕ) (at : ℕ) (lent : List ℕ) (pu
   pub room : RoomFor more text next after so_far
 
 -- the same of a reader over lent slices: the text, and the storage before and after
-abbrev pub RowBegunBy : ℕ → Bor (List ℕ) → ℕ → Bor (List ℕ) → ℕ → Bor (List ℕ) → RowSoFar → Type 0
+abbrev pub RowBegunBy : ℕ → Bor (List ℕ) → ℕ → MutBor (List ℕ) → ℕ → MutBor (List ℕ) → RowSoFar → Type 0
 RowBegunBy n text at lent put after r = RowBegun n text.now at lent.now put after.now r.more r.at r.put
 
 -- a byte is a digit

@@ -1,4 +1,6 @@
 // Reading tables of bracket text into lent storage: cells, rows, tables and lists of tables.
+#![tactic(auto)]
+
 ghost use Rattle.std.specs.Prelude.{◌-◌, ◌*◌, ◌^◌, ◌<◌};
 ghost use Rattle.tablereader.specs.Tables.{cell, table, parted, items};
 ghost use Rattle.tablereader.specs.InnerPromises.{RoomFor, RoomForText, StoredBy};
@@ -10,7 +12,7 @@ mod rows;
 mod short_rows;
 
 // Where a reader that stores what it reads stands: whether all was well, the next place in the text, and the next in the storage.
-#[derive(Drop)]
+#[derive(Clone, Copy)]
 pub struct Spot {
     pub ok: bool,
     pub at: usize,

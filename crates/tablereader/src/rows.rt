@@ -9,7 +9,7 @@ use crate::{Spot, read_cell};
 use numberreader::{gap_end, is_digit};
 
 // How far a row is read: how many numbers are left, and their places in the text and in the storage.
-#[derive(Drop)]
+#[derive(Clone, Copy)]
 pub struct RowSoFar {
     pub more: u8,
     pub at: usize,
@@ -17,7 +17,7 @@ pub struct RowSoFar {
 }
 
 // Two numbers, each with a gap behind it, and the place after them; where `ok` is false, nothing.
-#[derive(Drop)]
+#[derive(Clone, Copy)]
 pub struct Pair {
     pub ok: bool,
     pub first: u8,

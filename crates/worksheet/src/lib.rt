@@ -1,5 +1,7 @@
 // Four services for a caller in C, over numbers and byte slices. Each call answers one 32-bit number:
 // reason + 256 × count + 65,536 × first element + 16,777,216 × second element, with 0 for what an answer lacks.
+#![tactic(auto)]
+
 ghost use Rattle.std.specs.Prelude.{◌≡◌};
 ghost use Rattle.algebra.specs.Algebra.{algebra_in};
 ghost use Rattle.congruence.specs.Calls.{generate_call, contained_call, separate_call, decompose_call};

@@ -1,12 +1,12 @@
 -- What writers promise of a line and of bytes that others overwrite next, what they ask of the room that they are lent, of a table of digits, and of numbers.
 use Rattle.std.specs.Prelude.{ℕ, ◌+◌, ◌*◌, ◌/◌, ◌%◌, ◌≤◌, ◌<◌, List, [], ◌∷◌, ◌++◌, ◌≡◌, length, get_or}
-use Rattle.std.specs.Borrow.{Bor}
+use Rattle.std.specs.Borrow.{MutBor}
 use Rattle.equivalence.specs.Lent.{laid}
 use Rattle.tablereader.specs.Laying.{Laid}
 use Rattle.writer.specs.Lines.{line}
 
 -- a line of this word, with what follows it, was laid in a lent slice, from its start to this place
-abbrev pub LaidLine : List ℕ → List ℕ → Bor (List ℕ) → Bor (List ℕ) → ℕ → Type 0
+abbrev pub LaidLine : List ℕ → List ℕ → MutBor (List ℕ) → MutBor (List ℕ) → ℕ → Type 0
 LaidLine word rest lent out end = Laid lent.now 0 (line word rest) out.now end
 
 -- there are k lists of n numbers, and room for a line of them

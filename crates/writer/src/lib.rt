@@ -1,4 +1,6 @@
 // Writing numbers, words and brackets of bracket text into a lent buffer: each writer begins at a place and gives the place after what it wrote.
+#![tactic(auto)]
+
 ghost use Rattle.std.specs.Prelude.{[], ◌∷◌, ◌+◌, ◌*◌, ◌≤◌, ◌<◌, length};
 ghost use Rattle.writer.specs.Numerals.{decimal};
 ghost use Rattle.numberreader.specs.Reading.{ascii};

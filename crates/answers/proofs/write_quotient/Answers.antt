@@ -1,0 +1,12 @@
+-- `answers::write_quotient` meets its contract, by the laws of Dividing.
+use Rattle.answers.proofs.Dividing.{blocks_fit, lines_of_blocks, line_of_divide_refused}
+use Rattle.answers.proofs.write_quotient.Goals as goal
+
+pub write_lines-requires : goal.write_lines-requires
+write_lines-requires c = search blocks_fit
+
+pub returns-in-Blocks : goal.returns-in-Blocks
+returns-in-Blocks c = search lines_of_blocks
+
+pub returns-in-Refused : goal.returns-in-Refused
+returns-in-Refused c = search line_of_divide_refused

@@ -1,0 +1,15 @@
+-- `irreducible_count`: by the cases of the answer.
+use Rattle.claim.specs.Calls.{irreducible_count}
+use Rattle.claim.proofs.irreducible_count.Goals as goal
+
+pub returns-in-Factors : goal.returns-in-Factors
+unfolding irreducible_count
+returns-in-Factors c = rw c.in-Factors.is
+
+pub returns-in-Irreducible : goal.returns-in-Irreducible
+unfolding irreducible_count
+returns-in-Irreducible c = rw c.in-Irreducible.is
+
+pub returns-in-Refused : goal.returns-in-Refused
+unfolding irreducible_count
+returns-in-Refused c = rw c.in-Refused.is

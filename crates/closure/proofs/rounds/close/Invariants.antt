@@ -1,0 +1,14 @@
+-- `close`: the first k of the queue are dealt with (`Running`); at the end of the queue the map is compatible, and the elements in use are its names.
+use Prim.Native.Nat.{◌-◌, ◌≤◌}
+use Rattle.algebra.specs.Algebra.{algebra_of}
+use Rattle.closure.proofs.Closings.{Running, Rounds}
+use Rattle.closure.specs.InnerClosing.{InUse}
+use Rattle.sweep.specs.InnerContexts.{Contexts}
+use Rattle.sweep.specs.InnerQueue.{state}
+use Rattle.closure.proofs.rounds.close.Given as goal
+
+abbrev pub invariant-loop-k : goal.invariant-loop-k
+invariant-loop-k l = (l.k ≤ l.len) × InUse l.n l.live l.places l.count × Contexts l.n l.cells l.live l.count × Rounds l.n l.refused l.stop (algebra_of l.n l.arities l.cells) (state l.initial.m l.initial.queue l.start) (state l.m l.queue l.len) × Running (algebra_of l.n l.arities l.cells) l.stop.v l.stop.w l.k (state l.m l.queue l.len) l.live l.count
+
+abbrev pub decreases-loop-k : goal.decreases-loop-k
+decreases-loop-k l = l.n - l.k

@@ -1,2 +1,0 @@
-pub mod JoinedNames
-pub mod Partwise

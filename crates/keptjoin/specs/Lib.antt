@@ -1,2 +1,0 @@
-pub mod InnerJoin
-pub mod InnerParts

@@ -1,0 +1,25 @@
+-- `earliest_apart_in`: from the identity and one block through the rows.
+use mathlib.Core.Path.{◌∙◌}
+use Rattle.bounding.proofs.RowBounds.{bound_lent_start, whole_kept}
+use Rattle.keptsearch.proofs.KeptRows.{kept_start}
+use Rattle.keptsearch.proofs.earliest_apart_in.Goals as goal
+
+pub settle_rows-requires-clause-kept_standing : goal.settle_rows-requires-clause-kept_standing
+settle_rows-requires-clause-kept_standing c = let p = c.requires in
+    let i = c.identity in
+    kept_start p.accepted (i.auto.m ∙ p.m_len) p.x_lt_n p.y_lt_n p.fact i.ensures.first
+
+pub settle_rows-requires-clause-bound_lent : goal.settle_rows-requires-clause-bound_lent
+settle_rows-requires-clause-bound_lent c = bound_lent_start c.requires.accepted _ _ c.requires.n_in_bounds c.whole_into.auto.m c.whole_into.ensures
+
+pub returns-clause-keeping_2 : goal.returns-clause-keeping_2
+returns-clause-keeping_2 c = let s = c.settle_rows.ensures in
+    s.keeping_2
+
+pub returns-clause-earliest : goal.returns-clause-earliest
+returns-clause-earliest c = let s = c.settle_rows.ensures in
+    s.earliest
+
+pub returns-clause-kept_past : goal.returns-clause-kept_past
+returns-clause-kept_past c = let s = c.settle_rows.ensures in
+    λ z l. s.kept_past z l ∙ whole_kept _ _ _ c.requires.n_in_bounds c.whole_into.ensures z l

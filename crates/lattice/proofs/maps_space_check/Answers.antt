@@ -1,0 +1,12 @@
+-- `maps_space_check` meets its contract, by the laws of Calls: one for each return.
+use Rattle.lattice.proofs.Calls.{space_unmet, space_short, space_enough}
+use Rattle.lattice.proofs.maps_space_check.Goals as goal
+
+pub returns-in-Failed : goal.returns-in-Failed
+returns-in-Failed c = search space_unmet
+
+pub returns-then-room-n : goal.returns-then-room-n
+returns-then-room-n c = search space_short
+
+pub returns : goal.returns
+returns c = search space_enough

@@ -1,0 +1,8 @@
+-- `write_irreducible` meets its contract, by the laws of Spacing.
+use Rattle.writer.proofs.Spacing.{line_written}
+use Rattle.numberreader.specs.Reading.{ascii}
+use Rattle.linewriter.proofs.write_irreducible.Goals as goal
+
+pub returns : goal.returns
+unfolding ascii
+returns c = search line_written

@@ -1,0 +1,20 @@
+-- How far the rows of a table are read, and what falls from a table to its rows and back.
+use Rattle.std.proofs.Common.{◌+◌, ◌-◌, ◌*◌, ◌^◌}
+use Rattle.tablereader.specs.Tables.{table}
+use Rattle.tablereader.specs.InnerPromises.{RoomFor}
+use Rattle.tablereader.specs.InnerRows.{RowsRead}
+use Rattle.tablereader.proofs.+read_rows_read_table.Given as goal
+
+abbrev pub decreases-read_rows : goal.decreases-read_rows
+decreases-read_rows l = 2 * l.arity
+
+abbrev pub decreases-read_table : goal.decreases-read_table
+decreases-read_table l = 2 * l.arity + 1
+
+abbrev pub invariant-read_rows-loop-more : goal.invariant-read_rows-loop-more
+invariant-read_rows-loop-more l =
+    RowsRead l.text l.at l.initial.cells l.put (table l.n (l.arity - 1)) l.n l.cells l.more l.next l.so_far
+    × RoomFor (l.more * l.n ^ (l.arity - 1)) l.text l.next l.cells l.so_far
+
+abbrev pub decreases-read_rows-loop-more : goal.decreases-read_rows-loop-more
+decreases-read_rows-loop-more l = l.more

@@ -1,0 +1,30 @@
+-- `rows::mixed_pair` meets its contract, by the laws of Pairs.
+use Rattle.tablereader.proofs.Pairs.{digit_of, fits_digit, pair_none, pair_found}
+use Rattle.tablereader.proofs.rows.mixed_pair.Goals as goal
+
+pub returns-then-text-at-lt7 : goal.returns-then-text-at-lt7
+returns-then-text-at-lt7 c = search pair_none
+
+pub returns-then-not-fits : goal.returns-then-not-fits
+returns-then-not-fits c = search pair_none
+
+pub returns-then-not-fits-2 : goal.returns-then-not-fits-2
+returns-then-not-fits-2 c = search pair_none
+
+pub value-requires-clause-digit : goal.value-requires-clause-digit
+value-requires-clause-digit c =
+    fits_digit _ _ _ _ c.fits.ensures c.if-not-fits.false-raw
+
+pub value-requires-clause-digit_2 : goal.value-requires-clause-digit_2
+value-requires-clause-digit_2 c =
+    digit_of _ _ c.is_digit-wide.ensures
+
+pub value-requires-2-clause-digit : goal.value-requires-2-clause-digit
+value-requires-2-clause-digit c =
+    fits_digit _ _ _ _ c.fits-2.ensures c.if-not-fits-2.false-raw
+
+pub value-requires-2-clause-digit_2 : goal.value-requires-2-clause-digit_2
+value-requires-2-clause-digit_2 c = search digit_of
+
+pub returns : goal.returns
+returns c = search pair_found

@@ -1,0 +1,33 @@
+-- `lengths::text_length` meets its contract, by the laws of Counting.
+use native.Mathlib.Omega.{arith}
+use Rattle.tablewriter.proofs.Counting.{digits_few, summed_none, summed_next, summed_text}
+use Rattle.tablewriter.proofs.lengths.text_length.Goals as goal
+
+pub overflow_add-sum : goal.overflow_add-sum
+overflow_add-sum c = omega (arith, digits_few c.args.n (omega arith), c.second_digit.ensures)
+
+pub overflow_add-sum-2 : goal.overflow_add-sum-2
+overflow_add-sum-2 c = omega (arith, digits_few c.args.n (omega arith), c.second_digit.ensures)
+
+pub overflow_add-sum-3 : goal.overflow_add-sum-3
+overflow_add-sum-3 c = omega (arith, summed_none _ _ _ c.requires _ _ c.second_digit.ensures c.second_digits.ensures)
+
+pub loop-j-init : goal.loop-j-init
+loop-j-init c = search summed_none
+
+pub frame-requires-clause-n_bound : goal.frame-requires-clause-n_bound
+frame-requires-clause-n_bound c = let p = c.requires in
+    p.tables.most
+
+pub frame-requires-clause-arity_bound : goal.frame-requires-clause-arity_bound
+frame-requires-clause-arity_bound c = let p = c.requires in
+    p.tables.arity c.loop-j.j c.loop-j-test.true
+
+pub overflow_add-sum-in-loop-j-2 : goal.overflow_add-sum-in-loop-j-2
+overflow_add-sum-in-loop-j-2 c = omega (arith, summed_next _ _ _ c.requires _ _ _ c.loop-j.invariant c.loop-j-test.true c.frame.ensures)
+
+pub loop-j-preserved : goal.loop-j-preserved
+loop-j-preserved c = search summed_next
+
+pub returns : goal.returns
+returns c = search summed_text

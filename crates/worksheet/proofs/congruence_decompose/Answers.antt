@@ -1,0 +1,10 @@
+-- `congruence_decompose`: the call's answer as a number, and its bytes.
+use Rattle.congruence.specs.Outcome.{decomposed_outcome}
+use Rattle.worksheet.proofs.Packing.{packed_call}
+use Rattle.worksheet.proofs.congruence_decompose.Goals as goal
+
+pub returns-clause-value : goal.returns-clause-value
+returns-clause-value c = (packed_call decomposed_outcome c.decompose.ensures c.decomposed_number.ensures).0
+
+pub returns-clause-out_after : goal.returns-clause-out_after
+returns-clause-out_after c = (packed_call decomposed_outcome c.decompose.ensures c.decomposed_number.ensures).1
