@@ -1,6 +1,6 @@
 /* A worksheet: one algebra, four questions, and what is declined.
  *
- *   cc -I include examples/worksheet.c target/staticlib/libworksheet.a -o worksheet
+ *   cc -I include examples/worksheet.c crates/worksheet/out/libworksheet.a -o worksheet
  *
  * It prints what examples/worksheet.out holds. */
 #include <stdio.h>

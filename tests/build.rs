@@ -1,5 +1,5 @@
 //! Links the static libraries that are there. Each is named by an environment
-//! variable or found at its usual place under the repository's target/; one
+//! variable or found at its usual place in the repository; one
 //! that is missing is left out, and the suites that need it with it.
 
 use std::env;
@@ -9,8 +9,8 @@ fn main() {
     let root = Path::new(&env::var("CARGO_MANIFEST_DIR").unwrap()).join("..");
     for (name, place) in [
         ("baseline", "target/outside/libbaseline.a"),
-        ("worksheet", "target/staticlib/libworksheet.a"),
-        ("probe", "target/staticlib/libprobe.a"),
+        ("worksheet", "crates/worksheet/out/libworksheet.a"),
+        ("probe", "crates/probe/out/libprobe.a"),
     ] {
         let variable = format!("{}_LIB", name.to_uppercase());
         println!("cargo:rerun-if-env-changed={variable}");
