@@ -14,9 +14,9 @@ use Rattle.equivalence.proofs.Lists.{every_of, of_every, member_at, member_index
 use Rattle.equivalence.proofs.Refusals.{lowest_none, lowest_next, lowest_here, of_passed, size_refused, size_passed, of_size_test, size_test_of, sized_bounds}
 use Rattle.equivalence.proofs.Tests.{eq→eqb}
 use Rattle.algebra.specs.Accepted.{algebra_tests, Accepted}
-use Rattle.algebra.specs.Algebra.{Algebra, algebra_of, cell_count, operations}
+use Rattle.algebra.specs.Algebra.{Algebra, algebra_of, cell_count}
 use Rattle.equivalence.specs.declared.Refusal.TheVariants.{Size, Operations, Arity, Cells, Length, Cell}
-use Rattle.equivalence.specs.declared.Check.TheVariants.{Passed, Failed}
+use Rattle.std.specs.Prelude.{Ok, Err}
 
 -- what reasons 1 to 6 leave
 pub record WellFormed (a : Algebra) : Type 0 where
@@ -104,7 +104,7 @@ accepted_well_formed a e =
 
 -- each test behind the first: where it applies it is the answer, and where it does not the later ones decide
 module _ (a : Algebra) where
-  operations_failed : 16 < length a.arities → lowest (drop 1 (algebra_tests a)) ≡ Failed Operations
+  operations_failed : 16 < length a.arities → lowest (drop 1 (algebra_tests a)) ≡ Err Operations
   unfolding algebra_tests
   operations_failed h = lowest_here _ _ (lt→ltb 16 (length a.arities) h)
 
@@ -112,7 +112,7 @@ module _ (a : Algebra) where
   unfolding algebra_tests
   operations_passed h = lowest_next _ _ (λ t. absurd (omega (arith, ltb→lt 16 (length a.arities) t)))
 
-  arity_failed : ¬ Most 3 a.arities → lowest (drop 2 (algebra_tests a)) ≡ Failed Arity
+  arity_failed : ¬ Most 3 a.arities → lowest (drop 2 (algebra_tests a)) ≡ Err Arity
   unfolding algebra_tests
   arity_failed h = lowest_here _ _ (yes_not (most_test 3 a.arities) (λ t. h (of_most 3 a.arities t)))
 
@@ -120,7 +120,7 @@ module _ (a : Algebra) where
   unfolding algebra_tests
   arity_passed h = lowest_next _ _ (not_yes (most_test 3 a.arities) (most_of 3 a.arities h))
 
-  cells_failed : 32768 < cell_count a.size a.arities → lowest (drop 3 (algebra_tests a)) ≡ Failed Cells
+  cells_failed : 32768 < cell_count a.size a.arities → lowest (drop 3 (algebra_tests a)) ≡ Err Cells
   unfolding algebra_tests
   cells_failed h = lowest_here _ _ (lt→ltb 32768 (cell_count a.size a.arities) h)
 
@@ -128,7 +128,7 @@ module _ (a : Algebra) where
   unfolding algebra_tests
   cells_passed h = lowest_next _ _ (λ t. absurd (omega (arith, ltb→lt 32768 (cell_count a.size a.arities) t)))
 
-  length_failed : ¬ (length a.cells ≡ cell_count a.size a.arities) → lowest (drop 4 (algebra_tests a)) ≡ Failed Length
+  length_failed : ¬ (length a.cells ≡ cell_count a.size a.arities) → lowest (drop 4 (algebra_tests a)) ≡ Err Length
   unfolding algebra_tests
   length_failed h = lowest_here _ _ (yes_not (full_test a) (λ t. h (eqb→eq (length a.cells) (cell_count a.size a.arities) t)))
 
@@ -136,11 +136,11 @@ module _ (a : Algebra) where
   unfolding algebra_tests
   length_passed h = lowest_next _ _ (not_yes (full_test a) (eq→eqb (length a.cells) (cell_count a.size a.arities) h))
 
-  cell_failed : ¬ Below a.size a.cells → lowest (drop 5 (algebra_tests a)) ≡ Failed Cell
+  cell_failed : ¬ Below a.size a.cells → lowest (drop 5 (algebra_tests a)) ≡ Err Cell
   unfolding algebra_tests
   cell_failed h = lowest_here _ _ (yes_not (below_test a.size a.cells) (λ t. h (of_all_below a.size a.cells t)))
 
-  cell_passed : Below a.size a.cells → lowest (drop 5 (algebra_tests a)) ≡ Passed
+  cell_passed : Below a.size a.cells → lowest (drop 5 (algebra_tests a)) ≡ Ok tt
   unfolding algebra_tests
   cell_passed h = lowest_next _ _ (not_yes (below_test a.size a.cells) (all_below_of a.size a.cells h)) ∙ lowest_none
 
@@ -149,7 +149,7 @@ module _ (n : ℕ) (arities cells : List ℕ) {flag : Bool} (s : flag ≡ not (s
   abbrev tests : List Test
   tests = algebra_tests (algebra_of n arities cells)
 
-  pub tests_size : not flag ≡ true → Failed Size ≡ lowest tests
+  pub tests_size : not flag ≡ true → Err Size ≡ lowest tests
   unfolding algebra_tests
   tests_size f = sym (size_refused n _ s f)
 
@@ -158,14 +158,14 @@ module _ (n : ℕ) (arities cells : List ℕ) {flag : Bool} (s : flag ≡ not (s
     unfolding algebra_tests
     sized_next = size_passed n _ s f
 
-    pub tests_operations : 16 < length arities → Failed Operations ≡ lowest tests
+    pub tests_operations : 16 < length arities → Err Operations ≡ lowest tests
     tests_operations h = sym (sized_next ∙ operations_failed (algebra_of n arities cells) h)
 
     module _ (h : length arities ≤ 16) {largest : ℕ} (m : Largest (length arities) arities largest) where
       few_next : lowest tests ≡ lowest (drop 2 tests)
       few_next = sized_next ∙ operations_passed (algebra_of n arities cells) h
 
-      pub tests_arity : 3 < largest → Failed Arity ≡ lowest tests
+      pub tests_arity : 3 < largest → Err Arity ≡ lowest tests
       tests_arity k =
           sym (few_next ∙ arity_failed (algebra_of n arities cells) (λ u. absurd (omega (arith, m.least 4 (omega arith) (λ j l. omega (arith, u j l))))))
 
@@ -173,24 +173,24 @@ module _ (n : ℕ) (arities cells : List ℕ) {flag : Bool} (s : flag ≡ not (s
         arity_next : lowest tests ≡ lowest (drop 3 tests)
         arity_next = few_next ∙ arity_passed (algebra_of n arities cells) (λ i l. omega (arith, m.above i l))
 
-        pub tests_cells : 32768 < count → Failed Cells ≡ lowest tests
+        pub tests_cells : 32768 < count → Err Cells ≡ lowest tests
         tests_cells l = sym (arity_next ∙ cells_failed (algebra_of n arities cells) (omega arith))
 
         module _ (l : count ≤ 32768) where
           room_next : lowest tests ≡ lowest (drop 4 tests)
           room_next = arity_next ∙ cells_passed (algebra_of n arities cells) (omega arith)
 
-          pub tests_length : (length cells ≡ count → ⊥) → Failed Length ≡ lowest tests
+          pub tests_length : (length cells ≡ count → ⊥) → Err Length ≡ lowest tests
           tests_length d = sym (room_next ∙ length_failed (algebra_of n arities cells) (λ g. d (g ∙ sym e)))
 
           module _ (d : length cells ≡ count) {top : ℕ} (t : Largest (length cells) cells top) where
             filled_next : lowest tests ≡ lowest (drop 5 tests)
             filled_next = room_next ∙ length_passed (algebra_of n arities cells) (d ∙ e)
 
-            pub tests_cell : n ≤ top → Failed Cell ≡ lowest tests
+            pub tests_cell : n ≤ top → Err Cell ≡ lowest tests
             tests_cell g = sym (filled_next ∙ cell_failed (algebra_of n arities cells) (λ u. absurd (omega (arith, t.least n (sized_bounds n s f).0 u))))
 
-            pub tests_none : top < n → Passed ≡ lowest tests
+            pub tests_none : top < n → Ok tt ≡ lowest tests
             tests_none g = sym (filled_next ∙ cell_passed (algebra_of n arities cells) (λ i j. omega (arith, t.above i j)))
 
 pub well_formed_accepted : (a : Algebra) → WellFormed a → Accepted a

@@ -1,13 +1,12 @@
 -- Congruences: what the tests say (`Respects`, `IsCongruence`); the identity, `whole`, meets and joins of congruences are congruences.
 -- first, so that a wrong definition is refused by an example that it makes false
-use Rattle.algebra.proofs.Examples.{AlgebraExamples}
 use Prim.Native.Nat.{ℕ, suc, ◌+◌, ◌^◌, ◌≤◌, ◌<◌}
 use mathlib.Core.Bool.{Bool}
 use mathlib.Core.List.Memᴰ.{cases_cons}
 use mathlib.Core.List.Memᴰ.{head as here}
 use mathlib.Core.List.Memᴰ.{not-nil}
 use mathlib.Core.List.Memᴰ.{tail as there}
-use mathlib.Core.List.{List, [], ◌∷◌, ◌++◌, map, Memᴰ as Member}
+use mathlib.Core.List.{List, [], ◌∷◌, ◌++◌, Memᴰ as Member}
 use mathlib.Core.Logic.{inl, inr}
 use mathlib.Core.Path.{◌≡◌, refl, sym, ap, subst, ◌∙◌}
 use native.Mathlib.Decide.{dec_lt}
@@ -15,7 +14,7 @@ use native.Mathlib.Omega.{arith}
 use lib.Dec.{T}
 use lib.ListN.{length, get_or, take, drop, set, length-take, get_or-eq_default, length-append}
 use lib.Seq.{get_or-take, get_or-drop, set-get_or, get_or-set_same, get_or-append_seam, set-append_seam, append_snoc, set-set}
-use Rattle.equivalence.specs.Equivalence.{Map, byte, holds, map_of, identity, whole, same, meet, meet_all, maps, join}
+use Rattle.equivalence.specs.Equivalence.{Map, byte, holds, map_of, identity, whole, meet, meet_all, maps, join}
 use Rattle.equivalence.proofs.AllMaps.{maps_sound, maps_complete}
 use Rattle.equivalence.proofs.Joins.{join_law}
 use Rattle.equivalence.proofs.Lists.{every_of, of_every, keep_member, of_keep, below_of, of_below}

@@ -1,8 +1,7 @@
--- Powers up to the third; and the loop that computes a power (`raised_more`, `raised_all`), which stays small.
-use Prim.Native.Nat.{ℕ, ◌+◌, ◌*◌, ◌^◌, ◌≤◌}
-use mathlib.Core.Path.{◌≡◌, refl, ap, ◌∙◌}
+-- Powers up to the third, and that they stay small.
+use Prim.Native.Nat.{ℕ, ◌*◌, ◌^◌, ◌≤◌}
+use mathlib.Core.Path.{◌≡◌, ap, ◌∙◌}
 use native.Mathlib.Nat.{pow-zero, pow-suc, one-mul, mul-le-mul, pow-le-pow_left, pow-le-pow_right}
-use native.Mathlib.Numerals.{add-one}
 use native.Mathlib.Omega.{arith}
 
 pub power_one : (n : ℕ) → n ^ 1 ≡ n
@@ -22,9 +21,3 @@ pub power_small : (n i : ℕ) → n ≤ 64 → i ≤ 3 → n ^ i ≤ 262144
 power_small n i l li =
     let a : 64 ^ i ≤ 64 ^ 3 = pow-le-pow_right (omega arith) li in
     omega (arith, pow-le-pow_left l i)
-
-pub raised_more : (n i : ℕ) {r : ℕ} → r ≡ n ^ i → r * n ≡ n ^ (i + 1)
-raised_more n i e = rw (add-one, pow-suc, e) refl
-
-pub raised_all : (n : ℕ) {i s r : ℕ} → i ≤ s → s ≤ i → r ≡ n ^ i → r ≡ n ^ s
-raised_all n {i} {s} l k e = let d : i ≡ s = omega arith in rw d at e

@@ -1,9 +1,8 @@
 -- Reasons 1 to 6, and the algebras that none of them declines.
-use Rattle.std.specs.Prelude.{◌≡◌, not, List, [], ◌∷◌, eqb, leb, ltb, length}
+use Rattle.std.specs.Prelude.{◌≡◌, not, List, [], ◌∷◌, eqb, leb, ltb, length, Ok}
 use Rattle.equivalence.specs.Lists.{every}
 use Rattle.equivalence.specs.Refusal.{Test, lowest, size_test}
 use Rattle.equivalence.specs.declared.Refusal.TheVariants.{Operations, Arity, Cells, Length, Cell}
-use Rattle.equivalence.specs.declared.Check.TheVariants.{Passed}
 use Rattle.algebra.specs.Algebra.{Algebra, cell_count}
 
 -- 1 to 6, by rising number
@@ -25,4 +24,4 @@ algebra_tests a =
 
 -- none of reasons 1 to 6 applies
 unfoldable pub Accepted : Algebra → Type 0
-Accepted a = lowest (algebra_tests a) ≡ Passed
+Accepted a = lowest (algebra_tests a) ≡ Ok tt

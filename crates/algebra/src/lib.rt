@@ -8,6 +8,7 @@ ghost use Rattle.algebra.specs.Accepted.{algebra_tests};
 ghost use Rattle.kernel.specs.InnerLargest.{Largest};
 
 pub use equivalence::blocks::larger;
+use equivalence::{Refusal, checks};
 
 // The largest number of operations, of arguments of one, and of cells of all tables together; of elements: `equivalence::checks::MAX_SIZE`.
 pub const MAX_OPERATIONS: usize = 16;
@@ -23,11 +24,9 @@ fn largest_of_halves(s: &[u8], half: usize) -> u8
 {
     let mut front = 0u8;
     let mut back = 0u8;
-    let mut i = 0;
-    while i < half {
+    for i in 0..half {
         front = larger(front, s[i]);
         back = larger(back, s[half + i]);
-        i += 1;
     }
     larger(front, back)
 }
@@ -51,13 +50,7 @@ pub fn power(n: usize, s: usize) -> usize
     requires s_bound { s ≤ 3 }
     ensures { result ≡ n ^ s }
 {
-    let mut r = 1;
-    let mut i = 0;
-    while i < s {
-        r = r * n;
-        i += 1;
-    }
-    r
+    n.pow(s as u32)
 }
 
 // How many cells the tables have together.
@@ -68,36 +61,34 @@ pub fn cell_count(n: usize, arities: &[u8]) -> usize
     ensures { result ≡ cell_count n arities.now }
 {
     let mut sum = 0;
-    let mut j = 0;
-    while j < arities.len() {
-        sum = sum + power(n, arities[j] as usize);
-        j += 1;
+    for s in arities {
+        sum += power(n, *s as usize);
     }
     sum
 }
 
 // The first of reasons 1 to 6 that applies.
-pub fn check(n: usize, arities: &[u8], cells: &[u8]) -> equivalence::Check
+pub fn check(n: usize, arities: &[u8], cells: &[u8]) -> Result<(), Refusal>
     ensures { result ≡ lowest (algebra_tests (algebra_in n arities.entry cells.entry)) }
 {
-    if !equivalence::checks::is_size(n) {
-        return equivalence::Check::Failed(equivalence::Refusal::Size);
+    if !checks::is_size(n) {
+        return Err(Refusal::Size);
     }
     if arities.len() > MAX_OPERATIONS {
-        return equivalence::Check::Failed(equivalence::Refusal::Operations);
+        return Err(Refusal::Operations);
     }
     if largest(arities) > MAX_ARITY {
-        return equivalence::Check::Failed(equivalence::Refusal::Arity);
+        return Err(Refusal::Arity);
     }
     let count = cell_count(n, arities);
     if count > MAX_CELLS {
-        return equivalence::Check::Failed(equivalence::Refusal::Cells);
+        return Err(Refusal::Cells);
     }
     if cells.len() != count {
-        return equivalence::Check::Failed(equivalence::Refusal::Length);
+        return Err(Refusal::Length);
     }
     if largest(cells) as usize >= n {
-        return equivalence::Check::Failed(equivalence::Refusal::Cell);
+        return Err(Refusal::Cell);
     }
-    equivalence::Check::Passed
+    Ok(())
 }

@@ -8,8 +8,8 @@ use Rattle.equivalence.specs.Lists.{every, concat}
 use Rattle.equivalence.specs.Lent.{written, lent_after}
 use Rattle.equivalence.specs.Refusal.{lowest, size_test, space_test, answered, serve}
 use Rattle.equivalence.specs.declared.Refusal.{Refusal}
-use Rattle.equivalence.specs.declared.Refusal.TheVariants.{Size, Operations, Arity, Cells, Length as Short, Cell, Space, Text}
-use Rattle.equivalence.specs.declared.Check.TheVariants.{Passed, Failed}
+use Rattle.equivalence.specs.declared.Refusal.TheVariants.{Size, Operations, Arity, Cells, Length, Cell, Space, Text}
+use Rattle.std.specs.Prelude.{Ok, Err}
 use Rattle.algebra.specs.Accepted.{algebra_tests}
 use Rattle.algebra.specs.Algebra.{Algebra, algebra_of, cell_count, operations_of, operations}
 use Rattle.numberreader.specs.Reading.{ascii, onward, ◌>>=◌, mark, gap, begins, opened}
@@ -22,7 +22,6 @@ use Rattle.writer.specs.Lines.{gap_bytes, spaced, line}
 use Rattle.tablewriter.specs.Texts.{parted_texts, table_text, size_text, operation_text, algebra_text}
 use Rattle.algebratext.specs.Whole.{operation_line_at, operations_to_end, whole_algebra}
 use Rattle.algebratext.specs.Calls.{write_call, algebra_read, cells_read, reading, read_call}
-use Rattle.algebratext.specs.declared.TextWritten.TheVariants.{Length, Refused}
 
 -- document 01's algebra on four elements
 abbrev worked : Algebra
@@ -34,22 +33,21 @@ lent k = replicate k 7
 
 -- into so many bytes the writer writes this, and leaves so many behind it
 abbrev Writes : Algebra → ℕ → String → ℕ → Type 0
-Writes a room text left = write_call a (lent room) ≡ (Length (length (ascii text)), ascii text ++ lent left)
+Writes a room text left = write_call a (lent room) ≡ (Ok (length (ascii text)), ascii text ++ lent left)
 
 -- into so many bytes the writer writes nothing, for this reason
 abbrev Declines : Algebra → ℕ → Refusal → Type 0
-Declines a room r = write_call a (lent room) ≡ (Refused r, lent room)
+Declines a room r = write_call a (lent room) ≡ (Err r, lent room)
 
 -- lent 32,768 bytes, the reader finds this size, these arities with zeros behind them, and these cells, and leaves so many bytes
 abbrev Reads : String → ℕ → ℕ → List ℕ → List ℕ → ℕ → Type 0
 Reads text n operations arities cells left =
     read_call (ascii text) (lent 32768)
-    ≡ (record { check = Passed; size = n; operations = operations; arities = arities; cells = length cells }, cells ++ lent left)
+    ≡ (Ok (record { size = n; operations = operations; arities = arities; cells = length cells }), cells ++ lent left)
 
 -- lent so many bytes, the reader writes nothing, for this reason
 abbrev Unread : ℕ → List ℕ → Refusal → Type 0
-Unread room text r =
-    read_call text (lent room) ≡ (record { check = Failed r; size = 0; operations = 0; arities = replicate 16 0; cells = 0 }, lent room)
+Unread room text r = read_call text (lent room) ≡ (Err r, lent room)
 
 pub record TextCallExamples : Type 0 where
   -- the bytes lent are just enough, more, or one too few; what is behind the text stays
@@ -63,7 +61,7 @@ pub record TextCallExamples : Type 0 where
   -- 1 to 6 go before 9
   pub first : Declines (algebra_of 3 (1 ∷ []) (0 ∷ 1 ∷ 3 ∷ [])) 0 Cell
       × Declines (algebra_of 0 [] []) 0 Size
-      × Declines (algebra_of 2 (1 ∷ []) (0 ∷ [])) 0 Short
+      × Declines (algebra_of 2 (1 ∷ []) (0 ∷ [])) 0 Length
   -- arities with zeros behind them, and cells at the start of the lent bytes; a size line alone
   pub reads : Reads "[size 2]\n[op 0 1]\n[op 2 [[0 0] [0 1]]]\n" 2 2 (0 ∷ 2 ∷ replicate 14 0) (1 ∷ 0 ∷ 0 ∷ 0 ∷ 1 ∷ []) 32763
       × Reads "[size 3]\n" 3 0 (replicate 16 0) [] 32768

@@ -17,7 +17,7 @@ use Rattle.tablewriter.proofs.AlgebraBack.{LineRead, ReadAtStart, lines_past, li
 use Rattle.algebratext.specs.Whole.{operation_line_at, operations_to_end, whole_algebra}
 use Rattle.algebratext.specs.Calls.{write_tests, write_call, algebra_read, cells_read, reading, read_call}
 use Rattle.algebratext.specs.RoundTrip.{RoundTrip}
-use Rattle.algebratext.specs.declared.TextWritten.TheVariants.{Length, Refused}
+use Rattle.std.specs.Prelude.{Ok}
 
 -- one turn passes an operation line
 turn_passes : (text : List ℕ) (k : ℕ) (a : Algebra) (at : ℕ) (b : Algebra) (next : ℕ) → LineRead text a at b next
@@ -52,11 +52,11 @@ reading_back a accepted room h = rw (space_passed 32768 room [] h, lowest_none) 
 
 -- lent enough, the writer writes the text of an accepted algebra
 pub write_passed : (a : Algebra) → Accepted a → (out : List ℕ) → length (algebra_text a) ≤ length out
-    → write_call a out ≡ (Length (length (algebra_text a)), written (algebra_text a) out)
+    → write_call a out ≡ (Ok (length (algebra_text a)), written (algebra_text a) out)
 unfolding write_call Accepted
 write_passed a accepted out enough =
     let text = algebra_text a in
-    serve_passed Refused (write_tests a (length out)) (Length (length text)) text out
+    serve_passed (write_tests a (length out)) (length text) text out
     (lowest_append (algebra_tests a) (space_test (length text) (length out) ∷ []) accepted ∙ space_passed (length text) (length out) [] enough ∙ lowest_none)
 
 -- what is written at the start of lent bytes

@@ -10,19 +10,17 @@ use lib.ListN.{length, take, drop, replicate, take-append-drop}
 use lib.Seq.{drop-drop, length-take-le}
 use Rattle.equivalence.specs.declared.Refusal.{Refusal}
 use Rattle.equivalence.specs.declared.Refusal.TheVariants.{Space, Text}
-use Rattle.equivalence.specs.declared.Check.{Check}
-use Rattle.equivalence.specs.declared.Check.TheVariants.{Passed, Failed}
+use Rattle.std.specs.Prelude.{Result, Ok, Err, IsErrAnd}
 use Rattle.equivalence.specs.Lent.{written}
 use Rattle.equivalence.specs.Lists.{every}
-use Rattle.equivalence.proofs.Refusals.{lowest_none, space_refused, space_passed}
+use Rattle.equivalence.proofs.Refusals.{handed_on, lowest_none, space_refused, space_passed}
 use Rattle.equivalence.proofs.Tests.{pick_yes, pick_no, T_of, not_T_of}
 use Rattle.algebra.specs.Algebra.{Algebra}
 use Rattle.numberreader.specs.Reading.{ascii, begins}
-use Rattle.reader.specs.Lines.{Progress, defined, refused, tested, operation}
+use Rattle.reader.specs.Lines.{Progress, defined, refused, tested, sized, operation}
 use Rattle.reader.specs.InnerPromises.{RoomForCells}
-use Rattle.reader.specs.InnerTaking.{algebra_so_far, progress_with, Readable, SizeTaken, OperationTaken}
+use Rattle.reader.specs.InnerTaking.{algebra_so_far, progress_with, Readable, SizeTaken, OperationTaken, OperationUntaken}
 use Rattle.reader.specs.declared.taking.AlgebraSoFar.{AlgebraSoFar}
-use Rattle.reader.specs.declared.taking.LineTaken.{LineTaken}
 use Rattle.tablereader.specs.Laying.{Laid}
 use Rattle.reader.proofs.CellRoom.{room_of_cells}
 use Rattle.numberreader.proofs.Words.{begins_within}
@@ -31,9 +29,6 @@ use Rattle.algebratext.specs.Calls.{algebra_read, cells_read, reading, read_call
 use Rattle.algebratext.specs.InnerReading.{LinesTaken, whole_call}
 use Rattle.algebratext.specs.declared.AlgebraRead.{AlgebraRead}
 use Rattle.algebratext.proofs.Writing.{laid_at_start}
-
-abbrev taken : Check → AlgebraSoFar → LineTaken
-taken c a = record { check = c; algebra = a }
 
 -- a refusal stays one
 to_end_refused : (k : ℕ) (text : List ℕ) (r : Refusal) → operations_to_end k text (refused r) ≡ refused r
@@ -62,27 +57,20 @@ pub record LinesSoFar (text lent arities cells : List ℕ) (a : AlgebraSoFar) : 
   pub spare : drop a.operations arities ≡ drop a.operations lent
 
 -- the size line
-module _ (text arities cells : List ℕ) (l : LineTaken) (s : SizeTaken text 0 l) where
-  pub size_line_declined : (r : Refusal) → l.check ≡ Failed r → LinesTaken text arities arities cells (taken (Failed r) l.algebra)
-  unfolding whole_algebra
-  size_line_declined r e =
-      record {
-        value = ap (operations_to_end (length text) text) (s.value arities cells ∙ ap (λ (c : Check). progress_with c l.algebra arities cells) e) ∙ to_end_refused (length text) text r;
-        few = s.readable.few;
-        fit = s.readable.fit;
-        spare = refl;
-      }
+pub size_line_declined : (text : List ℕ) (r : Refusal) → sized text 0 ≡ refused r → whole_algebra text ≡ refused r
+unfolding whole_algebra
+size_line_declined text r e = ap (operations_to_end (length text) text) e ∙ to_end_refused (length text) text r
 
-  pub lines_begin : l.check ≡ Passed → LinesSoFar text arities arities cells l.algebra
-  unfolding whole_algebra
-  lines_begin e =
-      record {
-        fuel = length text;
-        enough = omega arith;
-        value = ap (operations_to_end (length text) text) (s.value arities cells ∙ ap (λ (c : Check). progress_with c l.algebra arities cells) e);
-        readable = s.readable;
-        spare = refl;
-      }
+pub lines_begin : (text arities cells : List ℕ) (a : AlgebraSoFar) → SizeTaken text 0 a → LinesSoFar text arities arities cells a
+unfolding whole_algebra
+lines_begin text arities cells a s =
+    record {
+      fuel = length text;
+      enough = omega arith;
+      value = ap (operations_to_end (length text) text) (s.value arities cells);
+      readable = s.readable;
+      spare = refl;
+    }
 
 -- at the end of the text what was found stays
 to_end_found : (k : ℕ) (text : List ℕ) (a : Algebra) (at : ℕ) → length text ≤ at → operations_to_end k text (defined a at) ≡ defined a at
@@ -100,7 +88,7 @@ module _ (text lent arities cells : List ℕ) (a : AlgebraSoFar) (p : LinesSoFar
   so_far : Algebra
   so_far = algebra_so_far a arities cells
 
-  pub lines_end : length text ≤ a.at → LinesTaken text lent arities cells (taken Passed a)
+  pub lines_end : length text ≤ a.at → LinesTaken text lent arities cells a
   unfolding so_far
   lines_end h =
       record { value = p.value ∙ to_end_found p.fuel text so_far a.at h; few = p.readable.few; fit = p.readable.fit; spare = p.spare }
@@ -119,17 +107,11 @@ module _ (text lent arities cells : List ℕ) (a : AlgebraSoFar) (p : LinesSoFar
     next = p.value ∙ ap (λ (k : ℕ). operations_to_end k text (defined so_far a.at)) fuel_left.1 ∙ to_end_next fuel_left.0 text so_far a.at h
 
     -- a line that is no operation
-    pub line_other : (b : Bool) → b ≡ begins text a.at (ascii "[op") → not b ≡ true → LinesTaken text lent arities cells (taken (Failed Text) a)
+    pub line_other : (b : Bool) → b ≡ begins text a.at (ascii "[op") → not b ≡ true → whole_algebra text ≡ refused Text
     unfolding operation_line_at
     line_other b e n =
-        record {
-          value =
-              next ∙ ap (operations_to_end fuel_left.0 text) (pick_no (begins text a.at (ascii "[op")) (operation so_far text (a.at + 3)) (refused Text) (not_T_of (sym e ∙ not-true b n)))
-              ∙ to_end_refused fuel_left.0 text Text;
-          few = p.readable.few;
-          fit = p.readable.fit;
-          spare = p.spare;
-        }
+        next ∙ ap (operations_to_end fuel_left.0 text) (pick_no (begins text a.at (ascii "[op")) (operation so_far text (a.at + 3)) (refused Text) (not_T_of (sym e ∙ not-true b n)))
+        ∙ to_end_refused fuel_left.0 text Text
 
     module _ (b : Bool) (e : b ≡ begins text a.at (ascii "[op")) (n : not b ≡ false) where
       -- an operation line has its word within the text, and room for its cells
@@ -141,79 +123,70 @@ module _ (text lent arities cells : List ℕ) (a : AlgebraSoFar) (p : LinesSoFar
           p.readable.fit
           (omega arith)
 
-      module _ (arities' cells' : List ℕ) (l : LineTaken) (t : OperationTaken text a arities cells arities' cells' l) where
-        came : whole_algebra text ≡ operations_to_end fuel_left.0 text (progress_with l.check l.algebra arities' cells')
-        unfolding operation_line_at so_far
-        came =
-            next
-            ∙ ap (operations_to_end fuel_left.0 text)
-            (pick_yes (begins text a.at (ascii "[op")) (operation so_far text (a.at + 3)) (refused Text) (T_of (sym e ∙ not-false b n)) ∙ t.value)
+      came : (q : Progress) → operation so_far text (a.at + 3) ≡ q → whole_algebra text ≡ operations_to_end fuel_left.0 text q
+      unfolding operation_line_at so_far
+      came q t =
+          next
+          ∙ ap (operations_to_end fuel_left.0 text)
+          (pick_yes (begins text a.at (ascii "[op")) (operation so_far text (a.at + 3)) (refused Text) (T_of (sym e ∙ not-false b n)) ∙ t)
 
-        pub operation_line_refused : (r : Refusal) → l.check ≡ Failed r → LinesTaken text lent arities' cells' (taken (Failed r) l.algebra)
-        operation_line_refused r g =
-            record {
-              value = came ∙ ap (λ (c : Check). operations_to_end fuel_left.0 text (progress_with c l.algebra arities' cells')) g ∙ to_end_refused fuel_left.0 text r;
-              few = t.readable.few;
-              fit = t.readable.fit;
-              spare = spare_kept;
-            }
-          where
-            spare_kept : drop l.algebra.operations arities' ≡ drop l.algebra.operations lent
-            spare_kept = t.kept.spare_arities ∙ drop_same a.operations l.algebra.operations arities lent t.kept.no_fewer p.spare
+      pub operation_line_refused : (arities' cells' : List ℕ) (r : Refusal) → OperationUntaken text a arities cells arities' cells' r → whole_algebra text ≡ refused r
+      unfolding so_far
+      operation_line_refused arities' cells' r t = came (refused r) t.value ∙ to_end_refused fuel_left.0 text r
 
+      module _ (arities' cells' : List ℕ) (l : AlgebraSoFar) (t : OperationTaken text a arities cells arities' cells' l) where
         -- each line gets nearer to the end of the text
-        pub line_past : l.check ≡ Passed → length text - l.algebra.at < length text - a.at
-        line_past g = let past : a.at + 1 ≤ l.algebra.at = rw g at t.past in omega arith
+        pub line_past : length text - l.at < length text - a.at
+        line_past = omega (arith, t.past)
 
-        pub lines_go_on : l.check ≡ Passed → LinesSoFar text lent arities' cells' l.algebra
-        lines_go_on g =
+        pub lines_go_on : LinesSoFar text lent arities' cells' l
+        unfolding so_far
+        lines_go_on =
             record {
               fuel = fuel_left.0;
-              enough = let past : a.at + 1 ≤ l.algebra.at = rw g at t.past in omega (arith, p.enough, fuel_left.1);
-              value = came ∙ ap (λ (c : Check). operations_to_end fuel_left.0 text (progress_with c l.algebra arities' cells')) g;
+              enough = omega (arith, t.past, p.enough, fuel_left.1);
+              value = came (progress_with (Ok l) arities' cells') t.value;
               readable = t.readable;
-              spare = t.kept.spare_arities ∙ drop_same a.operations l.algebra.operations arities lent t.kept.no_fewer p.spare;
+              spare = t.kept.spare_arities ∙ drop_same a.operations l.operations arities lent t.kept.no_fewer p.spare;
             }
 
 -- what the reader makes of the lines of a whole text
-module _ (text arities cells : List ℕ) (l : LineTaken) (t : LinesTaken text (replicate 16 0) arities cells l) (lent : List ℕ) where
-  pub whole_refused : (r : Refusal) → l.check ≡ Failed r → (answer : AlgebraRead) → answer ≡ algebra_read (refused r) → (answer, lent) ≡ whole_call text lent
-  unfolding whole_call cells_read
-  whole_refused r e answer g =
-      let p : whole_algebra text ≡ refused r = t.value ∙ ap (λ (c : Check). progress_with c l.algebra arities cells) e in
-      rw (g, p)
+pub whole_refused : (text lent : List ℕ) {r : Refusal} → whole_algebra text ≡ refused r → {answer : Result AlgebraRead Refusal} → IsErrAnd answer (λ e. e ≡ r)
+    → (answer, lent) ≡ whole_call text lent
+unfolding whole_call algebra_read cells_read
+whole_refused text lent e h = rw (handed_on h, e) refl
 
+module _ (text arities cells : List ℕ) (l : AlgebraSoFar) (t : LinesTaken text (replicate 16 0) arities cells l) (lent : List ℕ) where
   -- the arities, and 0 behind them
-  arities_read : length arities ≡ 16 → arities ≡ take l.algebra.operations arities ++ replicate (16 - length (take l.algebra.operations arities)) 0
+  arities_read : length arities ≡ 16 → arities ≡ take l.operations arities ++ replicate (16 - length (take l.operations arities)) 0
   arities_read h =
-      let k = l.algebra.operations in
+      let k = l.operations in
       let n : length (take k arities) ≡ k = length-take-le k arities (omega (arith, t.few)) in
       sym (take-append-drop k arities) ∙ ap (λ (x : List ℕ). take k arities ++ x) (t.spare ∙ drop_zeros k 16 ∙ ap (λ (j : ℕ). replicate (16 - j) 0) (sym n))
 
-  pub whole_read : l.check ≡ Passed → length arities ≡ 16 → 32768 ≤ length cells → (after : List ℕ) (end : ℕ)
-      → Laid lent 0 (take (l.algebra.cells - 0) (drop 0 cells)) after end
-      → (record { check = Passed; size = l.algebra.size; operations = l.algebra.operations; arities = arities; cells = l.algebra.cells }, after) ≡ whole_call text lent
+  pub whole_read : length arities ≡ 16 → 32768 ≤ length cells → (after : List ℕ) (end : ℕ) → Laid lent 0 (take (l.cells - 0) (drop 0 cells)) after end
+      → (Ok (record { size = l.size; operations = l.operations; arities = arities; cells = l.cells }), after) ≡ whole_call text lent
   unfolding whole_call cells_read algebra_read
-  whole_read e h r after end d =
-      let a = algebra_so_far l.algebra arities cells in
-      let p : whole_algebra text ≡ defined a l.algebra.at = t.value ∙ ap (λ (c : Check). progress_with c l.algebra arities cells) e in
-      let k : length (take l.algebra.operations arities) ≡ l.algebra.operations = length-take-le l.algebra.operations arities (omega (arith, t.few)) in
-      let c : length (take l.algebra.cells cells) ≡ l.algebra.cells = length-take-le l.algebra.cells cells (omega (arith, t.fit)) in
-      let made : ℕ → List ℕ → ℕ → AlgebraRead =
-      λ operations arities cells. record { check = Passed; size = l.algebra.size; operations = operations; arities = arities; cells = cells } in
-      ap (λ (x : List ℕ). (made l.algebra.operations x l.algebra.cells, after)) (arities_read h)
-      ∙ ap (λ (x : ℕ). (made x (a.arities ++ replicate (16 - length a.arities) 0) l.algebra.cells, after)) (sym k)
+  whole_read h r after end d =
+      let a = algebra_so_far l arities cells in
+      let p : whole_algebra text ≡ defined a l.at = t.value in
+      let k : length (take l.operations arities) ≡ l.operations = length-take-le l.operations arities (omega (arith, t.few)) in
+      let c : length (take l.cells cells) ≡ l.cells = length-take-le l.cells cells (omega (arith, t.fit)) in
+      let made : ℕ → List ℕ → ℕ → Result AlgebraRead Refusal =
+      λ operations arities cells. Ok (record { size = l.size; operations = operations; arities = arities; cells = cells }) in
+      ap (λ (x : List ℕ). (made l.operations x l.cells, after)) (arities_read h)
+      ∙ ap (λ (x : ℕ). (made x (a.arities ++ replicate (16 - length a.arities) 0) l.cells, after)) (sym k)
       ∙ ap (λ (x : ℕ). (made (length a.arities) (a.arities ++ replicate (16 - length a.arities) 0) x, after)) (sym c)
-      ∙ ap (λ (x : List ℕ). (algebra_read (defined a l.algebra.at), x))
-      (laid_at_start lent (take (l.algebra.cells - 0) cells) after end d ∙ ap (λ (j : ℕ). written (take j cells) lent) (sub-zero l.algebra.cells))
+      ∙ ap (λ (x : List ℕ). (algebra_read (defined a l.at), x))
+      (laid_at_start lent (take (l.cells - 0) cells) after end d ∙ ap (λ (j : ℕ). written (take j cells) lent) (sub-zero l.cells))
       ∙ ap (λ (x : Progress). (algebra_read x, cells_read x lent)) (sym p)
 
 -- 9, before the text is looked at
 module _ (text lent : List ℕ) where
-  pub read_short : length lent < 32768 → (answer : AlgebraRead) → answer ≡ algebra_read (refused Space) → (answer, lent) ≡ read_call text lent
-  unfolding read_call reading tested cells_read
-  read_short h answer e = rw (space_refused 32768 (length lent) [] h) (ap (λ (x : AlgebraRead). (x, lent)) e)
+  pub read_short : length lent < 32768 → (Err Space, lent) ≡ read_call text lent
+  unfolding read_call reading tested algebra_read cells_read
+  read_short h = rw (space_refused 32768 (length lent) [] h) refl
 
-  pub read_enough : 32768 ≤ length lent → (answer : AlgebraRead) (after : List ℕ) → (answer, after) ≡ whole_call text lent → (answer, after) ≡ read_call text lent
+  pub read_enough : 32768 ≤ length lent → (answer : Result AlgebraRead Refusal) (after : List ℕ) → (answer, after) ≡ whole_call text lent → (answer, after) ≡ read_call text lent
   unfolding read_call reading tested whole_call
   read_enough h answer after e = rw (space_passed 32768 (length lent) [] h, lowest_none) e

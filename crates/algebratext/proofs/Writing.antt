@@ -1,7 +1,7 @@
 -- The writer: what it may rely on once its tests have passed, and its answer with the lent bytes.
 use Prim.Native.Nat.{ℕ, ◌≤◌, ◌<◌}
 use mathlib.Core.List.{List, [], ◌∷◌}
-use mathlib.Core.Path.{◌≡◌, sym, ap, ◌∙◌}
+use mathlib.Core.Path.{◌≡◌, sym, ◌∙◌}
 use native.Mathlib.Omega.{arith}
 use lib.ListN.{length, take}
 use lib.Seq.{take_all}
@@ -9,9 +9,8 @@ use Rattle.equivalence.specs.Lent.{written, laid}
 use Rattle.equivalence.specs.Refusal.{lowest, space_test}
 use Rattle.equivalence.specs.declared.Refusal.{Refusal}
 use Rattle.equivalence.specs.declared.Refusal.TheVariants.{Space}
-use Rattle.equivalence.specs.declared.Check.{Check}
-use Rattle.equivalence.specs.declared.Check.TheVariants.{Passed, Failed}
-use Rattle.equivalence.proofs.Refusals.{of_passed, of_space_test, space_refused, space_passed}
+use Rattle.std.specs.Prelude.{⊤, Result, Ok, Err, IsErrAnd}
+use Rattle.equivalence.proofs.Refusals.{handed_on, of_passed, of_space_test, space_refused, space_passed}
 use Rattle.algebra.specs.Algebra.{Algebra, algebra_of, cell_count}
 use Rattle.algebra.specs.Accepted.{algebra_tests, Accepted}
 use Rattle.algebra.proofs.Accepted.{accepted_well_formed}
@@ -23,7 +22,6 @@ use Rattle.tablewriter.specs.InnerLengths.{Measurable}
 use Rattle.tablewriter.proofs.Bounds.{text_bound}
 use Rattle.algebratext.specs.Bounds.{TextBounded}
 use Rattle.algebratext.specs.Calls.{write_tests, write_call}
-use Rattle.algebratext.specs.declared.TextWritten.TheVariants.{Length, Refused}
 
 -- an accepted algebra has the cells of all its tables
 accepted_tables : (n : ℕ) (arities cells : List ℕ) → Accepted (algebra_of n arities cells) → TablesThere n arities cells
@@ -31,7 +29,7 @@ accepted_tables n arities cells a =
     let w = accepted_well_formed (algebra_of n arities cells) a in
     record { some = w.some; most = w.most; few = w.operations; arity = w.arity; there = omega (arith, w.filled) }
 
-module _ (n : ℕ) (arities cells : List ℕ) {check : Check} (known : check ≡ Passed) where
+module _ (n : ℕ) (arities cells : List ℕ) {check : Result ⊤ Refusal} (known : check ≡ Ok tt) where
   -- and its text can be measured
   pub text_measurable : check ≡ lowest (algebra_tests (algebra_of n arities cells)) → Measurable n arities cells
   text_measurable e =
@@ -48,11 +46,11 @@ module _ (n : ℕ) (arities cells : List ℕ) {check : Check} (known : check ≡
       record { tables = accepted_tables n arities cells p.0; room = of_space_test (length (algebra_text a)) (length out) (of_passed space [] p.1).0 }
 
 -- 9 by the length that was counted
-module _ (a : Algebra) (room long : ℕ) (e : long ≡ length (algebra_text a)) {check : Check} (known : check ≡ Passed) (g : check ≡ lowest (algebra_tests a)) where
-  pub text_too_long : room < long → Failed Space ≡ lowest (write_tests a room)
+module _ (a : Algebra) (room long : ℕ) (e : long ≡ length (algebra_text a)) {check : Result ⊤ Refusal} (known : check ≡ Ok tt) (g : check ≡ lowest (algebra_tests a)) where
+  pub text_too_long : room < long → Err Space ≡ lowest (write_tests a room)
   text_too_long h = algebra_passes a (space_test (length (algebra_text a)) room ∷ []) known g (sym (space_refused (length (algebra_text a)) room [] (omega arith)))
 
-  pub text_short_enough : long ≤ room → Passed ≡ lowest (write_tests a room)
+  pub text_short_enough : long ≤ room → Ok tt ≡ lowest (write_tests a room)
   text_short_enough h =
       algebra_passes a (space_test (length (algebra_text a)) room ∷ []) known g (all_pass ∙ sym (space_passed (length (algebra_text a)) room [] (omega arith)))
 
@@ -61,18 +59,17 @@ pub laid_at_start : (lent new after : List ℕ) (end : ℕ) → Laid lent 0 new 
 unfolding laid
 laid_at_start lent new after end l = l.bytes
 
-module _ (a : Algebra) (lent : List ℕ) {check : Check} (e : check ≡ lowest (write_tests a (length lent))) where
-  pub write_declined : (r : Refusal) → check ≡ Failed r → (Refused r, lent) ≡ write_call a lent
+module _ (a : Algebra) (lent : List ℕ) {check : Result ⊤ Refusal} (e : check ≡ lowest (write_tests a (length lent))) where
+  pub write_declined : {r : Refusal} → check ≡ Err r → {answer : Result ℕ Refusal} → IsErrAnd answer (λ e. e ≡ r) → (answer, lent) ≡ write_call a lent
   unfolding write_call
-  write_declined = declined Refused _ _ _ lent e
+  write_declined known h = rw (handed_on h) (declined _ _ _ lent e _ known)
 
-  pub write_granted : (after : List ℕ) (end : ℕ) → check ≡ Passed → Laid lent 0 (algebra_text a) after end → (Length end, after) ≡ write_call a lent
+  pub write_granted : (after : List ℕ) (end : ℕ) → check ≡ Ok tt → Laid lent 0 (algebra_text a) after end → (Ok end, after) ≡ write_call a lent
   unfolding write_call
-  write_granted after end known l =
-      granted Refused _ _ _ lent e known (ap Length (omega (arith, l.place))) (laid_at_start lent (algebra_text a) after end l)
+  write_granted after end known l = granted _ _ _ lent e known (omega (arith, l.place)) (laid_at_start lent (algebra_text a) after end l)
 
 -- no text is longer than its cells let it be
-module _ (n : ℕ) (arities cells lent : List ℕ) {check : Check} (known : check ≡ Passed) (e : check ≡ lowest (write_tests (algebra_of n arities cells) (length lent))) where
+module _ (n : ℕ) (arities cells lent : List ℕ) {check : Result ⊤ Refusal} (known : check ≡ Ok tt) (e : check ≡ lowest (write_tests (algebra_of n arities cells) (length lent))) where
   text_bounded : length (algebra_text (algebra_of n arities cells)) ≤ 131290
   text_bounded =
       let a = algebra_of n arities cells in
@@ -81,8 +78,8 @@ module _ (n : ℕ) (arities cells lent : List ℕ) {check : Check} (known : chec
       let all : take (cell_count n arities) cells ≡ cells = take_all (cell_count n arities) cells (omega (arith, w.filled)) in
       omega (arith, w.room, text_bound n arities cells (accepted_tables n arities cells accepted) (rw all (λ i h. omega (arith, w.below i h, w.most))))
 
-  pub length_bounded : (after : List ℕ) (end : ℕ) → Laid lent 0 (algebra_text (algebra_of n arities cells)) after end → TextBounded (Length end)
-  length_bounded after end l k f = let g : end ≡ k = cc in omega (arith, text_bounded, l.place)
+  pub length_bounded : (after : List ℕ) (end : ℕ) → Laid lent 0 (algebra_text (algebra_of n arities cells)) after end → end ≤ 131290
+  length_bounded after end l = omega (arith, text_bounded, l.place)
 
-pub refusal_unbounded : (r : Refusal) → TextBounded (Refused r)
-refusal_unbounded r k f = let z : ◌≡◌ {A = ℕ} 0 1 = cc in absurd (omega arith)
+pub refusal_unbounded : (r : Refusal) (answer : Result ℕ Refusal) → IsErrAnd answer (λ e. e ≡ r) → TextBounded answer
+refusal_unbounded r answer h = rw (handed_on h) tt

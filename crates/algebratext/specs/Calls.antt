@@ -1,36 +1,28 @@
 -- What the writer and the reader of algebras answer, and every lent byte after the call.
-use Rattle.std.specs.Prelude.{ℕ, ◌-◌, List, [], ◌∷◌, ◌++◌, length, replicate}
+use Rattle.std.specs.Prelude.{ℕ, ◌-◌, List, [], ◌∷◌, ◌++◌, length, replicate, Result, Ok, Err}
 use Rattle.equivalence.specs.Lent.{written}
 use Rattle.equivalence.specs.Refusal.{Test, lowest, space_test, serve}
-use Rattle.equivalence.specs.declared.Check.TheVariants.{Passed, Failed}
+use Rattle.equivalence.specs.declared.Refusal.{Refusal}
 use Rattle.algebra.specs.Algebra.{Algebra}
 use Rattle.algebra.specs.Accepted.{algebra_tests}
 use Rattle.reader.specs.Lines.{Progress, defined, refused, tested}
 use Rattle.tablewriter.specs.Texts.{algebra_text}
 use Rattle.algebratext.specs.Whole.{whole_algebra}
 use Rattle.algebratext.specs.declared.AlgebraRead.{AlgebraRead}
-use Rattle.algebratext.specs.declared.TextWritten.{TextWritten}
-use Rattle.algebratext.specs.declared.TextWritten.TheVariants.{Length, Refused}
 
 -- the writer's tests: 1 to 6, and 9 with the text's own length
 abbrev pub write_tests : Algebra → ℕ → List Test
 write_tests a room = algebra_tests a ++ (space_test (length (algebra_text a)) room ∷ [])
 
 -- the writer: the text of the algebra, and how long it is
-unfoldable pub write_call : Algebra → List ℕ → TextWritten × List ℕ
-write_call a lent = serve Refused (write_tests a (length lent)) (Length (length (algebra_text a))) (algebra_text a) lent
+unfoldable pub write_call : Algebra → List ℕ → Result ℕ Refusal × List ℕ
+write_call a lent = serve (write_tests a (length lent)) (length (algebra_text a)) (algebra_text a) lent
 
--- what the reader answers: the numbers of the algebra, its arities with 0 behind them; or a refusal, and zeros
-unfoldable pub algebra_read : Progress → AlgebraRead
+-- what the reader answers: the numbers of the algebra, its arities with 0 behind them; or a refusal
+unfoldable pub algebra_read : Progress → Result AlgebraRead Refusal
 algebra_read (defined a at) =
-    record {
-      check = Passed;
-      size = a.size;
-      operations = length a.arities;
-      arities = a.arities ++ replicate (16 - length a.arities) 0;
-      cells = length a.cells;
-    }
-algebra_read (refused r) = record { check = Failed r; size = 0; operations = 0; arities = replicate 16 0; cells = 0 }
+    Ok (record { size = a.size; operations = length a.arities; arities = a.arities ++ replicate (16 - length a.arities) 0; cells = length a.cells })
+algebra_read (refused r) = Err r
 
 -- the lent bytes after it: the cells of the algebra at their start; a refusal writes nothing
 unfoldable pub cells_read : Progress → List ℕ → List ℕ
@@ -42,5 +34,5 @@ unfoldable pub reading : List ℕ → ℕ → Progress
 reading text room = tested (lowest (space_test 32768 room ∷ [])) (whole_algebra text)
 
 -- the reader
-unfoldable pub read_call : List ℕ → List ℕ → AlgebraRead × List ℕ
+unfoldable pub read_call : List ℕ → List ℕ → Result AlgebraRead Refusal × List ℕ
 read_call text lent = (algebra_read (reading text (length lent)), cells_read (reading text (length lent)) lent)

@@ -15,8 +15,7 @@ use Rattle.quotient.specs.Quotient.{quotient_cells, quotient}
 use Rattle.theory.proofs.Quotients.{quotient_cells_length, quotient_well_formed}
 use Rattle.congruence.specs.Calls.{quotient_call}
 use Rattle.congruence.specs.Outcome.{divided_outcome}
-use Rattle.congruence.specs.declared.Divided.{Divided}
-use Rattle.congruence.specs.declared.Divided.TheVariants.{Blocks, Refused as DivideRefused}
+use Rattle.std.specs.Prelude.{Result, Ok, Err}
 use Rattle.algebra.proofs.Congruences.{congruence_is}
 use Rattle.congruence.proofs.Meanings.{quotient_gave}
 use Rattle.tablereader.specs.Laying.{Laid}
@@ -31,21 +30,21 @@ use Rattle.answers.specs.Answers.{quotient_lines, answer}
 use Rattle.answers.specs.InnerPromises.{QuotientFits, Zeros}
 
 -- the lines for each case of the answer
-module _ (arities cells lent out : List ℕ) (end : ℕ) (d : Divided) where
-  pub lines_of_blocks : (b : ℕ) → d ≡ Blocks b → Laid lent 0 (algebra_text (algebra_of b arities cells)) out end → Laid lent 0 (quotient_lines arities d cells) out end
+module _ (arities cells lent out : List ℕ) (end : ℕ) (d : Result ℕ Refusal) where
+  pub lines_of_blocks : (b : ℕ) → d ≡ Ok b → Laid lent 0 (algebra_text (algebra_of b arities cells)) out end → Laid lent 0 (quotient_lines arities d cells) out end
   unfolding quotient_lines divided_outcome success outcome_line
   lines_of_blocks b e l = rw e l
 
-  pub line_of_divide_refused : (r : Refusal) → d ≡ DivideRefused r → Laid lent 0 (refused_line r) out end → Laid lent 0 (quotient_lines arities d cells) out end
+  pub line_of_divide_refused : (r : Refusal) → d ≡ Err r → Laid lent 0 (refused_line r) out end → Laid lent 0 (quotient_lines arities d cells) out end
   unfolding quotient_lines divided_outcome
   line_of_divide_refused r e l = rw (e, outcome_refused) l
 
 -- where b blocks were given, there is room for their lines
-pub blocks_fit : (d : Divided) (arities cells out : List ℕ) → QuotientFits d arities cells out → (b : ℕ) → d ≡ Blocks b → LinesFit b arities cells out
+pub blocks_fit : (d : Result ℕ Refusal) (arities cells out : List ℕ) → QuotientFits d arities cells out → (b : ℕ) → d ≡ Ok b → LinesFit b arities cells out
 blocks_fit d arities cells out f b e = f.lines b e
 
 -- a call that gave b blocks
-module _ (a : Algebra) (m : Map) (lent cells : List ℕ) (b : ℕ) (e : quotient_call a m lent ≡ (Blocks b, cells)) where
+module _ (a : Algebra) (m : Map) (lent cells : List ℕ) (b : ℕ) (e : quotient_call a m lent ≡ (Ok b, cells)) where
   accepted : WellFormed (quotient a m)
   accepted =
       let g = quotient_gave a m lent cells b e in
@@ -93,7 +92,7 @@ module _ (a : Algebra) (m : Map) (lent cells : List ℕ) (b : ℕ) (e : quotient
       record { tables = given_tables; room = omega (arith, text_bound b a.arities cells given_tables given_short) }
 
 -- Quotient, lent zeros
-module _ (n : ℕ) (arities cells before tables out : List ℕ) (d : Divided) (m : Map) (z : Zeros (length cells) n (length cells) before out)
+module _ (n : ℕ) (arities cells before tables out : List ℕ) (d : Result ℕ Refusal) (m : Map) (z : Zeros (length cells) n (length cells) before out)
     (e : (d, tables) ≡ quotient_call (algebra_of n arities cells) m before) where
   pub quotient_fits : QuotientFits d arities tables out
   quotient_fits =
@@ -101,7 +100,7 @@ module _ (n : ℕ) (arities cells before tables out : List ℕ) (d : Divided) (m
         line = omega (arith, z.fits.line);
         lines =
             λ b g.
-            given_fits (algebra_of n arities cells) m before tables b (sym e ∙ ap (λ (x : Divided). (x, tables)) g) out
+            given_fits (algebra_of n arities cells) m before tables b (sym e ∙ ap (λ (x : Result ℕ Refusal). (x, tables)) g) out
             (omega (arith, z.fits.line, ap length z.zeros ∙ length-replicate {A = ℕ} (length cells) 0));
       }
 

@@ -1,12 +1,11 @@
 -- What inner functions promise each other: the line that a request is answered with, and the bytes and the room that they are lent.
-use Rattle.std.specs.Prelude.{ℕ, ◌+◌, ◌*◌, ◌≤◌, ◌<◌, List, ◌≡◌, length, replicate}
+use Rattle.std.specs.Prelude.{ℕ, ◌+◌, ◌*◌, ◌≤◌, ◌<◌, List, ◌≡◌, length, replicate, Result, Ok}
 use Rattle.std.specs.Borrow.{MutBor}
 use Rattle.algebra.specs.Algebra.{Algebra}
 use Rattle.theory.specs.Decompose.{most_factor_space}
-use Rattle.congruence.specs.declared.Decomposed.{Decomposed}
-use Rattle.congruence.specs.declared.Decomposed.TheVariants.{Factors}
-use Rattle.congruence.specs.declared.Divided.{Divided}
-use Rattle.congruence.specs.declared.Divided.TheVariants.{Blocks}
+use Rattle.equivalence.specs.declared.Refusal.{Refusal}
+use Rattle.congruence.specs.Decomposed.{Decomposed}
+use Rattle.congruence.specs.Decomposed.TheVariants.{Factors}
 use Rattle.tablewriter.specs.InnerFits.{LinesFit}
 use Rattle.tablereader.specs.Laying.{Laid}
 use Rattle.reader.specs.declared.requests.Asked.{Asked}
@@ -30,17 +29,17 @@ pub record MapFits (map out : List ℕ) : Type 0 where
   pub line : 4 * length map + 18 ≤ length out
 
 -- Decompose's answer over n elements, the list that it was lent, and room for a line
-pub record FactorsFit (answer : Decomposed) (n : ℕ) (factors out : List ℕ) : Type 0 where
+pub record FactorsFit (answer : Result Decomposed Refusal) (n : ℕ) (factors out : List ℕ) : Type 0 where
   pub some : 0 < n
   pub most : n ≤ 64
   pub line : 258 * n + 22 ≤ length out
   pub list : length factors ≡ most_factor_space n
-  pub few : (k : ℕ) → answer ≡ Factors k → k < n
+  pub few : (k : ℕ) → answer ≡ Ok (Factors k) → k < n
 
 -- Quotient's answer over these arities, the cells that it wrote, and room for the lines
-pub record QuotientFits (answer : Divided) (arities cells out : List ℕ) : Type 0 where
+pub record QuotientFits (answer : Result ℕ Refusal) (arities cells out : List ℕ) : Type 0 where
   pub line : 14 ≤ length out
-  pub lines : (b : ℕ) → answer ≡ Blocks b → LinesFit b arities cells out
+  pub lines : (b : ℕ) → answer ≡ Ok b → LinesFit b arities cells out
 
 -- k zero bytes for what a service writes, and room for a line over n elements and so many cells
 pub record Zeros (k n cells : ℕ) (bytes out : List ℕ) : Type 0 where

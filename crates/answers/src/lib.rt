@@ -10,8 +10,8 @@ ghost use Rattle.tablereader.specs.Laying.{Laid};
 ghost use Rattle.answers.specs.InnerPromises.{Answered, LineFits, MapFits, FactorsFit, QuotientFits, Zeros};
 
 use algebra::MAX_CELLS;
-use congruence::{Decomposed, Divided, Generated};
-use equivalence::Written;
+use congruence::Decomposed;
+use equivalence::Refusal;
 use linewriter::{write_factors, write_generated, write_irreducible, write_map, write_refused};
 use reader::requests::Asked;
 use tablewriter::lines::write_lines;
@@ -20,47 +20,57 @@ use tablewriter::lines::write_lines;
 const MOST_SPACE: usize = 4032;
 
 // The line for Generate's answer, which wrote the map.
-fn write_generate(answer: Generated, map: &[u8], out: &mut [u8]) -> usize
+fn write_generate(answer: Result<u8, Refusal>, map: &[u8], out: &mut [u8]) -> usize
     requires { MapFits map.now out.old }
     ensures { Laid out.old 0 (generated_line answer map.now) out.new result }
 {
     match answer {
-        Generated::Merges(count) => write_generated(count, map, out),
-        Generated::Refused(reason) => write_refused(reason, out),
+        Ok(count) => write_generated(count, map, out),
+        Err(reason) => write_refused(reason, out),
     }
 }
 
 // The line for the answer of Contained or of Separate, which wrote the map.
-fn write_written(answer: Written, map: &[u8], out: &mut [u8]) -> usize
+fn write_written(answer: Result<(), Refusal>, map: &[u8], out: &mut [u8]) -> usize
     requires { MapFits map.now out.old }
     ensures { Laid out.old 0 (map_line answer map.now) out.new result }
 {
     match answer {
-        Written::Done => write_map(map, out),
-        Written::Refused(reason) => write_refused(reason, out),
+        Ok(()) => write_map(map, out),
+        Err(reason) => write_refused(reason, out),
     }
 }
 
 // The line for Decompose's answer, which wrote the factors one after another.
-fn write_decompose(n: usize, answer: Decomposed, factors: &[u8], out: &mut [u8]) -> usize
+fn write_decompose(
+    n: usize,
+    answer: Result<Decomposed, Refusal>,
+    factors: &[u8],
+    out: &mut [u8],
+) -> usize
     requires { FactorsFit answer n factors.now out.old }
     ensures { Laid out.old 0 (factors_line n answer factors.now) out.new result }
 {
     match answer {
-        Decomposed::Factors(count) => write_factors(n, count as usize, factors, out),
-        Decomposed::Irreducible(x, y) => write_irreducible(x.0, y.0, out),
-        Decomposed::Refused(reason) => write_refused(reason, out),
+        Ok(Decomposed::Factors(count)) => write_factors(n, count as usize, factors, out),
+        Ok(Decomposed::Irreducible(x, y)) => write_irreducible(x.0, y.0, out),
+        Err(reason) => write_refused(reason, out),
     }
 }
 
 // The lines for Quotient's answer, which wrote the cells of the algebra of blocks first.
-fn write_quotient(answer: Divided, arities: &[u8], cells: &[u8], out: &mut [u8]) -> usize
+fn write_quotient(
+    answer: Result<u8, Refusal>,
+    arities: &[u8],
+    cells: &[u8],
+    out: &mut [u8],
+) -> usize
     requires { QuotientFits answer arities.now cells.now out.old }
     ensures { Laid out.old 0 (quotient_lines arities.now answer cells.now) out.new result }
 {
     match answer {
-        Divided::Blocks(count) => write_lines(count as usize, arities, cells, out),
-        Divided::Refused(reason) => write_refused(reason, out),
+        Ok(count) => write_lines(count as usize, arities, cells, out),
+        Err(reason) => write_refused(reason, out),
     }
 }
 
@@ -144,28 +154,13 @@ fn answer_quotient(
     write_quotient(answer, arities, blocks, out)
 }
 
-// The same, lent the bytes from more of them.
-fn answer_quotient_into(
-    n: usize,
-    arities: &[u8],
-    cells: &[u8],
-    map: &[u8],
-    space: &mut [u8],
-    out: &mut [u8],
-) -> usize
-    requires { Zeros 32768 n (length cells.now) space.old out.old }
-    ensures { Answered (algebra_in n arities.entry cells.entry) Quotient map.now out.entry out.exit result }
-{
-    answer_quotient(n, arities, cells, map, &mut space[0..cells.len()], out)
-}
-
 // The answer to a request for a quotient, which alone wants room for cells.
 fn answer_cells(n: usize, arities: &[u8], cells: &[u8], map: &[u8], out: &mut [u8]) -> usize
     requires { LineFits n (length cells.now) out.old }
     ensures { Answered (algebra_in n arities.entry cells.entry) Quotient map.now out.entry out.exit result }
 {
     let mut space = [0u8; MAX_CELLS];
-    answer_quotient_into(n, arities, cells, map, &mut space, out)
+    answer_quotient(n, arities, cells, map, &mut space[..cells.len()], out)
 }
 
 // The answer to what a request asks, with the numbers that were stored for it; a service that writes maps is lent just what any algebra over n elements
@@ -183,10 +178,10 @@ fn answer_into(
     ensures { Answered (algebra_in n arities.entry cells.entry) asked numbers.now out.entry out.exit result }
 {
     match asked {
-        Asked::Generate => answer_generate(n, arities, cells, numbers, &mut space[0..n], out),
-        Asked::Contained => answer_contained(n, arities, cells, numbers, &mut space[0..n], out),
-        Asked::Separate(v, w) => answer_separate(n, arities, cells, v, w, &mut space[0..n], out),
-        Asked::Decompose => answer_decompose(n, arities, cells, &mut space[0..(n - 1) * n], out),
+        Asked::Generate => answer_generate(n, arities, cells, numbers, &mut space[..n], out),
+        Asked::Contained => answer_contained(n, arities, cells, numbers, &mut space[..n], out),
+        Asked::Separate(v, w) => answer_separate(n, arities, cells, v, w, &mut space[..n], out),
+        Asked::Decompose => answer_decompose(n, arities, cells, &mut space[..(n - 1) * n], out),
         Asked::Quotient => answer_cells(n, arities, cells, numbers, out),
     }
 }

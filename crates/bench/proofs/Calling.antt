@@ -2,47 +2,82 @@
 use Prim.Native.Nat.{ℕ, ◌≤◌, ◌<◌}
 use mathlib.Core.List.{List, [], ◌∷◌, ◌++◌}
 use mathlib.Core.Logic.{◌⊎◌, inl, inr}
-use mathlib.Core.Path.{◌≡◌, refl, ◌∙◌}
+use mathlib.Core.Path.{◌≡◌, refl, ap, ◌∙◌}
 use native.Mathlib.Omega.{arith}
-use lib.Dec.{ltb, ltb→lt, lt→ltb}
+use lib.Dec.{ltb→lt, lt→ltb}
+use Rattle.std.specs.Prelude.{⊤, Result, Ok, Err, IfOk, MatchResult}
 use Rattle.equivalence.specs.Refusal.{Test, lowest, answered}
-use Rattle.equivalence.proofs.Refusals.{lowest_none, lowest_next, lowest_here, lowest_append}
-use Rattle.equivalence.specs.declared.Check.TheVariants.{Passed, Failed}
-use Rattle.equivalence.specs.declared.Check.{Check}
+use Rattle.equivalence.proofs.Refusals.{ok_never, err_never, lowest_none, lowest_next, lowest_here, lowest_append}
 use Rattle.equivalence.specs.declared.Refusal.{Refusal}
 use Rattle.equivalence.specs.declared.Refusal.TheVariants.{Tally}
 use Rattle.bench.specs.Calls.{tally_test, benched}
-use Rattle.bench.proofs.Giving.{given_passed, given_failed, given_cases, given_answer, given_done, given_refused, given_no, given_yes}
-use Rattle.bench.specs.declared.Answer.{Answer}
-use Rattle.bench.specs.declared.Answer.TheVariants.{Done, Refused}
-use Rattle.benchsheets.specs.declared.Bench.{Bench}
 use Rattle.bench.specs.declared.Benched.{Benched}
 
-abbrev pub done_with : Bench → Benched
-done_with b = record { answer = Done; bench = b }
+-- what holds where tests pass
+pub if_passed : (P : ⊤ → Type 0) (check : Result ⊤ Refusal) → (check ≡ Ok tt → P tt) → IfOk check P
+if_passed P (Ok x) h = h refl
+if_passed P (Err r) h = tt
 
-abbrev pub refused : Refusal → Bench → Benched
-refused r b = record { answer = Refused r; bench = b }
+module _ {B : Type 0} where
+  abbrev pub done_with : B → Benched B
+  done_with b = record { answer = Ok tt; bench = b }
 
-abbrev give : Answer → Bench → Benched
-give a b = record { answer = a; bench = b }
+  abbrev pub refused : Refusal → B → Benched B
+  refused r b = record { answer = Err r; bench = b }
 
-module _ (tests : List Test) (new other : Bench) where
-  pub benched_passed : lowest tests ≡ Passed → benched tests new other ≡ done_with new
-  unfolding benched
-  benched_passed e = given_passed give new other (lowest tests) e
+  abbrev benched_of : Result ⊤ Refusal → B → Benched B
+  benched_of a b = record { answer = a; bench = b }
 
-  pub benched_failed : (r : Refusal) → lowest tests ≡ Failed r → benched tests new other ≡ refused r other
-  unfolding benched
-  benched_failed r e = given_failed give new other (lowest tests) r e
+  same_benched : (g h : Benched B) → g.answer ≡ h.answer → g.bench ≡ h.bench → g ≡ h
+  same_benched g h e f =
+      ap (λ (a : Result ⊤ Refusal). benched_of a g.bench) e ∙ ap (benched_of h.answer) f
+
+  module _ (new other : B) where
+    -- done, with the new bench; or refused, with the other
+    abbrev given : Result ⊤ Refusal → Benched B
+    given c = answered (λ r. refused r other) c (done_with new)
+
+    given_cases : (c : Result ⊤ Refusal) → ((c ≡ Ok tt) × (given c ≡ done_with new)) ⊎ ((r : Refusal) × (given c ≡ refused r other))
+    unfolding answered
+    given_cases (Ok x) = inl (refl, refl)
+    given_cases (Err r) = inr (r, refl)
+
+    given_answer : (c : Result ⊤ Refusal) → (given c).answer ≡ answered Err c (Ok tt)
+    unfolding answered
+    given_answer (Ok x) = refl
+    given_answer (Err r) = refl
+
+    given_done : (c : Result ⊤ Refusal) → (given c).answer ≡ Ok tt → (given c).bench ≡ new
+    unfolding answered
+    given_done (Ok x) e = refl
+    given_done (Err r) e = absurd (err_never e)
+
+    given_refused : (c : Result ⊤ Refusal) (r : Refusal) → (given c).answer ≡ Err r → (given c).bench ≡ other
+    unfolding answered
+    given_refused (Ok x) r e = absurd (ok_never e)
+    given_refused (Err s) r e = refl
+
+    given_by : (c : Result ⊤ Refusal) (g : Benched B) (P : ⊤ → Type 0) → g.answer ≡ c → MatchResult c P (λ r. g.bench ≡ other) → (P tt → g.bench ≡ new) → g ≡ given c
+    unfolding answered
+    given_by (Ok x) g P e m h = same_benched _ _ e (h m)
+    given_by (Err r) g P e m h = same_benched _ _ e m
+
+module _ {B : Type 0} (tests : List Test) (new other : B) where
+  pub benched_passed : lowest tests ≡ Ok tt → benched tests new other ≡ done_with new
+  unfolding benched answered
+  benched_passed e = rw e
+
+  pub benched_failed : (r : Refusal) → lowest tests ≡ Err r → benched tests new other ≡ refused r other
+  unfolding benched answered
+  benched_failed r e = rw e
 
   -- one or the other
-  pub benched_cases : ((lowest tests ≡ Passed) × (benched tests new other ≡ done_with new)) ⊎ ((r : Refusal) × (benched tests new other ≡ refused r other))
+  pub benched_cases : ((lowest tests ≡ Ok tt) × (benched tests new other ≡ done_with new)) ⊎ ((r : Refusal) × (benched tests new other ≡ refused r other))
   unfolding benched
-  benched_cases = given_cases give new other (lowest tests)
+  benched_cases = given_cases new other (lowest tests)
 
   -- and what the tests leave
-  pub call_cases : {Left : Type 0} → (lowest tests ≡ Passed → Left) → (Left × (benched tests new other ≡ done_with new)) ⊎ ((r : Refusal) × (benched tests new other ≡ refused r other))
+  pub call_cases : {Left : Type 0} → (lowest tests ≡ Ok tt → Left) → (Left × (benched tests new other ≡ done_with new)) ⊎ ((r : Refusal) × (benched tests new other ≡ refused r other))
   call_cases leaves =
       elim benched_cases [
         | inl p ↦ inl (leaves p.0, p.1)
@@ -50,36 +85,32 @@ module _ (tests : List Test) (new other : Bench) where
       ]
 
   -- the answer is that of the tests, whatever the benches
-  pub benched_answer : (benched tests new other).answer ≡ answered Refused (lowest tests) Done
+  pub benched_answer : (benched tests new other).answer ≡ answered Err (lowest tests) (Ok tt)
   unfolding benched
-  benched_answer = given_answer give new other (λ (g : Benched). g.answer) (λ a b. refl) (lowest tests)
+  benched_answer = given_answer new other (lowest tests)
 
   -- and the bench is known by the answer
-  pub benched_done : (benched tests new other).answer ≡ Done → (benched tests new other).bench ≡ new
+  pub benched_done : (benched tests new other).answer ≡ Ok tt → (benched tests new other).bench ≡ new
   unfolding benched
-  benched_done e = given_done give new other (λ (g : Benched). g.answer) (λ (g : Benched). g.bench) (λ a b. (refl, refl)) (lowest tests) e
+  benched_done e = given_done new other (lowest tests) e
 
-  pub benched_refused : (r : Refusal) → (benched tests new other).answer ≡ Refused r → (benched tests new other).bench ≡ other
+  pub benched_refused : (r : Refusal) → (benched tests new other).answer ≡ Err r → (benched tests new other).bench ≡ other
   unfolding benched
-  benched_refused r e = given_refused give new other (λ (g : Benched). g.answer) (λ (g : Benched). g.bench) (λ a b. (refl, refl)) (lowest tests) r e
+  benched_refused r e = given_refused new other (lowest tests) r e
 
-  -- by what the tests found
-  module _ {check : Check} (s : check ≡ lowest tests) where
-    pub benched_no : {r : Refusal} → check ≡ Failed r → (b : Bench) → b ≡ other → refused r b ≡ benched tests new other
-    unfolding benched
-    benched_no e b f = given_no give new other tests s e b f
-
-    pub benched_yes : check ≡ Passed → (b : Bench) → b ≡ new → done_with b ≡ benched tests new other
-    unfolding benched
-    benched_yes e b f = given_yes give new other tests s e b f
+  -- as `Benched::by` makes it, by what the tests found
+  pub benched_by : {check : Result ⊤ Refusal} → check ≡ lowest tests → (g : Benched B) (P : ⊤ → Type 0) → g.answer ≡ check → MatchResult check P (λ r. g.bench ≡ other) → (P tt → g.bench ≡ new)
+      → g ≡ benched tests new other
+  unfolding benched
+  benched_by {check} s g P e m h = given_by new other check g P e m h ∙ rw s
 
 -- tests that pass are passed over
-pub benched_append : (ts rest : List Test) (new other : Bench) → lowest ts ≡ Passed → benched (ts ++ rest) new other ≡ benched rest new other
+pub benched_append : {B : Type 0} (ts rest : List Test) (new other : B) → lowest ts ≡ Ok tt → benched (ts ++ rest) new other ≡ benched rest new other
 unfolding benched
 benched_append ts rest new other e = rw (lowest_append ts rest e)
 
 -- 13 applies, or does not
-module _ (tally : ℕ) (new other : Bench) where
+module _ {B : Type 0} (tally : ℕ) (new other : B) where
   pub tally_refused : 18446744073709551615 < tally → benched (tally_test tally ∷ []) new other ≡ refused Tally other
   unfolding tally_test
   tally_refused h = benched_failed (tally_test tally ∷ []) new other Tally (lowest_here (tally_test tally) [] (lt→ltb 18446744073709551615 tally h))

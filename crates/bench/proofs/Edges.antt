@@ -2,6 +2,7 @@
 use Prim.Native.Nat.{ℕ}
 use mathlib.Core.List.{List, [], ◌∷◌, ◌++◌}
 use mathlib.Core.Path.{◌≡◌, refl}
+use Rattle.std.specs.Prelude.{Ok, Err}
 use Rattle.equivalence.specs.Equivalence.{Map, is_map, holds, inside, names_of, blocks, map_of, identity, maps, best}
 use Rattle.equivalence.specs.Lists.{up_to, every, any, keep, first, concat}
 use Rattle.equivalence.specs.Refusal.{lowest, size_test, answered, elements_test}
@@ -22,7 +23,6 @@ use Rattle.benchtests.specs.Tests.{clear_tests, set_tests, known_tests}
 use Rattle.bench.specs.Calls.{clear_call, set_call, return_call, forget_call}
 use Rattle.benchsheets.specs.State.{eight_of, zero_bench, fresh_bench, sheet_of, with_sheet, with_map, blocks_lost}
 use Rattle.bench.proofs.Samples.{unary, named, low, high, faulty}
-use Rattle.bench.specs.declared.Answer.TheVariants.{Done, Refused}
 use Rattle.benchsheets.specs.declared.Bench.{Bench}
 
 -- a fresh bench over n, but that t blocks were lost earlier, and as many by sheets 0, 6 and 7
@@ -45,50 +45,50 @@ seven = low 1 ∷ high 2 ∷ low 3 ∷ low 4 ∷ low 5 ∷ low 6 ∷ high 7 ∷ 
 
 pub record Edges : Type 0 where
   -- sheet 7 is the last
-  pub last : (add_call (at 2 0) (bare 2) 7 0 1).answer ≡ Done
-  pub eight : ((add_call (at 2 0) (bare 2) 8 0 1).answer ≡ Refused Range) × ((clear_call (at 2 0) 8).answer ≡ Refused Range)
+  pub last : (add_call (at 2 0) (bare 2) 7 0 1).answer ≡ Ok tt
+  pub eight : ((add_call (at 2 0) (bare 2) 8 0 1).answer ≡ Err Range) × ((clear_call (at 2 0) 8).answer ≡ Err Range)
   -- a sheet's tally one below its top, and at it: an Add that loses nothing is accepted there
-  pub below : ((add_call (at 2 18446744073709551614) (bare 2) 0 0 1).answer ≡ Done)
+  pub below : ((add_call (at 2 18446744073709551614) (bare 2) 0 0 1).answer ≡ Ok tt)
       × ((sheet_of (add_call (at 2 18446744073709551614) (bare 2) 0 0 1).bench 0).tally ≡ 18446744073709551615)
-  pub top : ((add_call (at 2 18446744073709551615) (bare 2) 0 0 1).answer ≡ Refused Tally) × ((add_call (at 2 18446744073709551615) (bare 2) 0 1 1).answer ≡ Done)
-  pub two : (add_call (at 3 18446744073709551614) unary 0 0 1).answer ≡ Refused Tally
+  pub top : ((add_call (at 2 18446744073709551615) (bare 2) 0 0 1).answer ≡ Err Tally) × ((add_call (at 2 18446744073709551615) (bare 2) 0 1 1).answer ≡ Ok tt)
+  pub two : (add_call (at 3 18446744073709551614) unary 0 0 1).answer ≡ Err Tally
   -- beside sheets at their top, and all that was lost earlier, a sheet that is not at its own takes an Add; none of the others moves
-  pub beside : ((add_call (at 2 18446744073709551615) (bare 2) 1 0 1).answer ≡ Done)
+  pub beside : ((add_call (at 2 18446744073709551615) (bare 2) 1 0 1).answer ≡ Ok tt)
       × ((sheet_of (add_call (at 2 18446744073709551615) (bare 2) 1 0 1).bench 1).tally ≡ 1)
       × ((sheet_of (add_call (at 2 18446744073709551615) (bare 2) 1 0 1).bench 0).tally ≡ 18446744073709551615)
       × ((sheet_of (add_call (at 2 18446744073709551615) (bare 2) 1 0 1).bench 2).tally ≡ 0)
       × ((add_call (at 2 18446744073709551615) (bare 2) 1 0 1).bench.earlier ≡ 18446744073709551615)
   -- a bench of another n, and a bench of zeros
-  pub other : (add_call (at 3 0) (bare 2) 0 0 1).answer ≡ Refused NotMap
-  pub zeros : ((add_call zero_bench (bare 2) 0 0 1).answer ≡ Refused NotMap) × ((clear_call zero_bench 0).answer ≡ Refused Size) × ((start_call 65).bench ≡ zero_bench)
+  pub other : (add_call (at 3 0) (bare 2) 0 0 1).answer ≡ Err NotMap
+  pub zeros : ((add_call zero_bench (bare 2) 0 0 1).answer ≡ Err NotMap) × ((clear_call zero_bench 0).answer ≡ Err Size) × ((start_call 65).bench ≡ zero_bench)
   -- a sheet that is no map, though the call names another
-  pub unnamed : ((add_call (five (0 ∷ 2 ∷ 2 ∷ [])) (bare 3) 0 0 1).answer ≡ Refused NotMap) × ((clear_call (five (0 ∷ 2 ∷ 2 ∷ [])) 0).answer ≡ Refused NotMap)
+  pub unnamed : ((add_call (five (0 ∷ 2 ∷ 2 ∷ [])) (bare 3) 0 0 1).answer ≡ Err NotMap) × ((clear_call (five (0 ∷ 2 ∷ 2 ∷ [])) 0).answer ≡ Err NotMap)
   -- an equal pair: the old map, 0 0 2, is no congruence of the algebra, and a block is lost
   pub equal : (map_on 3 (sheet_of (add_call (five (0 ∷ 0 ∷ 2 ∷ [])) unary 5 1 1).bench 5) ≡ 0 ∷ 0 ∷ 0 ∷ [])
       × ((sheet_of (add_call (five (0 ∷ 0 ∷ 2 ∷ [])) unary 5 1 1).bench 5).tally ≡ 1)
   -- Set of a new name fills the first free place, of a held one its own; then eight are held, and a ninth is declined
   pub stored : ((sheet_of (set_call (pointed 7 (seven ++ (faulty ∷ []))) 5 (named 8)).bench 5).points ≡ seven ++ (record { name = named 8; map = 0 ∷ 1 ∷ 2 ∷ [] } ∷ []))
       × ((sheet_of (set_call (pointed 7 (seven ++ (faulty ∷ []))) 5 (named 8)).bench 5).count ≡ 8)
-      × ((set_call (pointed 8 (seven ++ (low 8 ∷ []))) 5 (named 8)).answer ≡ Done)
+      × ((set_call (pointed 8 (seven ++ (low 8 ∷ []))) 5 (named 8)).answer ≡ Ok tt)
       × ((sheet_of (set_call (pointed 8 (seven ++ (low 8 ∷ []))) 5 (named 8)).bench 5).count ≡ 8)
-      × ((set_call (pointed 8 (seven ++ (low 8 ∷ []))) 5 (named 9)).answer ≡ Refused PointsFull)
+      × ((set_call (pointed 8 (seven ++ (low 8 ∷ []))) 5 (named 9)).answer ≡ Err PointsFull)
   -- Return takes the map under the name; Forget puts the last held point into the free place
   pub returned : (map_on 3 (sheet_of (return_call (pointed 7 (seven ++ (faulty ∷ []))) 5 (named 2)).bench 5) ≡ 0 ∷ 1 ∷ 1 ∷ [])
-      × ((return_call (pointed 7 (seven ++ (faulty ∷ []))) 5 (named 9)).answer ≡ Refused UnknownName)
-      × ((return_call (pointed 7 (seven ++ (faulty ∷ []))) 4 (named 2)).answer ≡ Refused UnknownName)
+      × ((return_call (pointed 7 (seven ++ (faulty ∷ []))) 5 (named 9)).answer ≡ Err UnknownName)
+      × ((return_call (pointed 7 (seven ++ (faulty ∷ []))) 4 (named 2)).answer ≡ Err UnknownName)
   pub forgotten : ((sheet_of (forget_call (pointed 3 (low 1 ∷ high 2 ∷ low 3 ∷ [])) 5 (named 1)).bench 5).points ≡ low 3 ∷ high 2 ∷ low 3 ∷ [])
       × ((sheet_of (forget_call (pointed 3 (low 1 ∷ high 2 ∷ low 3 ∷ [])) 5 (named 1)).bench 5).count ≡ 2)
-      × ((forget_call (pointed 2 (low 1 ∷ high 2 ∷ low 3 ∷ [])) 5 (named 3)).answer ≡ Refused UnknownName)
+      × ((forget_call (pointed 2 (low 1 ∷ high 2 ∷ low 3 ∷ [])) 5 (named 3)).answer ≡ Err UnknownName)
   -- no call but Add moves the tally of its sheet
   pub kept : ((sheet_of (clear_call (pointed 1 (low 1 ∷ high 2 ∷ [])) 5).bench 5).tally ≡ 4) × ((sheet_of (set_call (pointed 1 (low 1 ∷ high 2 ∷ [])) 5 (named 2)).bench 5).tally ≡ 4)
       × ((sheet_of (return_call (pointed 1 (low 1 ∷ high 2 ∷ [])) 5 (named 1)).bench 5).tally ≡ 4)
       × ((sheet_of (forget_call (pointed 1 (low 1 ∷ high 2 ∷ [])) 5 (named 1)).bench 5).tally ≡ 4)
   -- faults of points, whichever sheet is named: a map that is none, two of one name, nine held; what stands in a free place is none
-  pub faults : ((clear_call (pointed 1 (faulty ∷ [])) 0).answer ≡ Refused NotMap) × ((clear_call (pointed 2 (low 1 ∷ high 1 ∷ [])) 0).answer ≡ Refused NotMap)
-      × ((clear_call (pointed 9 (seven ++ (low 8 ∷ []))) 0).answer ≡ Refused NotMap)
-      × ((clear_call (pointed 1 (low 1 ∷ high 1 ∷ faulty ∷ [])) 0).answer ≡ Done)
-      × ((set_call (pointed 1 (faulty ∷ [])) 8 (named 1)).answer ≡ Refused Range)
-      × ((set_call zero_bench 8 (named 1)).answer ≡ Refused Size)
+  pub faults : ((clear_call (pointed 1 (faulty ∷ [])) 0).answer ≡ Err NotMap) × ((clear_call (pointed 2 (low 1 ∷ high 1 ∷ [])) 0).answer ≡ Err NotMap)
+      × ((clear_call (pointed 9 (seven ++ (low 8 ∷ []))) 0).answer ≡ Err NotMap)
+      × ((clear_call (pointed 1 (low 1 ∷ high 1 ∷ faulty ∷ [])) 0).answer ≡ Ok tt)
+      × ((set_call (pointed 1 (faulty ∷ [])) 8 (named 1)).answer ≡ Err Range)
+      × ((set_call zero_bench 8 (named 1)).answer ≡ Err Size)
 
 pub edges : Edges
 unfolding up_to every any first holds concat map_of keep maps names_of blocks best inside is_map identity is_congruence operations operations_of cell_count

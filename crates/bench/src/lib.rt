@@ -3,9 +3,8 @@
 // A bench is a value: it goes into a call and comes back beside the answer. Any bench is legal, also one that no call here gave.
 #![tactic(auto)]
 
-ghost use Rattle.std.specs.Prelude.{◌≡◌, [], ◌∷◌, ◌+◌, ◌<◌, ◌≤◌};
+ghost use Rattle.std.specs.Prelude.{◌≡◌, [], ◌∷◌, ◌+◌, ◌<◌, ◌≤◌, Ok, IfOk, MatchResult};
 ghost use Rattle.equivalence.specs.Refusal.{lowest};
-ghost use Rattle.equivalence.specs.declared.Check.TheVariants.{Passed};
 ghost use Rattle.algebra.specs.Algebra.{algebra_in};
 ghost use Rattle.sheet.specs.Sheet.{raised_by};
 ghost use Rattle.benchsheets.specs.State.{with_sheet};
@@ -13,59 +12,59 @@ ghost use Rattle.benchtests.specs.Tests.{handed_tests};
 ghost use Rattle.bench.specs.Calls.{tally_test, benched, start_call, add_call, clear_call, set_call, return_call, forget_call};
 
 pub use benchsheets::{Bench, SHEETS};
-use equivalence::{Check, Refusal};
+use equivalence::Refusal;
 use sheet::{NAME_BYTES, Sheet};
 
-// The top of a tally.
-const MAX_TALLY: u64 = 18446744073709551615;
-
+// What a call gives back: its answer, and the bench after it, of any kind.
 #[derive(Clone, Copy)]
-pub enum Answer {
-    Done,
-    Refused(Refusal),
+pub struct Benched<B> {
+    pub answer: Result<(), Refusal>,
+    pub bench: B,
 }
 
-// What a call gives back: its answer, and the bench after it.
-#[derive(Clone, Copy)]
-pub struct Benched {
-    pub answer: Answer,
-    pub bench: Bench,
-}
-
-// A bench over n: every sheet has the identity, tally 0 and no points, and nothing was lost earlier. Refused, a bench of zeros.
-pub fn start(n: usize) -> Benched
-    ensures { result ≡ start_call n }
-{
-    let check = benchtests::start_check(n);
-    match check {
-        Check::Failed(reason) => Benched {
-            answer: Answer::Refused(reason),
-            bench: benchsheets::zeros(),
-        },
-        Check::Passed => Benched {
-            answer: Answer::Done,
-            bench: benchsheets::fresh(n),
-        },
+impl<B: Copy> Benched<B> {
+    // By what the tests found: the new bench where they pass, else the other.
+    pub fn by<F: FnOnce() -> B>(check: Result<(), Refusal>, other: B, new: F) -> Benched<B>
+        requires { IfOk check (λ _. F.pre new) }
+        ensures answer { result.answer ≡ check }
+        ensures bench { MatchResult check (λ _. F.post new result.bench) (λ _. result.bench ≡ other) }
+    {
+        let bench = match check {
+            Ok(()) => new(),
+            Err(_) => other,
+        };
+        Benched {
+            answer: check,
+            bench,
+        }
     }
 }
 
+// A bench over n: every sheet has the identity, tally 0 and no points, and nothing was lost earlier. Refused, a bench of zeros.
+pub fn start(n: usize) -> Benched<Bench>
+    ensures { result ≡ start_call n }
+{
+    let check = benchtests::start_check(n);
+    Benched::by(check, benchsheets::zeros(), || benchsheets::fresh(n))
+}
+
 // The bench with a new sheet whose tally is raised, or 13.
-fn raised(bench: Bench, k: usize, sheet: Sheet, lost: usize) -> Benched
+fn raised(bench: Bench, k: usize, sheet: Sheet, lost: usize) -> Benched<Bench>
     requires k_bound { k < 8 }
     requires lost_bound { lost ≤ 64 }
     ensures { result ≡ benched (tally_test (sheet.tally + lost) ∷ []) (with_sheet bench k (raised_by lost sheet)) bench }
 {
-    let left = MAX_TALLY - sheet.tally;
+    let left = u64::MAX - sheet.tally;
     if lost as u64 > left {
         return Benched {
-            answer: Answer::Refused(Refusal::Tally),
+            answer: Err(Refusal::Tally),
             bench,
         };
     }
-    let mut next = sheet;
-    next.tally = sheet.tally + lost as u64;
+    let tally = sheet.tally + lost as u64;
+    let next = Sheet { tally, ..sheet };
     Benched {
-        answer: Answer::Done,
+        answer: Ok(()),
         bench: benchsheets::with_sheet(bench, k, next),
     }
 }
@@ -79,8 +78,8 @@ fn extend(
     k: usize,
     x: usize,
     y: usize,
-) -> Benched
-    requires { lowest (handed_tests bench (algebra_in n arities cells) k x y) ≡ Passed }
+) -> Benched<Bench>
+    requires { lowest (handed_tests bench (algebra_in n arities cells) k x y) ≡ Ok tt }
     ensures { result ≡ add_call bench (algebra_in n arities.entry cells.entry) k x y }
 {
     let old = benchsheets::nth(bench, k);
@@ -98,83 +97,55 @@ pub fn add(
     sheet: usize,
     x: usize,
     y: usize,
-) -> Benched
+) -> Benched<Bench>
     ensures { result ≡ add_call bench (algebra_in n arities.entry cells.entry) sheet x y }
 {
-    let check = benchtests::handed_check(bench, n, arities, cells, sheet, x, y);
-    match check {
-        Check::Failed(reason) => Benched {
-            answer: Answer::Refused(reason),
+    // No `Benched::by`: where these tests pass, 13 may still apply.
+    match benchtests::handed_check(bench, n, arities, cells, sheet, x, y) {
+        Ok(()) => extend(bench, n, arities, cells, sheet, x, y),
+        Err(reason) => Benched {
+            answer: Err(reason),
             bench,
         },
-        Check::Passed => extend(bench, n, arities, cells, sheet, x, y),
     }
 }
 
 // The sheet gets the identity; its tally stays.
-pub fn clear(bench: Bench, sheet: usize) -> Benched
+pub fn clear(bench: Bench, sheet: usize) -> Benched<Bench>
     ensures { result ≡ clear_call bench sheet }
 {
     let check = benchtests::clear_check(bench, sheet);
-    match check {
-        Check::Failed(reason) => Benched {
-            answer: Answer::Refused(reason),
-            bench,
-        },
-        Check::Passed => Benched {
-            answer: Answer::Done,
-            bench: benchsheets::cleared(bench, sheet),
-        },
-    }
+    Benched::by(check, bench, || benchsheets::cleared(bench, sheet))
 }
 
 // The sheet's map is stored under the name; an older point of that name is replaced.
-pub fn set_point(bench: Bench, sheet: usize, name: [u8; NAME_BYTES]) -> Benched
+pub fn set_point(bench: Bench, sheet: usize, name: [u8; NAME_BYTES]) -> Benched<Bench>
     ensures { result ≡ set_call bench sheet name }
 {
     let check = benchtests::set_check(bench, sheet, name);
-    match check {
-        Check::Failed(reason) => Benched {
-            answer: Answer::Refused(reason),
-            bench,
-        },
-        Check::Passed => Benched {
-            answer: Answer::Done,
-            bench: sheetchanges::with_point(bench, sheet, name),
-        },
-    }
+    Benched::by(
+        check,
+        bench,
+        || sheetchanges::with_point(bench, sheet, name),
+    )
 }
 
 // The sheet gets the map that is stored under the name; the point and the sheet's tally stay.
-pub fn return_to(bench: Bench, sheet: usize, name: [u8; NAME_BYTES]) -> Benched
+pub fn return_to(bench: Bench, sheet: usize, name: [u8; NAME_BYTES]) -> Benched<Bench>
     ensures { result ≡ return_call bench sheet name }
 {
     let check = benchtests::known_check(bench, sheet, name);
-    match check {
-        Check::Failed(reason) => Benched {
-            answer: Answer::Refused(reason),
-            bench,
-        },
-        Check::Passed => Benched {
-            answer: Answer::Done,
-            bench: sheetchanges::returned(bench, sheet, name),
-        },
-    }
+    Benched::by(check, bench, || sheetchanges::returned(bench, sheet, name))
 }
 
 // The sheet holds the point of the name no more; its place serves the next new name.
-pub fn forget(bench: Bench, sheet: usize, name: [u8; NAME_BYTES]) -> Benched
+pub fn forget(bench: Bench, sheet: usize, name: [u8; NAME_BYTES]) -> Benched<Bench>
     ensures { result ≡ forget_call bench sheet name }
 {
     let check = benchtests::known_check(bench, sheet, name);
-    match check {
-        Check::Failed(reason) => Benched {
-            answer: Answer::Refused(reason),
-            bench,
-        },
-        Check::Passed => Benched {
-            answer: Answer::Done,
-            bench: sheetchanges::without_point(bench, sheet, name),
-        },
-    }
+    Benched::by(
+        check,
+        bench,
+        || sheetchanges::without_point(bench, sheet, name),
+    )
 }

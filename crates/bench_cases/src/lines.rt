@@ -1,11 +1,13 @@
 // The calls of the bench, each as a line: what is asked, the answer, and of the sheet that it names the first four bytes, its tally, and the names of the
 // points that it holds after the call. A call that names no sheet of the bench shows the eight tallies and the earlier total.
-use bench::{Answer, Bench, Benched};
+// Answers are printed by hand: a Result has no Display, none can be given to it here, and `io` takes no formatter.
+use bench::{Bench, Benched};
+use equivalence::Refusal;
 use sheet::Sheet;
 
-pub fn print_answer(answer: Answer) {
-    if let Answer::Refused(reason) = answer {
-        printing::print_refused(equivalence::checks::number(reason));
+pub fn print_answer(answer: Result<(), Refusal>) {
+    if let Err(reason) = answer {
+        printing::print_refused(u8::from(reason));
     } else {
         io::write_all(1, b" done");
     }
@@ -26,33 +28,15 @@ fn write_name(name: [u8; 8]) {
     io::write_all(1, &name);
 }
 
-// The name in place i, where that holds a point.
-fn print_name(sheet: Sheet, i: usize) {
-    if i >= sheet.count {
-        return;
-    }
-    if i >= 8 {
-        return;
-    }
-    let point = sheet.points[i];
-    let name = point.name;
-    write_name(name);
-}
-
 // The names of the held points, in the order of their places.
 fn print_names(sheet: Sheet) {
     if sheet.count == 0 {
         return;
     }
     io::write_all(1, b", points");
-    print_name(sheet, 0);
-    print_name(sheet, 1);
-    print_name(sheet, 2);
-    print_name(sheet, 3);
-    print_name(sheet, 4);
-    print_name(sheet, 5);
-    print_name(sheet, 6);
-    print_name(sheet, 7);
+    for point in sheet.points.iter().take(sheet.count) {
+        write_name(point.name);
+    }
 }
 
 // The map, the tally and the names of a sheet.
@@ -63,35 +47,20 @@ fn print_sheet(sheet: Sheet) {
     print_names(sheet);
 }
 
-// The tally of sheet k.
-fn print_tally_of(bench: Bench, k: usize) {
-    if k >= 8 {
-        return;
-    }
-    let sheet = bench.sheets[k];
-    io::write_all(1, b" ");
-    io::print_decimal(1, sheet.tally);
-}
-
 // The tallies of all sheets, and the total of an older bench.
 fn print_tallies(bench: Bench) {
     io::write_all(1, b" tallies");
-    print_tally_of(bench, 0);
-    print_tally_of(bench, 1);
-    print_tally_of(bench, 2);
-    print_tally_of(bench, 3);
-    print_tally_of(bench, 4);
-    print_tally_of(bench, 5);
-    print_tally_of(bench, 6);
-    print_tally_of(bench, 7);
+    for sheet in &bench.sheets {
+        io::write_all(1, b" ");
+        io::print_decimal(1, sheet.tally);
+    }
     io::write_all(1, b", earlier ");
     io::print_decimal(1, bench.earlier);
 }
 
 // The answer, and the sheet that was named; all tallies where there is no such sheet.
-fn print_bench(made: Benched, sheet: usize) {
-    let answer = made.answer;
-    print_answer(answer);
+fn print_bench(made: Benched<Bench>, sheet: usize) {
+    print_answer(made.answer);
     let on_bench = made.bench;
     if sheet < 8 {
         let shown = on_bench.sheets[sheet];
@@ -104,9 +73,8 @@ fn print_bench(made: Benched, sheet: usize) {
 }
 
 // The answer of a call that makes a bench, all tallies, and the map and the names of one of its sheets.
-pub fn print_new(made: Benched, shown: Sheet) {
-    let answer = made.answer;
-    print_answer(answer);
+pub fn print_new(made: Benched<Bench>, shown: Sheet) {
+    print_answer(made.answer);
     let map = shown.map;
     print_map(map);
     let on_bench = made.bench;

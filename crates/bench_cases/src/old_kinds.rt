@@ -4,7 +4,8 @@ use super::lines::{
     add, clear, print_answer, print_map, print_new, print_tally, return_to, say, set, show, start,
 };
 use super::samples::{bytes, plain, pointed};
-use bench::{Answer, Bench};
+use bench::Bench;
+use equivalence::Refusal;
 use oldbenches::{BenchV1, BenchV2, BenchV3, SheetV1, SheetV3};
 use sheet::Sheet;
 
@@ -33,22 +34,11 @@ fn second_kind(n: usize, map: [u8; 64]) -> BenchV2 {
     }
 }
 
-// A sheet of the third kind, which has no tally.
-fn untallied(sheet: Sheet) -> SheetV3 {
-    let map = sheet.map;
-    let points = sheet.points;
-    SheetV3 {
-        map,
-        count: sheet.count,
-        points,
-    }
-}
-
 // A bench of the third kind with identities but on sheet 5, whose one tally is at the top of 64 bits.
 fn third_kind(n: usize, sheet: Sheet) -> BenchV3 {
-    let identity = untallied(plain(bytes(1)));
+    let identity = SheetV3::from(plain(bytes(1)));
     let mut sheets = [identity; 8];
-    sheets[5] = untallied(sheet);
+    sheets[5] = SheetV3::from(sheet);
     BenchV3 {
         n,
         tally: 18446744073709551615,
@@ -66,7 +56,7 @@ fn ask_of(kind: &[u8], n: usize) {
 }
 
 // What a conversion into an older kind gives: its answer, the map of sheet 5, and the one tally.
-fn print_old(answer: Answer, map: [u8; 64], tally: u64) {
+fn print_old(answer: Result<(), Refusal>, map: [u8; 64], tally: u64) {
     print_answer(answer);
     print_map(map);
     print_tally(tally);
@@ -76,22 +66,18 @@ fn print_old(answer: Answer, map: [u8; 64], tally: u64) {
 fn convert_first(old: BenchV1) -> BenchV2 {
     ask_of(b"first", old.n);
     let made = oldbenches::convert_v1(old);
-    let answer = made.answer;
     let next = made.bench;
-    let shown = next.sheets[5];
-    let map = shown.map;
-    print_old(answer, map, next.tally);
+    let map = next.sheets[5].map;
+    print_old(made.answer, map, next.tally);
     next
 }
 
 fn convert_second(old: BenchV2) -> BenchV3 {
     ask_of(b"second", old.n);
     let made = oldbenches::convert_v2(old);
-    let answer = made.answer;
     let next = made.bench;
-    let shown = next.sheets[5];
-    let map = shown.map;
-    print_old(answer, map, next.tally);
+    let map = next.sheets[5].map;
+    print_old(made.answer, map, next.tally);
     next
 }
 

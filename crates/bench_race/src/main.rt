@@ -4,7 +4,7 @@
 // `benches/classwork_race.c` does the same with a bench in C, and `benches/classwork` times the two.
 #![tactic(auto)]
 
-use bench::{Answer, Bench, Benched, SHEETS};
+use bench::{Bench, Benched, SHEETS};
 use sheet::{NAME_BYTES, PLACES, Point, Sheet};
 
 // How many elements the group has.
@@ -19,10 +19,8 @@ fn sum_of(x: usize, y: usize) -> u8 {
 
 fn group_cells() -> [u8; CELLS] {
     let mut cells = [0u8; CELLS];
-    let mut i: usize = 0;
-    while i < CELLS {
-        cells[i] = sum_of(i / SIZE, i % SIZE);
-        i += 1;
+    for (i, cell) in cells.iter_mut().enumerate() {
+        *cell = sum_of(i / SIZE, i % SIZE);
     }
     cells
 }
@@ -41,7 +39,7 @@ fn generator(number: usize) -> usize {
 }
 
 // Joins a generator with 0.
-fn add(bench: Bench, cells: &[u8], sheet: usize, number: usize) -> Benched {
+fn add(bench: Bench, cells: &[u8], sheet: usize, number: usize) -> Benched<Bench> {
     bench::add(bench, SIZE, b"\x02", cells, sheet, 0, generator(number))
 }
 
@@ -69,26 +67,16 @@ fn with_point(bench: Bench, cells: &[u8], number: usize) -> Bench {
 fn with_points(cells: &[u8]) -> Bench {
     let made = bench::start(SIZE);
     let mut bench = made.bench;
-    let mut i: usize = 0;
-    while i < SHEETS * PLACES {
+    for i in 0..SHEETS * PLACES {
         bench = with_point(bench, cells, i);
-        i += 1;
     }
     bench
 }
 
-fn is_done(answer: Answer) -> bool {
-    match answer {
-        Answer::Done => true,
-        Answer::Refused(_) => false,
-    }
-}
-
 // Return to a point, and an Add that leaves half of its blocks.
-fn return_and_add(bench: Bench, cells: &[u8], sheet: usize, place: usize) -> Benched {
+fn return_and_add(bench: Bench, cells: &[u8], sheet: usize, place: usize) -> Benched<Bench> {
     let returned = bench::return_to(bench, sheet, name_of(place));
-    let answer = returned.answer;
-    if !is_done(answer) {
+    if returned.answer.is_err() {
         return returned;
     }
     let next = returned.bench;
@@ -96,10 +84,9 @@ fn return_and_add(bench: Bench, cells: &[u8], sheet: usize, place: usize) -> Ben
 }
 
 // Forget a point, and Set it anew.
-fn forget_and_set(bench: Bench, sheet: usize, place: usize) -> Benched {
+fn forget_and_set(bench: Bench, sheet: usize, place: usize) -> Benched<Bench> {
     let forgotten = bench::forget(bench, sheet, name_of(place));
-    let answer = forgotten.answer;
-    if !is_done(answer) {
+    if forgotten.answer.is_err() {
         return forgotten;
     }
     let next = forgotten.bench;
@@ -107,7 +94,7 @@ fn forget_and_set(bench: Bench, sheet: usize, place: usize) -> Benched {
 }
 
 // The calls of a turn. The sheets take turns, and then the points of a sheet.
-fn turn(workload: u8, bench: Bench, cells: &[u8], number: usize) -> Benched {
+fn turn(workload: u8, bench: Bench, cells: &[u8], number: usize) -> Benched<Bench> {
     let sheet = number % SHEETS;
     let place = number / SHEETS % PLACES;
     match workload {
@@ -119,7 +106,7 @@ fn turn(workload: u8, bench: Bench, cells: &[u8], number: usize) -> Benched {
         b'r' => bench::return_to(bench, sheet, name_of(place)),
         b'f' => forget_and_set(bench, sheet, place),
         _ => Benched {
-            answer: Answer::Done,
+            answer: Ok(()),
             bench,
         },
     }
@@ -132,7 +119,7 @@ struct Played {
     turns: usize,
 }
 
-fn ended(made: Benched, turns: usize) -> Played {
+fn ended(made: Benched<Bench>, turns: usize) -> Played {
     let bench = made.bench;
     Played { bench, turns }
 }
@@ -140,20 +127,17 @@ fn ended(made: Benched, turns: usize) -> Played {
 // What a call gave is kept as it is until the next: each copy of a bench would be timed.
 fn play(workload: u8, begun: Bench, cells: &[u8], turns: usize) -> Played {
     let mut made = Benched {
-        answer: Answer::Done,
+        answer: Ok(()),
         bench: begun,
     };
-    let mut number: usize = 0;
-    while number < turns {
+    for number in 0..turns {
         let bench = made.bench;
         made = turn(workload, bench, cells, number);
-        let answer = made.answer;
-        if !is_done(answer) {
+        if made.answer.is_err() {
             return ended(made, number);
         }
-        number += 1;
     }
-    ended(made, number)
+    ended(made, turns)
 }
 
 // The sum of the numbers so far, and the sum of all these sums.
@@ -170,17 +154,9 @@ fn with_number(sums: Sums, number: u64) -> Sums {
 }
 
 fn with_bytes(sums: Sums, bytes: &[u8]) -> Sums {
-    let mut next = sums;
-    let mut i: usize = 0;
-    while i < bytes.len() {
-        next = with_number(next, wide(bytes[i]));
-        i += 1;
-    }
-    next
-}
-
-fn wide(byte: u8) -> u64 {
-    byte as u64
+    bytes
+        .iter()
+        .fold(sums, |next, &byte| with_number(next, u64::from(byte)))
 }
 
 // A place's name and map.
@@ -193,14 +169,7 @@ fn with_place(sums: Sums, point: Point) -> Sums {
 
 // All eight places, whatever they hold.
 fn with_places(sums: Sums, points: [Point; PLACES]) -> Sums {
-    let mut next = sums;
-    let mut i: usize = 0;
-    while i < PLACES {
-        let point = points[i];
-        next = with_place(next, point);
-        i += 1;
-    }
-    next
+    points.into_iter().fold(sums, with_place)
 }
 
 fn with_sheet(sums: Sums, sheet: Sheet) -> Sums {
@@ -213,14 +182,9 @@ fn with_sheet(sums: Sums, sheet: Sheet) -> Sums {
 }
 
 fn sums_of(sheets: [Sheet; SHEETS]) -> Sums {
-    let mut next = Sums { low: 0, high: 0 };
-    let mut k: usize = 0;
-    while k < SHEETS {
-        let sheet = sheets[k];
-        next = with_sheet(next, sheet);
-        k += 1;
-    }
-    next
+    sheets
+        .into_iter()
+        .fold(Sums { low: 0, high: 0 }, with_sheet)
 }
 
 fn print_number(words: &[u8], number: u64) {
@@ -228,24 +192,11 @@ fn print_number(words: &[u8], number: u64) {
     io::print_decimal(1, number);
 }
 
-fn print_tally(sheets: [Sheet; SHEETS], k: usize) {
-    if k >= SHEETS {
-        return;
-    }
-    let sheet = sheets[k];
-    print_number(b" ", sheet.tally);
-}
-
 fn print_tallies(sheets: [Sheet; SHEETS]) {
     io::write_all(1, b", tallies");
-    print_tally(sheets, 0);
-    print_tally(sheets, 1);
-    print_tally(sheets, 2);
-    print_tally(sheets, 3);
-    print_tally(sheets, 4);
-    print_tally(sheets, 5);
-    print_tally(sheets, 6);
-    print_tally(sheets, 7);
+    for sheet in &sheets {
+        print_number(b" ", sheet.tally);
+    }
 }
 
 fn print_played(played: Played) {
@@ -260,14 +211,10 @@ fn print_played(played: Played) {
     io::write_all(1, b"\n");
 }
 
-fn number_of(low: u8, middle: u8, high: u8) -> usize {
-    low as usize + 256 * middle as usize + 65536 * high as usize
-}
-
 fn main() {
     let mut input = [0u8; 4];
     io::read_full(0, &mut input);
-    let turns = number_of(input[1], input[2], input[3]);
+    let turns = u32::from_le_bytes([input[1], input[2], input[3], 0]) as usize;
     let cells = group_cells();
     let bench = with_points(&cells);
     let played = play(input[0], bench, &cells, turns);

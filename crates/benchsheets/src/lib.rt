@@ -48,13 +48,12 @@ pub fn fresh(n: usize) -> Bench
 }
 
 // The bench with another sheet.
-pub fn with_sheet(bench: Bench, k: usize, sheet: Sheet) -> Bench
+pub fn with_sheet(mut bench: Bench, k: usize, sheet: Sheet) -> Bench
     requires { k < 8 }
     ensures { result ≡ with_sheet bench k sheet }
 {
-    let mut next = bench;
-    next.sheets[k] = sheet;
-    next
+    bench.sheets[k] = sheet;
+    bench
 }
 
 // The bench with the identity on one sheet.
@@ -81,13 +80,8 @@ pub fn all_faultless(bench: Bench, n: usize) -> bool
     requires { n ≤ 64 }
     ensures { result ≡ every (is_faultless n) bench.sheets }
 {
-    let mut k: usize = 0;
-    while k < SHEETS {
-        let sheet = bench.sheets[k];
-        if !sheet::is_faultless(n, sheet) {
-            return false;
-        }
-        k += 1;
-    }
-    true
+    bench
+        .sheets
+        .iter()
+        .all(|sheet| sheet::is_faultless(n, *sheet))
 }

@@ -9,12 +9,11 @@ use native.Mathlib.Omega.{arith}
 use lib.Dec.{T, T_not, eqb, ltb, eqb→eq, ltb→lt, lt→ltb}
 use lib.ListN.{length}
 use borrow.Author.Tests.{le-ltb, eq-eqb, ne_eqb, not-true, not-false}
+use Rattle.std.specs.Prelude.{⊤, Result, Ok, Err, IsErrAnd}
 use Rattle.equivalence.specs.Lists.{every}
 use Rattle.equivalence.specs.Refusal.{Test, lowest, size_test, elements_test}
-use Rattle.equivalence.proofs.Refusals.{lowest_none, lowest_next, lowest_here, of_passed, of_size_test, size_refused, size_passed, lowest_append, lowest_failed, passed_append}
+use Rattle.equivalence.proofs.Refusals.{lowest_none, lowest_next, lowest_here, of_passed, of_size_test, size_refused, size_passed, handed_on, lowest_append, lowest_failed, passed_append}
 use Rattle.equivalence.proofs.Tests.{T_of, not_T_of, or_left, or_right, or_cases}
-use Rattle.equivalence.specs.declared.Check.TheVariants.{Passed, Failed}
-use Rattle.equivalence.specs.declared.Check.{Check}
 use Rattle.equivalence.specs.declared.Refusal.{Refusal}
 use Rattle.equivalence.specs.declared.Refusal.TheVariants.{Size, Range, NotMap}
 use Rattle.algebra.specs.Accepted.{algebra_tests, Accepted}
@@ -38,7 +37,7 @@ no_not true h = tt
 no_not false h = absurd (h tt)
 
 -- what Start's test leaves
-pub start_passed : (n : ℕ) → lowest (start_tests n) ≡ Passed → n ≤ 64
+pub start_passed : (n : ℕ) → lowest (start_tests n) ≡ Ok tt → n ≤ 64
 start_passed n e = (of_size_test n (of_passed _ _ e).0).1
 
 sheet_passed : (k : ℕ) → ¬ T (sheet_test k).applies → k < 8
@@ -56,7 +55,7 @@ elements_passed n x y h = (
 
 -- 7 and the last test, 8
 module _ (k : ℕ) (rest : List Test) where
-  sheet_failed : 8 ≤ k → lowest (sheet_test k ∷ rest) ≡ Failed Range
+  sheet_failed : 8 ≤ k → lowest (sheet_test k ∷ rest) ≡ Err Range
   unfolding sheet_test
   sheet_failed h = lowest_here (sheet_test k) rest (lt→ltb 7 k (omega arith))
 
@@ -65,11 +64,11 @@ module _ (k : ℕ) (rest : List Test) where
   sheet_next h = lowest_next (sheet_test k) rest (λ t. omega (arith, ltb→lt 7 k t))
 
 module _ (n x y : ℕ) (rest : List Test) where
-  first_failed : n ≤ x → lowest (elements_test n x y ∷ rest) ≡ Failed Range
+  first_failed : n ≤ x → lowest (elements_test n x y ∷ rest) ≡ Err Range
   unfolding elements_test
   first_failed h = lowest_here (elements_test n x y) rest (or_left (not (ltb x n)) _ (T_of (ap not (le-ltb x n h))))
 
-  second_failed : n ≤ y → lowest (elements_test n x y ∷ rest) ≡ Failed Range
+  second_failed : n ≤ y → lowest (elements_test n x y ∷ rest) ≡ Err Range
   unfolding elements_test
   second_failed h = lowest_here (elements_test n x y) rest (or_right (not (ltb x n)) _ (T_of (ap not (le-ltb y n h))))
 
@@ -82,66 +81,66 @@ module _ (n x y : ℕ) (rest : List Test) where
       ])
 
 module _ (b : Bench) (k : ℕ) {flag : Bool} (s : flag ≡ not (size_test b.n).applies) where
-  pub clear_unsized : not flag ≡ true → Failed Size ≡ lowest (clear_tests b k)
+  pub clear_unsized : not flag ≡ true → Err Size ≡ lowest (clear_tests b k)
   unfolding clear_tests
   clear_unsized f = sym (size_refused b.n _ s f)
 
   module _ (f : not flag ≡ false) where
-    pub clear_sheetless : 8 ≤ k → Failed Range ≡ lowest (clear_tests b k)
+    pub clear_sheetless : 8 ≤ k → Err Range ≡ lowest (clear_tests b k)
     unfolding clear_tests
     clear_sheetless h = sym (size_passed b.n _ s f ∙ sheet_failed k _ h)
 
-    pub clear_last : k < 8 → {check : Check} → check ≡ lowest (bench_test b.n b ∷ []) → check ≡ lowest (clear_tests b k)
+    pub clear_last : k < 8 → {check : Result ⊤ Refusal} → check ≡ lowest (bench_test b.n b ∷ []) → check ≡ lowest (clear_tests b k)
     unfolding clear_tests
     clear_last h e = e ∙ sym (size_passed b.n _ s f ∙ sheet_next k _ h)
 
 module _ (b : Bench) (n k x y : ℕ) where
-  pub place_sheetless : 8 ≤ k → Failed Range ≡ lowest (place_tests b n k x y)
+  pub place_sheetless : 8 ≤ k → Err Range ≡ lowest (place_tests b n k x y)
   unfolding place_tests
   place_sheetless h = sym (sheet_failed k _ h)
 
   module _ (h : k < 8) where
-    pub place_first : n ≤ x → Failed Range ≡ lowest (place_tests b n k x y)
+    pub place_first : n ≤ x → Err Range ≡ lowest (place_tests b n k x y)
     unfolding place_tests
     place_first i = sym (sheet_next k _ h ∙ first_failed n x y _ i)
 
-    pub place_second : n ≤ y → Failed Range ≡ lowest (place_tests b n k x y)
+    pub place_second : n ≤ y → Err Range ≡ lowest (place_tests b n k x y)
     unfolding place_tests
     place_second i = sym (sheet_next k _ h ∙ second_failed n x y _ i)
 
-    pub place_last : x < n → y < n → {check : Check} → check ≡ lowest (bench_test n b ∷ []) → check ≡ lowest (place_tests b n k x y)
+    pub place_last : x < n → y < n → {check : Result ⊤ Refusal} → check ≡ lowest (bench_test n b ∷ []) → check ≡ lowest (place_tests b n k x y)
     unfolding place_tests
     place_last i j e = e ∙ sym (sheet_next k _ h ∙ elements_next n x y _ i j)
 
 -- 8 alone
 module _ (n : ℕ) (b : Bench) where
-  pub bench_other : (b.n ≡ n → ⊥) → Failed NotMap ≡ lowest (bench_test n b ∷ [])
+  pub bench_other : (b.n ≡ n → ⊥) → Err NotMap ≡ lowest (bench_test n b ∷ [])
   unfolding lowest bench_test
   bench_other h = simp (ne_eqb b.n n h)
 
   module _ (h : b.n ≡ n) {flag : Bool} (s : flag ≡ every (is_faultless n) b.sheets) where
-    pub bench_faulty : not flag ≡ true → Failed NotMap ≡ lowest (bench_test n b ∷ [])
+    pub bench_faulty : not flag ≡ true → Err NotMap ≡ lowest (bench_test n b ∷ [])
     unfolding lowest bench_test
     bench_faulty f = simp (eq-eqb b.n n h, sym s ∙ not-true flag f)
 
-    pub bench_right : not flag ≡ false → Passed ≡ lowest (bench_test n b ∷ [])
+    pub bench_right : not flag ≡ false → Ok tt ≡ lowest (bench_test n b ∷ [])
     unfolding lowest bench_test
     bench_right f = simp (eq-eqb b.n n h, sym s ∙ not-false flag f)
 
 -- tests behind others, by what those found
-module _ (ts rest : List Test) {check : Check} (s : check ≡ lowest ts) where
-  pub behind_failed : {r : Refusal} → check ≡ Failed r → Failed r ≡ lowest (ts ++ rest)
-  behind_failed e = sym (lowest_failed _ _ _ (sym s ∙ e))
+module _ (ts rest : List Test) {check : Result ⊤ Refusal} (s : check ≡ lowest ts) where
+  pub behind_failed : {r : Refusal} → check ≡ Err r → {answer : Result ⊤ Refusal} → IsErrAnd answer (λ e. e ≡ r) → answer ≡ lowest (ts ++ rest)
+  behind_failed e h = handed_on h ∙ sym (lowest_failed _ _ _ (sym s ∙ e))
 
-  pub behind_passed : check ≡ Passed → {last : Check} → last ≡ lowest rest → last ≡ lowest (ts ++ rest)
+  pub behind_passed : check ≡ Ok tt → {last : Result ⊤ Refusal} → last ≡ lowest rest → last ≡ lowest (ts ++ rest)
   behind_passed e f = f ∙ sym (lowest_append _ _ (sym s ∙ e))
 
 -- one test more, by its flag
-module _ (ts : List Test) (t : Test) {check : Check} (s : check ≡ lowest ts) (e : check ≡ Passed) {flag : Bool} (f : flag ≡ t.applies) where
-  pub more_applies : flag ≡ true → Failed t.reason ≡ lowest (ts ++ (t ∷ []))
+module _ (ts : List Test) (t : Test) {check : Result ⊤ Refusal} (s : check ≡ lowest ts) (e : check ≡ Ok tt) {flag : Bool} (f : flag ≡ t.applies) where
+  pub more_applies : flag ≡ true → Err t.reason ≡ lowest (ts ++ (t ∷ []))
   more_applies g = behind_passed ts _ s e (sym (lowest_here t [] (T_of (sym f ∙ g))))
 
-  pub more_passes : flag ≡ false → Passed ≡ lowest (ts ++ (t ∷ []))
+  pub more_passes : flag ≡ false → Ok tt ≡ lowest (ts ++ (t ∷ []))
   more_passes g = behind_passed ts _ s e (sym (lowest_next t [] (not_T_of (sym f ∙ g)) ∙ lowest_none))
 
 -- ---- what tests that pass leave
@@ -167,7 +166,7 @@ pub record Clearable (b : Bench) (k : ℕ) : Type 0 where
   pub sheet : k < 8
   pub faultless : Faultless b b.n
 
-pub clear_passed : (b : Bench) (k : ℕ) → lowest (clear_tests b k) ≡ Passed → Clearable b k
+pub clear_passed : (b : Bench) (k : ℕ) → lowest (clear_tests b k) ≡ Ok tt → Clearable b k
 unfolding clear_tests
 clear_passed b k e =
     let first = of_passed _ _ e in
@@ -182,7 +181,7 @@ pub record Placed (b : Bench) (n k x y : ℕ) : Type 0 where
   pub second : y < n
   pub faultless : Faultless b n
 
-place_passed : (b : Bench) (n k x y : ℕ) → lowest (place_tests b n k x y) ≡ Passed → Placed b n k x y
+place_passed : (b : Bench) (n k x y : ℕ) → lowest (place_tests b n k x y) ≡ Ok tt → Placed b n k x y
 unfolding place_tests
 place_passed b n k x y e =
     let seven = of_passed _ _ e in
@@ -195,19 +194,19 @@ pub record Addable (b : Bench) (a : Algebra) (k x y : ℕ) : Type 0 where
   pub accepted : Accepted a
   pub placed : Placed b a.size k x y
 
-pub add_passed : (b : Bench) (a : Algebra) (k x y : ℕ) → lowest (handed_tests b a k x y) ≡ Passed → Addable b a k x y
+pub add_passed : (b : Bench) (a : Algebra) (k x y : ℕ) → lowest (handed_tests b a k x y) ≡ Ok tt → Addable b a k x y
 unfolding handed_tests Accepted
 add_passed b a k x y e =
     let p = passed_append (algebra_tests a) (place_tests b a.size k x y) e in
     record { accepted = p.0; placed = place_passed b a.size k x y p.1 }
 
 -- what Set's tests leave
-pub set_passed : (b : Bench) (k : ℕ) (name : List ℕ) → lowest (set_tests b k name) ≡ Passed → Clearable b k × (¬ T (is_full_for name (sheet_of b k)))
+pub set_passed : (b : Bench) (k : ℕ) (name : List ℕ) → lowest (set_tests b k name) ≡ Ok tt → Clearable b k × (¬ T (is_full_for name (sheet_of b k)))
 unfolding set_tests full_test
 set_passed b k name e = let p = passed_append (clear_tests b k) _ e in (clear_passed b k p.0, (of_passed _ _ p.1).0)
 
 -- what Return's and Forget's tests leave
-pub known_passed : (b : Bench) (k : ℕ) (name : List ℕ) → lowest (known_tests b k name) ≡ Passed → Clearable b k × T (is_held name (sheet_of b k))
+pub known_passed : (b : Bench) (k : ℕ) (name : List ℕ) → lowest (known_tests b k name) ≡ Ok tt → Clearable b k × T (is_held name (sheet_of b k))
 unfolding known_tests unknown_test
 known_passed b k name e =
     let p = passed_append (clear_tests b k) _ e in

@@ -1,9 +1,8 @@
 -- Bounds of the search: one block is the first, a map that grows keeps its bound, a settled row tightens it (004, Lemma 10), a pair that it holds apart is refused, and
 -- once it holds v and w apart it is what was looked for.
-use Prim.Native.Nat.{ℕ, ◌+◌, ◌*◌, ◌<◌}
-use mathlib.Core.Bool.{Bool, true, false}
+use Prim.Native.Nat.{ℕ, ◌+◌, ◌<◌}
 use mathlib.Core.Logic.{inl, inr}
-use mathlib.Core.Path.{◌≡◌, refl, sym, ap, ◌∙◌}
+use mathlib.Core.Path.{◌≡◌, sym, ap, ◌∙◌}
 use native.Mathlib.Decide.{dec_lt, ℕ_discrete}
 use native.Mathlib.Omega.{arith}
 use Rattle.kernel.specs.InnerKernel.{Canonical, Within, KeptPast}
@@ -13,7 +12,7 @@ use Rattle.translation.specs.InnerTranslations.{Compatible, Refined}
 use Rattle.sweep.proofs.Images.{compatible_whole}
 use Rattle.bounding.specs.InnerSettled.{KeepsBefore, Refused, Settled, Earliest}
 use Rattle.bounding.specs.InnerBlocks.{TwoBlocks}
-use Rattle.bounding.specs.InnerBounds.{Bound, Tightened, next_due}
+use Rattle.bounding.specs.InnerBounds.{Bound, Tightened}
 
 -- e' is the meet of e and t
 pub record Met (n : ℕ) (e t e' : ℕ → ℕ) : Type 0 where
@@ -89,10 +88,6 @@ module _ (a : Algebra) (v w : ℕ) where
       rest = λ z l. past z l ∙ m.rest z l;
     }
 
-  -- no bound is made
-  pub bound_kept : {x : ℕ} {f e : ℕ → ℕ} → ¬ (x ≡ v) → Bound a v w f e → Tightened a v w x f e e
-  bound_kept d b = record { bound = b; apart = λ i. absurd (d i); rest = λ z l. refl }
-
   -- the bound holds v and w apart
   pub bound_end : (r : ℕ) (f e : ℕ → ℕ) → Settled a v w r (r + 1) f → Bound a v w f e → ¬ (e v ≡ e w) → Earliest a v w e
   bound_end r f e s b d = record {
@@ -113,13 +108,3 @@ module _ (a : Algebra) (v w : ℕ) where
               b.holds g c up n x y (omega arith) k u
         ];
   }
-
--- ---- when a bound is due
-
-pub due_made : (made : Bool) (trials due : ℕ) → made ≡ true → 2 * trials + 1 ≡ next_due made trials due
-unfolding next_due
-due_made made trials due e = rw (e, next_due) refl
-
-pub due_kept : (made : Bool) (trials due : ℕ) → made ≡ false → due ≡ next_due made trials due
-unfolding next_due
-due_kept made trials due e = rw (e, next_due) refl

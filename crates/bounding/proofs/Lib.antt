@@ -1,5 +1,4 @@
 pub mod Settling
-pub mod TwoBlocks
 pub mod Bounding
 pub mod RowBounds
 pub mod Slices

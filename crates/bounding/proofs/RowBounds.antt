@@ -1,6 +1,5 @@
 -- A bound after a settled row, on slices: it is met with the block of x and the rest, and refined by the listed names.
-use Prim.Native.Nat.{ℕ, ◌+◌, ◌≤◌, ◌<◌}
-use mathlib.Core.Bool.{Bool, true, false}
+use Prim.Native.Nat.{ℕ, ◌≤◌, ◌<◌}
 use mathlib.Core.List.{List}
 use mathlib.Core.Path.{◌≡◌, sym, ◌∙◌}
 use native.Mathlib.Omega.{arith}
@@ -79,7 +78,3 @@ module _ {n : ℕ} {arities cells m names up : List ℕ} {marked : Pair} {x coun
   pub tightened : {h : ℕ → ℕ} → Refined (algebra_of n arities cells) (byte met) h → KeptPast n (byte met) h → Tightened (algebra_of n arities cells) marked.x marked.y x (byte m) (byte up) h
   tightened {h} r past =
       bound_row (algebra_of n arities cells) _ _ x s.below (byte m) s.settled (byte up) (byte parts) (byte met) h two b.bound e r past s.left s.right
-
--- what is due for v's row and was not made is not v's row
-pub undue : {P : Type 0} {due : Bool} → (P → due ≡ true) → due ≡ false → P → ⊥
-undue h e p = let c : true ≡ false = sym (h p) ∙ e in let z : ◌≡◌ {A = ℕ} 0 1 = cc in omega arith

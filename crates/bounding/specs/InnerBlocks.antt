@@ -8,7 +8,7 @@ pub record FirstOther (n r : ℕ) (f : ℕ → ℕ) (q : ℕ) : Type 0 where
   pub other : q < n → ¬ (f q ≡ r)
 
 -- r where b is r, and q where it is not
-unfoldable pub one_of : ℕ → ℕ → ℕ → ℕ
+abbrev pub one_of : ℕ → ℕ → ℕ → ℕ
 one_of r q b = elim (eqb b r) [ true ↦ r | false ↦ q ]
 
 -- e has two blocks: the block of v in f, and the rest

@@ -45,5 +45,5 @@ pub record Tightened (a : Algebra) (v w x : ℕ) (f e e' : ℕ → ℕ) : Type 0
   pub rest : KeptPast a.size e e'
 
 -- at how many trials the next bound is due: at more than twice as many as there were, where one is made
-unfoldable pub next_due : Bool → ℕ → ℕ → ℕ
+abbrev pub next_due : Bool → ℕ → ℕ → ℕ
 next_due made trials due = elim made [ true ↦ 2 * trials + 1 | false ↦ due ]

@@ -9,14 +9,7 @@ fn first_other(m: &[u8], n: usize, r: u8) -> usize
     requires { n ≤ length m.now }
     ensures { FirstOther n r (byte m.now) result }
 {
-    let mut q = 0;
-    while q < n {
-        if m[q] != r {
-            return q;
-        }
-        q += 1;
-    }
-    n
+    m[..n].iter().position(|b| *b != r).unwrap_or(n)
 }
 
 // r where b is r, and q where it is not.
@@ -32,10 +25,8 @@ fn name_two_blocks(m: &[u8], n: usize, r: u8, q: u8, out: &mut [u8])
     requires n_in_bounds_2 { n ≤ length out.old }
     ensures { Filled n (λ x. one_of r q (byte m.now x)) (byte out.old) (byte out.new) }
 {
-    let mut x = 0;
-    while x < n {
+    for x in 0..n {
         out[x] = one_of(m[x], r, q);
-        x += 1;
     }
 }
 

@@ -7,19 +7,6 @@ ghost use Rattle.bounding.specs.InnerBounds.{RowSettled, BoundLent, Tightened, n
 use crate::blocks::two_blocks;
 use equivalence::Pair;
 
-// 1 where an element is its own name in the map and has the bound's name of x, else 0.
-fn was_tried(own: bool, name: u8, wanted: u8) -> usize
-    ensures { result ≤ 1 }
-{
-    if !own {
-        return 0;
-    }
-    if name != wanted {
-        return 0;
-    }
-    1
-}
-
 // How many pairs of row x, which is settled, were tried in vain: the names behind x that the bound did not spare.
 pub fn tried_in_vain(m: &[u8], n: usize, x: usize, up: &[u8]) -> usize
     requires n_bound { n ≤ 64 }
@@ -28,14 +15,9 @@ pub fn tried_in_vain(m: &[u8], n: usize, x: usize, up: &[u8]) -> usize
     requires x_lt_n { x < n }
     ensures { result ≤ n }
 {
-    let wanted = up[x];
-    let mut count = 0;
-    let mut y = x + 1;
-    while y < n {
-        count += was_tried(m[y] == y as u8, up[y], wanted);
-        y += 1;
-    }
-    count
+    (x + 1..n)
+        .filter(|y| m[*y] as usize == *y && up[*y] == up[x])
+        .count()
 }
 
 // Is a bound worth its refinement after row x? After the row of a marked element it ends the search; else each is made after twice as many trials as the last.
@@ -47,21 +29,8 @@ pub fn is_due(m: &[u8], n: usize, marked: Pair, x: usize, trials: usize, due: us
     requires y_lt_n { marked.y < n }
     ensures { x ≡ marked.x → result ≡ true }
 {
-    let v = marked.x;
-    let w = marked.y;
-    if x == v {
-        return true;
-    }
-    if m[x] != x as u8 {
-        return false;
-    }
-    if m[v] == m[x] {
-        return true;
-    }
-    if m[w] == m[x] {
-        return true;
-    }
-    due <= trials
+    let joined = m[marked.x] == m[x] || m[marked.y] == m[x];
+    x == marked.x || m[x] as usize == x && (joined || due <= trials)
 }
 
 // At how many trials the next bound is due: at more than twice as many, where one is made.
@@ -69,10 +38,7 @@ pub fn next_due(made: bool, trials: usize, due: usize) -> usize
     requires { trials ≤ 4096 }
     ensures { result ≡ next_due made trials due }
 {
-    if !made {
-        return due;
-    }
-    2 * trials + 1
+    if made { 2 * trials + 1 } else { due }
 }
 
 // Where it is to be made, the bound `up` becomes the greatest congruence inside itself and "the block of x in m, and the rest". The names of m, which lies

@@ -17,15 +17,11 @@ use Rattle.tablereader.proofs.Laying.{laid_none, laid_more}
 use Rattle.bracket.specs.Transcript.{State}
 use Rattle.bracket.specs.Fills.{room_at, Position, over, due, piece_of, position_after, Fill, ended, short, takes}
 use Rattle.bracket.specs.Standings.{state_of, position_by, position_of, room_from, standing_room, Sound, Kept, Filling}
-use Rattle.bracket.specs.InnerSteps.{step_of, Lent, Stepping, closed_at, Lined}
+use Rattle.bracket.specs.InnerSteps.{step_of, Lent, Stepping, stopped, closed_at, Lined}
 use Rattle.bracket.specs.InnerRemaining.{distance}
 use Rattle.bracket.specs.declared.run.Standing.{Standing}
 use Rattle.bracket.specs.declared.run.Stepped.{Stepped}
 use Rattle.bracket.proofs.Fills.{after_midway, after_over, step_less}
-
--- a standing whose run is over
-abbrev stopped : Standing → Standing
-stopped s = record { goes = false; at = s.at; size = s.size; operations = s.operations; cells = s.cells; requested = s.requested }
 
 pub closed_open : (s : Standing) (end : ℕ) → s.at < end → s ≡ closed_at s end
 unfolding closed_at

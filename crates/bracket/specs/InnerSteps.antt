@@ -1,16 +1,13 @@
 -- What the inner functions of a run promise each other: a step, and a line with what it lays.
-use Rattle.std.specs.Prelude.{ℕ, ◌+◌, ◌≤◌, Bool, true, false, List, [], ◌≡◌, ltb, length}
+use Rattle.std.specs.Prelude.{ℕ, ◌+◌, ◌≤◌, Bool, true, false, List, [], ◌≡◌, ltb, length, Result, Ok, Err}
 use Rattle.std.specs.Borrow.{Bor, MutBor}
-use Rattle.equivalence.specs.declared.Check.{Check}
-use Rattle.equivalence.specs.declared.Check.TheVariants.{Passed, Failed}
+use Rattle.equivalence.specs.declared.Refusal.{Refusal}
 use Rattle.bracket.specs.Transcript.{State, Step, goes, ends, first_step}
 use Rattle.bracket.specs.Fills.{due, piece_of, position_after}
 use Rattle.bracket.specs.Standings.{state_of, position_of, standing_room, Sound, Kept, Filling}
 use Rattle.kernel.specs.InnerKernel.{bit}
-use Rattle.reader.specs.InnerPromises.{passes}
 use Rattle.tablereader.specs.Laying.{Laid}
 use Rattle.reader.specs.declared.taking.AlgebraSoFar.{AlgebraSoFar}
-use Rattle.reader.specs.declared.taking.LineTaken.{LineTaken}
 use Rattle.writer.specs.Lines.{refused_line}
 use Rattle.bracket.specs.declared.run.Standing.{Standing}
 use Rattle.bracket.specs.declared.run.Stepped.{Stepped}
@@ -48,24 +45,37 @@ DueIn text s arities room lent arities' room' out r =
 abbrev pub FirstStepIn : Bor (List ℕ) → MutBor (List ℕ) → MutBor (List ℕ) → Stepped → Type 0
 FirstStepIn text lent out r = (arities room : List ℕ) → Stepping text.now 0 (first_step text.now) lent.now arities room out.now r
 
--- where a run stands behind the lines of its algebra, before any request; it goes on, or it is over
-abbrev pub behind_lines : Bool → AlgebraSoFar → Standing
-behind_lines b a = record { goes = b; at = a.at; size = a.size; operations = a.operations; cells = a.cells; requested = false }
+-- where a run stands behind the lines of its algebra, before any request
+abbrev pub behind_lines : AlgebraSoFar → Standing
+behind_lines a = record { goes = true; at = a.at; size = a.size; operations = a.operations; cells = a.cells; requested = false }
 
--- what a line of the algebra writes: nothing, or its refusal
-abbrev pub piece_for : Check → List ℕ
-piece_for Passed = []
-piece_for (Failed r) = refused_line r
+-- a run that is over where it stands
+abbrev pub stopped : Standing → Standing
+stopped s = record { goes = false; at = s.at; size = s.size; operations = s.operations; cells = s.cells; requested = s.requested }
+
+-- a refusal was written, and the run is over
+pub record RefusedAt (r : Refusal) (s : Standing) (lent out : List ℕ) (t : Stepped) : Type 0 where
+  pub standing : t.standing ≡ stopped s
+  pub laid : Laid lent 0 (refused_line r) out t.wrote
+
+-- where a line of the algebra leads from a standing
+abbrev pub standing_after : Result AlgebraSoFar Refusal → Standing → Standing
+standing_after (Ok a) s = behind_lines a
+standing_after (Err r) s = stopped s
+
+-- what it writes: nothing, or its refusal
+abbrev pub piece_for : Result AlgebraSoFar Refusal → List ℕ
+piece_for (Ok a) = []
+piece_for (Err r) = refused_line r
 
 -- a line of the algebra was taken up by the run
-pub record AfterLine (l : LineTaken) (lent out : List ℕ) (r : Stepped) : Type 0 where
-  pub standing : r.standing ≡ behind_lines (passes l.check) l.algebra
-  pub laid : Laid lent 0 (piece_for l.check) out r.wrote
+pub record AfterLine (l : Result AlgebraSoFar Refusal) (s : Standing) (lent out : List ℕ) (r : Stepped) : Type 0 where
+  pub standing : r.standing ≡ standing_after l s
+  pub laid : Laid lent 0 (piece_for l) out r.wrote
 
 -- a standing in a text of so many bytes: at the end of the text the run is over
 unfoldable pub closed_at : Standing → ℕ → Standing
-closed_at s end =
-    elim (ltb s.at end) [ true ↦ s | false ↦ record { goes = false; at = s.at; size = s.size; operations = s.operations; cells = s.cells; requested = s.requested } ]
+closed_at s end = elim (ltb s.at end) [ true ↦ s | false ↦ stopped s ]
 
 -- one line was taken: what it writes was laid, and nothing after it
 pub record Lined (text : List ℕ) (s : Standing) (arities room lent arities' room' out : List ℕ) (r : Stepped) : Type 0 where

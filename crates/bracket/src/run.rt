@@ -15,8 +15,9 @@ const CELL_ROOM: usize = 4;
 const WORD_ROOM: usize = 256;
 
 // Where a run stands: whether it goes on, the start of the next line, the algebra's size, how many operations and cells it has, and whether a request has
-// come. The arities of the operations, and the cells, stand first in two slices that the caller lends to every fill.
-#[derive(Clone, Copy)]
+// come. The arities of the operations, and the cells, stand first in two slices that the caller lends to every fill. A flag beside the numbers: what `fill` and
+// `can_fill` promise speaks of a standing that is over, too.
+#[derive(Clone, Copy, Debug, PartialEq, Eq)]
 pub struct Standing {
     pub goes: bool,
     pub at: usize,
@@ -27,7 +28,7 @@ pub struct Standing {
 }
 
 // Where the run stands after some lines, and how many bytes they wrote.
-#[derive(Clone, Copy)]
+#[derive(Clone, Copy, Debug, PartialEq, Eq)]
 pub struct Stepped {
     pub standing: Standing,
     pub wrote: usize,
@@ -56,11 +57,7 @@ fn closed(standing: Standing, end: usize) -> Standing
     }
     Standing {
         goes: false,
-        at: standing.at,
-        size: standing.size,
-        operations: standing.operations,
-        cells: standing.cells,
-        requested: standing.requested,
+        ..standing
     }
 }
 
@@ -94,11 +91,9 @@ fn take_line(
     ensures { LinedIn text.entry standing arities.entry room.entry out.entry arities.exit room.exit out.exit result }
 {
     let taken = next_step(text, standing, arities, room, out);
-    let after = taken.standing;
     let wrote = taken.wrote;
-    let end = text.len();
     Stepped {
-        standing: closed(after, end),
+        standing: closed(taken.standing, text.len()),
         wrote,
     }
 }
@@ -117,6 +112,7 @@ fn take_lines(
 {
     let mut standing = start;
     let mut put: usize = 0;
+    // A `while`: it ends where the run is over, or the room gets short.
     while standing.goes {
         if out.len() - put < line_room(standing) {
             return Stepped {
@@ -126,7 +122,7 @@ fn take_lines(
         }
         let next = take_line(text, standing, arities, room, &mut out[put..]);
         standing = next.standing;
-        put = put + next.wrote;
+        put += next.wrote;
     }
     Stepped {
         standing,

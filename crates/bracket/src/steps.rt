@@ -2,66 +2,76 @@
 ghost use Rattle.std.specs.Prelude.{true, ◌≡◌, ◌+◌, ◌≤◌, ◌<◌, length};
 ghost use Rattle.bracket.specs.Transcript.{operation_step, request_step};
 ghost use Rattle.bracket.specs.Standings.{Sound, Kept};
-ghost use Rattle.bracket.specs.InnerSteps.{Lent, behind_lines, AfterLine, FirstStepIn, StepIn, DueIn};
+ghost use Rattle.bracket.specs.InnerSteps.{Lent, behind_lines, RefusedAt, AfterLine, FirstStepIn, StepIn, DueIn};
 
-use crate::run::{Standing, Stepped, unread};
+use crate::run::{Standing, Stepped};
 use answers::answer;
+use equivalence::Refusal;
 use linewriter::write_refused;
 use numberreader::begins_with;
 use reader::requests::read_request;
-use reader::taking::{AlgebraSoFar, LineTaken, take_operation_line, take_size_line};
+use reader::taking::{AlgebraSoFar, take_operation_line, take_size_line};
+use tablereader::Spot;
 
 // The longest text that is read.
 const TEXT_LIMIT: usize = 65536;
 
-// Where a run stands behind the lines of its algebra, before any request; it goes on, or it is over.
-fn behind_lines(goes: bool, algebra: AlgebraSoFar) -> Standing
-    ensures { result ≡ behind_lines goes algebra }
+// Where a run stands behind the lines of its algebra, before any request.
+impl From<AlgebraSoFar> for Standing {
+    ghost from_gives = { λ algebra standing. standing ≡ behind_lines algebra };
+
+    fn from(algebra: AlgebraSoFar) -> Standing {
+        Standing {
+            goes: true,
+            at: algebra.at,
+            size: algebra.size,
+            operations: algebra.operations,
+            cells: algebra.cells,
+            requested: false,
+        }
+    }
+}
+
+// A refusal of a line, which ends the run where it stands.
+fn refused(reason: Refusal, standing: Standing, out: &mut [u8]) -> Stepped
+    requires { 14 ≤ length out.old }
+    ensures { RefusedAt reason standing out.old out.new result }
 {
-    Standing {
-        goes,
-        at: algebra.at,
-        size: algebra.size,
-        operations: algebra.operations,
-        cells: algebra.cells,
-        requested: false,
+    let wrote = write_refused(reason, out);
+    Stepped {
+        standing: Standing {
+            goes: false,
+            ..standing
+        },
+        wrote,
     }
 }
 
 // What a line of the algebra makes of the run: it writes nothing, and a refusal of it ends the run.
-fn after_line(line: LineTaken, out: &mut [u8]) -> Stepped
+fn after_line(line: Result<AlgebraSoFar, Refusal>, standing: Standing, out: &mut [u8]) -> Stepped
     requires { 14 ≤ length out.old }
-    ensures { AfterLine line out.old out.new result }
+    ensures { AfterLine line standing out.old out.new result }
 {
-    let algebra = line.algebra;
-    let check = line.check;
-    if let equivalence::Check::Failed(r) = check {
-        let wrote = write_refused(r, out);
-        return Stepped {
-            standing: behind_lines(false, algebra),
-            wrote,
-        };
-    }
-    Stepped {
-        standing: behind_lines(true, algebra),
-        wrote: 0,
+    match line {
+        Ok(algebra) => Stepped {
+            standing: Standing::from(algebra),
+            wrote: 0,
+        },
+        Err(reason) => refused(reason, standing, out),
     }
 }
 
 // The first line of a text, which is its size line. A longer text than is read is 14.
-fn first_step(text: &[u8], out: &mut [u8]) -> Stepped
-    requires { 14 ≤ length out.old }
+fn first_step(text: &[u8], standing: Standing, out: &mut [u8]) -> Stepped
+    requires sound { Sound text.now standing }
+    requires out_room { 14 ≤ length out.old }
     ensures { FirstStepIn text.entry out.entry out.exit result }
 {
     if TEXT_LIMIT < text.len() {
-        let wrote = write_refused(equivalence::Refusal::Text, out);
-        return Stepped {
-            standing: unread(false),
-            wrote,
-        };
+        return refused(Refusal::Text, standing, out);
     }
     let line = take_size_line(text, 0);
-    after_line(line, out)
+    after_line(line, standing, out)
 }
 
 // An operation line, which begins with `[op`.
@@ -85,7 +95,7 @@ fn operation_step(
         cells: standing.cells,
     };
     let line = take_operation_line(text, algebra, arities, room);
-    after_line(line, out)
+    after_line(line, standing, out)
 }
 
 // A line that is no operation: a request, or a fault.
@@ -102,36 +112,29 @@ fn request_step(
     ensures step_in { StepIn request_step text.now standing arities.now room.old out.old arities.now room.new out.new result }
     ensures kept { Kept standing arities.now room.old result.standing arities.now room.new }
 {
-    let operations = standing.operations;
     let cells = standing.cells;
-    let line = read_request(text, standing.at, room, cells);
-    let asked = line.asked;
-    let end = line.end;
-    let after = Standing {
-        goes: line.ok,
-        at: line.next,
-        size: standing.size,
-        operations,
-        cells,
-        requested: true,
+    let from = Spot {
+        at: standing.at,
+        put: cells,
     };
-    if !line.ok {
-        let wrote = write_refused(equivalence::Refusal::Text, out);
-        return Stepped {
-            standing: after,
-            wrote,
-        };
-    }
+    let Some(line) = read_request(text, from, room) else {
+        return refused(Refusal::Text, standing, out);
+    };
     let wrote = answer(
         standing.size as usize,
-        &arities[0..operations],
+        &arities[0..standing.operations],
         &room[0..cells],
-        asked,
-        &room[cells..end],
+        line.asked,
+        &room[cells..line.end],
         out,
     );
     Stepped {
-        standing: after,
+        standing: Standing {
+            goes: true,
+            at: line.next,
+            requested: true,
+            ..standing
+        },
         wrote,
     }
 }
@@ -151,7 +154,7 @@ pub fn next_step(
     ensures kept { Kept standing arities.old room.old result.standing arities.new room.new }
 {
     if standing.at == 0 {
-        return first_step(text, out);
+        return first_step(text, standing, out);
     }
     if standing.requested {
         return request_step(text, standing, arities, room, out);

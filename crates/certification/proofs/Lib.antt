@@ -1,2 +1,3 @@
 pub mod Certifying
 pub mod Dividing
+pub mod Turns

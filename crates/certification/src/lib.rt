@@ -21,15 +21,11 @@ fn all_congruences(n: usize, arities: &[u8], cells: &[u8], count: usize, maps: &
     requires maps_listed { MapsListed n count maps.now }
     ensures { result ≡ every (λ m. is_map n m && is_congruence (algebra_in n arities.entry cells.entry) m) (map_list n count maps.now) }
 {
-    let mut i = 0;
-    let mut at = 0;
-    while i < count {
-        let next = at + n;
-        if !likeness::is_congruence(n, arities, cells, &maps[at..next]) {
+    for i in 0..count {
+        let at = i * n;
+        if !likeness::is_congruence(n, arities, cells, &maps[at..at + n]) {
             return false;
         }
-        at = next;
-        i += 1;
     }
     true
 }

@@ -1,6 +1,6 @@
 // Certify's fourth condition: a congruence is maximal for some pair just where it has two blocks or more and its quotient is irreducible, that is, where
 // gathering on the quotient ends in a pair. Working storage: a quotient's tables, the table for meets, a meet, and 63 maps.
-ghost use Rattle.std.specs.Prelude.{◌≡◌, not, ◌&&◌, ◌≤◌, T, length};
+ghost use Rattle.std.specs.Prelude.{◌≡◌, not, ◌&&◌, ◌≤◌, T};
 ghost use Rattle.equivalence.specs.Lists.{every, any};
 ghost use Rattle.equivalence.specs.Equivalence.{is_map, blocks};
 ghost use Rattle.pairorder.specs.Order.{pairs};
@@ -11,34 +11,19 @@ ghost use Rattle.quotient.specs.Quotient.{quotient};
 ghost use Rattle.theory.specs.Certify.{is_maximal_for};
 ghost use Rattle.theory.specs.Decompose.{reducible};
 ghost use Rattle.maplist.specs.InnerMapLists.{map_list, MapsListed};
-ghost use Rattle.certification.specs.InnerStorage.{Storage};
 
-use algebra::cell_count;
+use algebra::{MAX_CELLS, cell_count};
 use equivalence::map::block_count;
 use gathering::gather::{Collected, gather};
 use quotient::divide;
 
-// Whether an algebra of two elements or more is irreducible. `table`, `met` and `maps` are working storage.
-fn is_irreducible(
-    n: usize,
-    arities: &[u8],
-    cells: &[u8],
-    table: &mut [u8],
-    met: &mut [u8],
-    maps: &mut [u8],
-) -> bool
-    requires accepted { Accepted (algebra_in n arities cells) }
-    requires le_n { 2 ≤ n }
-    requires table_len { length table.old ≡ 4096 }
-    requires met_len { length met.old ≡ 64 }
-    requires maps_len { length maps.old ≡ 4032 }
-    ensures { result ≡ not (reducible (algebra_in n arities.entry cells.entry)) }
-{
-    let gathered = gather(n, arities, cells, table, met, maps);
-    match gathered {
-        Collected::Joined(_, _) => true,
-        Collected::All(_) => false,
-    }
+// Working storage: a quotient's tables, the table for meets, a meet, and 63 maps.
+#[derive(Drop)]
+struct Storage {
+    tables: [u8; MAX_CELLS],
+    table: [u8; 4096],
+    met: [u8; 64],
+    maps: [u8; 4032],
 }
 
 // Whether the quotient by a congruence of two blocks or more is irreducible.
@@ -47,37 +32,32 @@ fn divides_irreducibly(
     arities: &[u8],
     cells: &[u8],
     map: &[u8],
-    tables: &mut [u8],
-    table: &mut [u8],
-    met: &mut [u8],
-    maps: &mut [u8],
+    storage: &mut Storage,
 ) -> bool
     requires accepted { Accepted (algebra_in n arities cells) }
     requires congruence { Congruence (algebra_in n arities cells) map.now }
     requires bound { 2 ≤ blocks n map.now }
-    requires storage { Storage tables.old table.old met.old maps.old }
     ensures { result ≡ not (reducible (quotient (algebra_in n arities.entry cells.entry) map.now)) }
 {
-    let b = divide(n, arities, cells, map, tables) as usize;
+    let Storage {
+        tables,
+        table,
+        met,
+        maps,
+    } = storage;
+    let b = usize::from(divide(n, arities, cells, map, tables));
     let count = cell_count(b, arities);
-    is_irreducible(b, arities, &tables[0..count], table, met, maps)
+    match gather(b, arities, &tables[..count], table, met, maps) {
+        Collected::Joined(_, _) => true,
+        Collected::All(_) => false,
+    }
 }
 
 // Whether the congruence holds some pair apart that every strictly larger one joins. One of one block holds nothing apart, and one of two blocks has
 // only *all* above it.
-fn is_maximal(
-    n: usize,
-    arities: &[u8],
-    cells: &[u8],
-    map: &[u8],
-    tables: &mut [u8],
-    table: &mut [u8],
-    met: &mut [u8],
-    maps: &mut [u8],
-) -> bool
+fn is_maximal(n: usize, arities: &[u8], cells: &[u8], map: &[u8], storage: &mut Storage) -> bool
     requires accepted { Accepted (algebra_in n arities cells) }
     requires congruence { Congruence (algebra_in n arities cells) map.now }
-    requires storage { Storage tables.old table.old met.old maps.old }
     ensures { result ≡ any (is_maximal_for (algebra_in n arities.entry cells.entry) map.now) (pairs n) }
 {
     let b = block_count(n, map);
@@ -87,67 +67,7 @@ fn is_maximal(
     if b < 3 {
         return true;
     }
-    divides_irreducibly(n, arities, cells, map, tables, table, met, maps)
-}
-
-// Whether every congruence of the list `listed` holds some pair apart that every strictly larger one joins.
-fn all_maximal_in(
-    n: usize,
-    arities: &[u8],
-    cells: &[u8],
-    count: usize,
-    listed: &[u8],
-    tables: &mut [u8],
-    table: &mut [u8],
-    met: &mut [u8],
-    maps: &mut [u8],
-) -> bool
-    requires accepted { Accepted (algebra_in n arities cells) }
-    requires maps_listed { MapsListed n count listed.now }
-    requires t { T (every (λ m. is_map n m && is_congruence (algebra_in n arities cells) m) (map_list n count listed.now)) }
-    requires storage { Storage tables.old table.old met.old maps.old }
-    ensures { result ≡ every (λ m. any (is_maximal_for (algebra_in n arities.entry cells.entry) m) (pairs n)) (map_list n count listed.now) }
-{
-    let mut i = 0;
-    let mut at = 0;
-    while i < count {
-        let next = at + n;
-        if !is_maximal(
-            n,
-            arities,
-            cells,
-            &listed[at..next],
-            tables,
-            table,
-            met,
-            maps,
-        ) {
-            return false;
-        }
-        at = next;
-        i += 1;
-    }
-    true
-}
-
-// The same, on arrays, whose lengths are known from their types.
-fn all_maximal_on(
-    n: usize,
-    arities: &[u8],
-    cells: &[u8],
-    count: usize,
-    listed: &[u8],
-    tables: &mut [u8; 32768],
-    table: &mut [u8; 4096],
-    met: &mut [u8; 64],
-    maps: &mut [u8; 4032],
-) -> bool
-    requires accepted { Accepted (algebra_in n arities cells) }
-    requires maps_listed { MapsListed n count listed.now }
-    requires t { T (every (λ m. is_map n m && is_congruence (algebra_in n arities cells) m) (map_list n count listed.now)) }
-    ensures { result ≡ every (λ m. any (is_maximal_for (algebra_in n arities.entry cells.entry) m) (pairs n)) (map_list n count listed.now) }
-{
-    all_maximal_in(n, arities, cells, count, listed, tables, table, met, maps)
+    divides_irreducibly(n, arities, cells, map, storage)
 }
 
 // Whether every congruence of the list holds some pair apart that every strictly larger one joins.
@@ -157,19 +77,18 @@ pub fn all_maximal(n: usize, arities: &[u8], cells: &[u8], count: usize, listed:
     requires t { T (every (λ m. is_map n m && is_congruence (algebra_in n arities cells) m) (map_list n count listed.now)) }
     ensures { result ≡ every (λ m. any (is_maximal_for (algebra_in n arities.entry cells.entry) m) (pairs n)) (map_list n count listed.now) }
 {
-    let mut tables = [0u8; 32768];
-    let mut table = [0u8; 4096];
-    let mut met = [0u8; 64];
-    let mut maps = [0u8; 4032];
-    all_maximal_on(
-        n,
-        arities,
-        cells,
-        count,
-        listed,
-        &mut tables,
-        &mut table,
-        &mut met,
-        &mut maps,
-    )
+    let mut storage = Storage {
+        tables: [0; MAX_CELLS],
+        table: [0; 4096],
+        met: [0; 64],
+        maps: [0; 4032],
+    };
+    // Not one function with `all_congruences`, over the test: this one writes working storage, and a closure that does leaves a proof nothing of it.
+    for i in 0..count {
+        let at = i * n;
+        if !is_maximal(n, arities, cells, &listed[at..at + n], &mut storage) {
+            return false;
+        }
+    }
+    true
 }

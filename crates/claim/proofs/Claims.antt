@@ -9,7 +9,7 @@ use lib.ListN.{length, take, drop}
 use mir.Syntax.{w64}
 use mir.Val.{Fits}
 use Rattle.equivalence.specs.Equivalence.{Map, blocks}
-use Rattle.equivalence.specs.Lent.{stretch, written}
+use Rattle.equivalence.specs.Lent.{stretch}
 use Rattle.equivalence.proofs.BlockNumbers.{blocks_le}
 use Rattle.equivalence.proofs.Writing.{written_length}
 use Rattle.algebra.specs.Accepted.{Accepted}
@@ -26,28 +26,27 @@ use Rattle.claim.specs.Calls.{factor_count, irreducible_count, last_call, factor
 use Rattle.claim.specs.InnerPromises.{TablesFit}
 use Rattle.equivalence.specs.declared.Refusal.{Refusal}
 use Rattle.equivalence.specs.declared.Element.{Element}
-use Rattle.congruence.specs.declared.Divided.{Divided}
-use Rattle.congruence.specs.declared.Divided.TheVariants.{Blocks, Refused as DivideRefused}
-use Rattle.congruence.specs.declared.Decomposed.{Decomposed}
-use Rattle.congruence.specs.declared.Decomposed.TheVariants.{Factors, Irreducible, Refused as DecomposeRefused}
+use Rattle.std.specs.Prelude.{Result, Ok, Err, IsErrAnd}
+use Rattle.congruence.specs.Decomposed.{Decomposed}
+use Rattle.congruence.specs.Decomposed.TheVariants.{Factors, Irreducible}
+use Rattle.equivalence.proofs.Refusals.{handed_on}
 use Rattle.claim.specs.declared.FactorsDecomposed.{FactorsDecomposed}
 
 -- ---- answers by cases
 
 -- an answer that counts a factor is a list of factors
-counts_factors : (d : Decomposed) (i : ℕ) → i < factor_count d → d ≡ Factors (factor_count d)
+counts_factors : (d : Decomposed) (i : ℕ) → i < factor_count (Ok d) → d ≡ Factors (factor_count (Ok d))
 unfolding factor_count
 counts_factors (Factors k) i l = refl
 counts_factors (Irreducible x y) i l = absurd (omega arith)
-counts_factors (DecomposeRefused r) i l = absurd (omega arith)
 
-pub counted_few : (d : Decomposed) → irreducible_count d ≤ 1
+pub counted_few : (d : Result Decomposed Refusal) → irreducible_count d ≤ 1
 unfolding irreducible_count
-counted_few (Factors k) = omega arith
-counted_few (Irreducible x y) = omega arith
-counted_few (DecomposeRefused r) = omega arith
+counted_few (Ok (Factors k)) = omega arith
+counted_few (Ok (Irreducible x y)) = omega arith
+counted_few (Err r) = omega arith
 
-irreducible_counted : (d : Decomposed) (x y : Element) → d ≡ Irreducible x y → irreducible_count d ≡ 1
+irreducible_counted : (d : Result Decomposed Refusal) (x y : Element) → d ≡ Ok (Irreducible x y) → irreducible_count d ≡ 1
 unfolding irreducible_count
 irreducible_counted d x y e = rw e
 
@@ -58,18 +57,18 @@ module _ (a : Algebra) (m : Map) (tables : List ℕ) where
   pub quotient_length : length (quotient_call a m tables).1 ≡ length tables
   quotient_length = by_answer (quotient_call a m tables).0 refl
     where
-      by_answer : (d : Divided) → (quotient_call a m tables).0 ≡ d → length (quotient_call a m tables).1 ≡ length tables
-      by_answer (Blocks b) e =
-          let g = quotient_gave a m tables (quotient_call a m tables).1 b (ap (λ (d : Divided). (d, (quotient_call a m tables).1)) e) in
+      by_answer : (d : Result ℕ Refusal) → (quotient_call a m tables).0 ≡ d → length (quotient_call a m tables).1 ≡ length tables
+      by_answer (Ok b) e =
+          let g = quotient_gave a m tables (quotient_call a m tables).1 b (ap (λ (d : Result ℕ Refusal). (d, (quotient_call a m tables).1)) e) in
           rw (← g.1.1.1.1) (written_length (quotient_cells a m) tables (omega (arith, g.1.1.1.0, quotient_cells_length a m)))
-      by_answer (DivideRefused r) e = ap length ((reasons.quotient a m tables).unwritten r e)
+      by_answer (Err r) e = ap length ((reasons.quotient a m tables).unwritten r e)
 
   -- where b blocks are given, the algebra is accepted, and the tables over b have room
-  given_fits : {d : Divided} {after : List ℕ} {b : ℕ} → (d, after) ≡ quotient_call a m tables → d ≡ Blocks b → TablesFit b a.arities after
+  given_fits : {d : Result ℕ Refusal} {after : List ℕ} {b : ℕ} → (d, after) ≡ quotient_call a m tables → d ≡ Ok b → TablesFit b a.arities after
   given_fits {d} {after} {b} e h =
       let g = quotient_gave a m tables after b (rw h at (sym e)) in
       let w = accepted_well_formed a g.0 in
-      let long : length after ≡ length tables = ap (λ (c : Divided × List ℕ). length c.1) e ∙ quotient_length in
+      let long : length after ≡ length tables = ap (λ (c : Result ℕ Refusal × List ℕ). length c.1) e ∙ quotient_length in
       record {
         most = omega (arith, w.most, blocks_le a.size m, g.1.1.0);
         operations = w.operations;
@@ -77,8 +76,8 @@ module _ (a : Algebra) (m : Map) (tables : List ℕ) where
         room = rw (long, ← g.1.1.0) g.1.1.1.0;
       }
 
-pub quotient_given : (n : ℕ) (arities cells : List ℕ) (m : Map) (tables : List ℕ) {d : Divided} {after : List ℕ} {b : ℕ}
-    → (d, after) ≡ quotient_call (algebra_of n arities cells) m tables → d ≡ Blocks b → TablesFit b arities after
+pub quotient_given : (n : ℕ) (arities cells : List ℕ) (m : Map) (tables : List ℕ) {d : Result ℕ Refusal} {after : List ℕ} {b : ℕ}
+    → (d, after) ≡ quotient_call (algebra_of n arities cells) m tables → d ≡ Ok b → TablesFit b arities after
 quotient_given n arities cells m tables = given_fits (algebra_of n arities cells) m tables
 
 -- ---- Decompose
@@ -88,43 +87,42 @@ length_none [] e = refl
 length_none (x ∷ xs) e = absurd (omega (arith, e))
 
 -- the tables are the first cells, as many as were counted; a slice of no bytes holds nothing
-pub front_decomposed : (b : ℕ) (arities tables lent : List ℕ) {count : ℕ} {r : Decomposed} {after : List ℕ} → length lent ≡ 0 → count ≡ cell_count b arities
-    → (r, after) ≡ decompose_call (algebra_of b arities (take (count - 0) tables)) lent → r ≡ (decompose_call (algebra_from b arities tables) []).0
-front_decomposed b arities tables lent {count} none e f =
-    let all : count - 0 ≡ cell_count b arities = omega arith in
-    ap (λ (c : Decomposed × List ℕ). c.0)
-    (f ∙ ap (λ (k : ℕ). decompose_call (algebra_of b arities (take k tables)) lent) all ∙ ap (decompose_call (algebra_from b arities tables)) (length_none lent none))
+pub front_decomposed : (b : ℕ) (arities tables lent : List ℕ) {count : ℕ} {r : Result Decomposed Refusal} {after : List ℕ} → length lent ≡ 0 → count ≡ cell_count b arities
+    → (r, after) ≡ decompose_call (algebra_of b arities (take count tables)) lent → r ≡ (decompose_call (algebra_from b arities tables) []).0
+front_decomposed b arities tables lent {count} none same f =
+    ap (λ (c : Result Decomposed Refusal × List ℕ). c.0)
+    (f ∙ ap (λ (k : ℕ). decompose_call (algebra_of b arities (take k tables)) lent) same ∙ ap (decompose_call (algebra_from b arities tables)) (length_none lent none))
 
 -- the factors that are counted stand in the lent list
 factors_fit : (a : Algebra) (lent : List ℕ) → factor_count (decompose_call a lent).0 * a.size ≤ length lent
 unfolding factor_count
 factors_fit a lent = by_answer (decompose_call a lent).0 refl
   where
-    by_answer : (d : Decomposed) → (decompose_call a lent).0 ≡ d → factor_count d * a.size ≤ length lent
-    by_answer (Factors k) e = (decompose_gave a lent (decompose_call a lent).1 k (ap (λ (d : Decomposed). (d, (decompose_call a lent).1)) e)).1.1.1.0
-    by_answer (Irreducible x y) e = omega arith
-    by_answer (DecomposeRefused r) e = omega arith
+    by_answer : (d : Result Decomposed Refusal) → (decompose_call a lent).0 ≡ d → factor_count d * a.size ≤ length lent
+    by_answer (Ok (Factors k)) e = (decompose_gave a lent (decompose_call a lent).1 k (ap (λ (d : Result Decomposed Refusal). (d, (decompose_call a lent).1)) e)).1.1.1.0
+    by_answer (Ok (Irreducible x y)) e = omega arith
+    by_answer (Err r) e = omega arith
 
 -- ---- the calls for one factor
 
-module _ (a : Algebra) (m tables : List ℕ) {d : Divided} {tables' : List ℕ} (e : (d, tables') ≡ quotient_call a m tables) where
+module _ (a : Algebra) (m tables : List ℕ) {d : Result ℕ Refusal} {tables' : List ℕ} (e : (d, tables') ≡ quotient_call a m tables) where
   -- Quotient gives b blocks
-  pub calls_given : {b : ℕ} {r : Decomposed} → d ≡ Blocks b → r ≡ (decompose_call (algebra_from b a.arities tables') []).0 → (r, tables') ≡ factor_calls a m tables
+  pub calls_given : {b : ℕ} {r : Result Decomposed Refusal} → d ≡ Ok b → r ≡ (decompose_call (algebra_from b a.arities tables') []).0 → (r, tables') ≡ factor_calls a m tables
   unfolding factor_calls last_call
   calls_given f g = rw (← e, f, ← g)
 
   -- Quotient declines
-  pub calls_declined : {r : Refusal} → d ≡ DivideRefused r → (DecomposeRefused r, tables') ≡ factor_calls a m tables
+  pub calls_declined : {r : Refusal} → d ≡ Err r → {given : Result Decomposed Refusal} → IsErrAnd given (λ e. e ≡ r) → (given, tables') ≡ factor_calls a m tables
   unfolding factor_calls last_call
-  calls_declined f = rw (← e, f)
+  calls_declined f h = rw (← e, f, handed_on h)
 
 module _ (a : Algebra) (m tables : List ℕ) where
   -- Quotient is given, and its quotient answers 11: the last answer is 11, and the tables keep their length
   factor_answers : QuotientAnswers11 a m → quotient_space a m ≤ length tables
-      → ((x : Element) × (y : Element) × ((factor_calls a m tables).0 ≡ Irreducible x y)) × (length (factor_calls a m tables).1 ≡ length tables)
+      → ((x : Element) × (y : Element) × ((factor_calls a m tables).0 ≡ Ok (Irreducible x y))) × (length (factor_calls a m tables).1 ≡ length tables)
   factor_answers q room =
       let b : ℕ = blocks a.size m in
-      let given : (quotient_call a m tables).0 ≡ Blocks b = q.given tables room in
+      let given : (quotient_call a m tables).0 ≡ Ok b = q.given tables room in
       let calls = calls_given a m tables refl given refl in
       let d = q.answers11 tables room b given [] in
       rw (← calls) ((d.0, d.1, d.2), quotient_length a m tables)
@@ -132,55 +130,52 @@ module _ (a : Algebra) (m tables : List ℕ) where
 -- ---- the loop over the factors
 
 -- the calls for the factors below number i were made
-pub record Calling (a : Algebra) (list : List ℕ) (count : ℕ) (before : List ℕ) (i place counted : ℕ) (after : List ℕ) : Type 0 where
+pub record Calling (a : Algebra) (list : List ℕ) (count : ℕ) (before : List ℕ) (i counted : ℕ) (after : List ℕ) : Type 0 where
   pub room : count * a.size ≤ length list
-  pub start : place ≡ i * a.size
-  pub upto : i ≤ count
   pub few : counted ≤ i
   pub answers : counted ≡ irreducible_among a list before i
   pub lent : after ≡ tables_at a list before i
   pub long : length after ≡ length before
 
 pub calling_start : (a : Algebra) (list : List ℕ) (count : ℕ) (before : List ℕ) → count * a.size ≤ length list
-    → Calling a list count before 0 0 0 before
+    → Calling a list count before 0 0 before
 unfolding irreducible_among tables_at
 calling_start a list count before room =
-    record { room = room; start = omega arith; upto = omega arith; few = omega arith; answers = refl; lent = refl; long = refl }
+    record { room = room; few = omega arith; answers = refl; lent = refl; long = refl }
 
-module _ {a : Algebra} {list : List ℕ} {count : ℕ} {before : List ℕ} {i place counted : ℕ} {after : List ℕ}
-    (p : Calling a list count before i place counted after) where
+module _ {a : Algebra} {list : List ℕ} {count : ℕ} {before : List ℕ} {i counted : ℕ} {after : List ℕ}
+    (p : Calling a list count before i counted after) where
   -- the next factor's map stands in the list
-  pub calling_part : i < count → place + a.size ≤ length list
-  calling_part l = omega (arith, p.start, p.room, suc-mul i a.size, mul-le-mul_right a.size l)
+  pub calling_part : i < count → i * a.size + a.size ≤ length list
+  calling_part l = omega (arith, p.room, suc-mul i a.size, mul-le-mul_right a.size l)
 
   -- what is counted is at most the number of factors
-  pub calling_fits : i < count → (r : Decomposed) {one : ℕ} → one ≡ irreducible_count r → Fits w64 count → Fits w64 (counted + one)
+  pub calling_fits : i < count → (r : Result Decomposed Refusal) {one : ℕ} → one ≡ irreducible_count r → Fits w64 count → Fits w64 (counted + one)
   calling_fits l r e h = omega (arith, p.few, counted_few r)
 
   -- the calls for all of them were made
-  pub calling_all : count ≤ i → (counted ≡ irreducible_among a list before count) × (after ≡ tables_at a list before count)
-  calling_all h = let e : i ≡ count = omega (arith, p.upto) in rw (← e) (p.answers, p.lent)
+  pub calling_all : i ≡ count → (counted ≡ irreducible_among a list before count) × (after ≡ tables_at a list before count)
+  calling_all e = rw (← e) (p.answers, p.lent)
 
   -- the calls for the next one
-  module _ (l : i < count) {r : Decomposed} {new : List ℕ} (e : (r, new) ≡ factor_calls a (take (place + a.size - place) (drop place list)) after) where
+  module _ (l : i < count) {r : Result Decomposed Refusal} {new : List ℕ} (e : (r, new) ≡ factor_calls a (take (i * a.size + a.size - i * a.size) (drop (i * a.size) list)) after) where
     next_calls : (r, new) ≡ factor_calls a (stretch a.size list i) (tables_at a list before i)
     unfolding stretch
     next_calls =
-        let wide : place + a.size - place ≡ a.size = omega arith in
-        e ∙ ap (λ (w : ℕ). factor_calls a (take w (drop place list)) after) wide
-        ∙ ap (λ (s : ℕ). factor_calls a (take a.size (drop s list)) after) p.start
+        let wide : i * a.size + a.size - i * a.size ≡ a.size = omega arith in
+        e ∙ ap (λ (w : ℕ). factor_calls a (take w (drop (i * a.size) list)) after) wide
         ∙ ap (factor_calls a (stretch a.size list i)) p.lent
 
     next_answer : r ≡ last_answer a list before i
     unfolding last_answer
-    next_answer = ap (λ (c : Decomposed × List ℕ). c.0) next_calls
+    next_answer = ap (λ (c : Result Decomposed Refusal × List ℕ). c.0) next_calls
 
     next_lent : new ≡ tables_at a list before (suc i)
     unfolding tables_at
-    next_lent = ap (λ (c : Decomposed × List ℕ). c.1) next_calls
+    next_lent = ap (λ (c : Result Decomposed Refusal × List ℕ). c.1) next_calls
 
     pub calling_more : {one : ℕ} → length new ≡ length after → one ≡ irreducible_count r
-        → Calling a list count before (i + 1) (place + a.size) (counted + one) new
+        → Calling a list count before (i + 1) (counted + one) new
     unfolding irreducible_among
     calling_more {one} t g =
         let more : counted + one ≡ irreducible_among a list before (suc i) =
@@ -188,8 +183,6 @@ module _ {a : Algebra} {list : List ℕ} {count : ℕ} {before : List ℕ} {i pl
         ∙ ap (λ (d : ℕ). d + irreducible_count (last_answer a list before i)) p.answers in
         record {
           room = p.room;
-          start = omega (arith, p.start, suc-mul i a.size);
-          upto = omega arith;
           few = omega (arith, p.few, counted_few r, g);
           answers = rw add-one more;
           lent = rw add-one next_lent;
@@ -199,10 +192,10 @@ module _ {a : Algebra} {list : List ℕ} {count : ℕ} {before : List ℕ} {i pl
 -- ---- all calls
 
 -- the factors that are counted stand in the list
-pub counted_fit : (n : ℕ) (arities cells list : List ℕ) {first : Decomposed} {list' : List ℕ} {count : ℕ}
+pub counted_fit : (n : ℕ) (arities cells list : List ℕ) {first : Result Decomposed Refusal} {list' : List ℕ} {count : ℕ}
     → (first, list') ≡ decompose_call (algebra_of n arities cells) list → count ≡ factor_count first → length list' ≡ length list → count * n ≤ length list'
 counted_fit n arities cells list e f long =
-    rw (f, long, ap (λ (c : Decomposed × List ℕ). c.0) e) (factors_fit (algebra_of n arities cells) list)
+    rw (f, long, ap (λ (c : Result Decomposed Refusal × List ℕ). c.0) e) (factors_fit (algebra_of n arities cells) list)
 
 -- ---- the claim
 
@@ -213,25 +206,25 @@ module _ (a : Algebra) (list tables : List ℕ) (accepted : Accepted a) (enough 
   calls : FactorCalls a list
   calls = factor_calls_lem a accepted list enough.list
 
-  factor_quotient : (i : ℕ) → i < factor_count (decomposed a) → QuotientAnswers11 a (stretch a.size after i)
-  factor_quotient i l = calls.quotients (factor_count (decomposed a)) i (calls.answer ∙ counts_factors (decomposed a) i l) l
+  factor_quotient : (i : ℕ) → i < factor_count (Ok (decomposed a)) → QuotientAnswers11 a (stretch a.size after i)
+  factor_quotient i l = calls.quotients (factor_count (Ok (decomposed a))) i (calls.answer ∙ ap Ok (counts_factors (decomposed a) i l)) l
 
   -- before the calls for factor i the tables have their length
   abbrev Kept : ℕ → Type 0
   Kept i = length (tables_at a after tables i) ≡ length tables
 
-  last_answers : (i : ℕ) → i < factor_count (decomposed a) → Kept i → ((x : Element) × (y : Element) × (last_answer a after tables i ≡ Irreducible x y)) × Kept (suc i)
+  last_answers : (i : ℕ) → i < factor_count (Ok (decomposed a)) → Kept i → ((x : Element) × (y : Element) × (last_answer a after tables i ≡ Ok (Irreducible x y))) × Kept (suc i)
   unfolding tables_at last_answer
   last_answers i l k =
       let d = factor_answers a (stretch a.size after i) (tables_at a after tables i) (factor_quotient i l) (omega (arith, k, enough.tables i l)) in
       (d.0, d.1 ∙ k)
 
-  kept : (i : ℕ) → i ≤ factor_count (decomposed a) → Kept i
+  kept : (i : ℕ) → i ≤ factor_count (Ok (decomposed a)) → Kept i
   unfolding tables_at
   kept zero l = refl
   kept (suc i) l = (last_answers i (omega arith) (kept i (omega arith))).1
 
-  all_irreducible : (i : ℕ) → i ≤ factor_count (decomposed a) → irreducible_among a after tables i ≡ i
+  all_irreducible : (i : ℕ) → i ≤ factor_count (Ok (decomposed a)) → irreducible_among a after tables i ≡ i
   unfolding irreducible_among
   all_irreducible zero l = refl
   all_irreducible (suc i) l =
@@ -242,9 +235,9 @@ module _ (a : Algebra) (list tables : List ℕ) (accepted : Accepted a) (enough 
   every_last_call_11 : {r : FactorsDecomposed} {list' : List ℕ} → (r.first, list') ≡ decompose_call a list
       → r.irreducible ≡ irreducible_among a list' tables (factor_count r.first) → EveryLastCall11 a list tables r
   every_last_call_11 {r} {list'} e counted =
-      let first : r.first ≡ decomposed a = ap (λ (c : Decomposed × List ℕ). c.0) e ∙ calls.answer in
-      let written : list' ≡ after = ap (λ (c : Decomposed × List ℕ). c.1) e in
-      let few : factor_count r.first ≡ factor_count (decomposed a) = ap factor_count first in
+      let first : r.first ≡ Ok (decomposed a) = ap (λ (c : Result Decomposed Refusal × List ℕ). c.0) e ∙ calls.answer in
+      let written : list' ≡ after = ap (λ (c : Result Decomposed Refusal × List ℕ). c.1) e in
+      let few : factor_count r.first ≡ factor_count (Ok (decomposed a)) = ap factor_count first in
       record {
         first = first;
         each = λ i l. (last_answers i (omega (arith, few)) (kept i (omega (arith, few)))).0;
@@ -254,7 +247,7 @@ module _ (a : Algebra) (list tables : List ℕ) (accepted : Accepted a) (enough 
 
 -- ---- all calls: they were made, and the claim holds of them
 
-module _ (a : Algebra) (list tables : Slice) {first : Decomposed} {count counted : ℕ}
+module _ (a : Algebra) (list tables : Slice) {first : Result Decomposed Refusal} {count counted : ℕ}
     (e : (first, list.exit.now) ≡ decompose_call a list.entry.now) (f : count ≡ factor_count first)
     (g : counted ≡ irreducible_among a list.exit.now tables.entry.now count)
     (h : tables.exit.now ≡ tables_at a list.exit.now tables.entry.now count) where

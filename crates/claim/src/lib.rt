@@ -8,56 +8,62 @@ ghost use Rattle.congruence.specs.Calls.{algebra_from, decompose_call};
 ghost use Rattle.claim.specs.Calls.{factor_count, irreducible_count, factor_calls, tables_at, irreducible_among, CallsMade, Claim};
 ghost use Rattle.claim.specs.InnerPromises.{TablesFit};
 
-use congruence::{Decomposed, Divided};
+use congruence::Decomposed;
+use equivalence::Refusal;
 
 // What the calls came to: the answer of the first, and how many of the last ones answered 11.
 #[derive(Clone, Copy)]
 pub struct FactorsDecomposed {
-    pub first: Decomposed,
+    pub first: Result<Decomposed, Refusal>,
     pub irreducible: usize,
 }
 
 // How many factors an answer counts.
-fn factor_count(answer: Decomposed) -> usize
+#[tactic(auto, unfolding(crate::specs::Calls::factor_count))]
+fn factor_count(answer: Result<Decomposed, Refusal>) -> usize
     ensures { result ≡ factor_count answer }
 {
     match answer {
-        Decomposed::Factors(count) => count as usize,
-        Decomposed::Irreducible(_, _) => 0,
-        Decomposed::Refused(_) => 0,
+        Ok(Decomposed::Factors(count)) => usize::from(count),
+        Ok(Decomposed::Irreducible(_, _)) => 0,
+        Err(_) => 0,
     }
 }
 
 // 1 for the answer 11, 0 for every other.
-fn irreducible_count(answer: Decomposed) -> usize
+#[tactic(auto, unfolding(crate::specs::Calls::irreducible_count))]
+fn irreducible_count(answer: Result<Decomposed, Refusal>) -> usize
     ensures { result ≡ irreducible_count answer }
 {
     match answer {
-        Decomposed::Factors(_) => 0,
-        Decomposed::Irreducible(_, _) => 1,
-        Decomposed::Refused(_) => 0,
+        Ok(Decomposed::Factors(_)) => 0,
+        Ok(Decomposed::Irreducible(_, _)) => 1,
+        Err(_) => 0,
     }
 }
 
 // Decompose, lent nothing, on the tables at the start of a slice.
-fn decompose_front(b: usize, arities: &[u8], tables: &[u8]) -> Decomposed
+fn decompose_front(b: usize, arities: &[u8], tables: &[u8]) -> Result<Decomposed, Refusal>
     requires { TablesFit b arities.now tables.now }
     ensures { result ≡ (decompose_call (algebra_from b arities.now tables.now) []).0 }
 {
     let count = algebra::cell_count(b, arities);
     let mut nothing = [0u8; 0];
-    congruence::decompose(b, arities, &tables[0..count], &mut nothing)
+    congruence::decompose(b, arities, &tables[..count], &mut nothing)
 }
 
 // The calls for one factor: Quotient by its map, and Decompose on what this gave. The answer of the last call; a refusal of Quotient is passed on.
-fn factor_calls(n: usize, arities: &[u8], cells: &[u8], map: &[u8], tables: &mut [u8]) -> Decomposed
+fn factor_calls(
+    n: usize,
+    arities: &[u8],
+    cells: &[u8],
+    map: &[u8],
+    tables: &mut [u8],
+) -> Result<Decomposed, Refusal>
     ensures { (result, tables.new) ≡ factor_calls (algebra_in n arities.entry cells.entry) map.now tables.old }
 {
-    let divided = congruence::quotient(n, arities, cells, map, tables);
-    match divided {
-        Divided::Blocks(b) => decompose_front(b as usize, arities, tables),
-        Divided::Refused(reason) => Decomposed::Refused(reason),
-    }
+    let b = congruence::quotient(n, arities, cells, map, tables)?;
+    decompose_front(usize::from(b), arities, tables)
 }
 
 // The calls for the first `count` factors of the list. How many of the last ones answered 11.
@@ -74,14 +80,10 @@ fn irreducible_among(
     ensures tables_after { tables.new ≡ tables_at (algebra_in n arities.entry cells.entry) list.now tables.old count }
 {
     let mut irreducible = 0;
-    let mut i = 0;
-    let mut at = 0;
-    while i < count {
-        let next = at + n;
-        let last = factor_calls(n, arities, cells, &list[at..next], tables);
+    for i in 0..count {
+        let at = i * n;
+        let last = factor_calls(n, arities, cells, &list[at..at + n], tables);
         irreducible += irreducible_count(last);
-        at = next;
-        i += 1;
     }
     irreducible
 }

@@ -8,7 +8,9 @@ use mathlib.Core.Logic.{◌⊎◌, inl, inr}
 use mathlib.Core.Path.{◌≡◌, refl, sym, ap, subst, ◌∙◌, ap₂}
 use native.Mathlib.Decide.{dec_lt, ℕ_discrete}
 use native.Mathlib.Omega.{arith}
-use lib.ListN.{length, get_or, set, length-append, length-set}
+use lib.ListN.{length, get_or, set, take, length-append, length-set}
+use Rattle.std.proofs.lemmas.List.{get_or-take}
+use Rattle.std.proofs.lemmas.Grind.{common_steps}
 use lib.Seq.{get_or-set_same, get_or-set_other}
 use borrow.Author.Tests.{eq-eqb, eqb-true}
 use Rattle.equivalence.specs.Equivalence.{byte}
@@ -18,7 +20,6 @@ use Rattle.algebra.specs.Accepted.{Accepted}
 use Rattle.algebra.specs.Algebra.{Algebra}
 use Rattle.translation.specs.InnerTranslations.{result, Compatible}
 use Rattle.algebra.proofs.Accepted.{WellFormed, accepted_well_formed}
-use Rattle.algebra.proofs.Congruences.{cells_below}
 use Rattle.closure.specs.InnerClosing.{InUse, NamesInUse, Begun, Retired}
 use Rattle.closure.proofs.Collections.{count_of_names}
 use Rattle.sweep.specs.InnerContexts.{All, ImagesIn, OperationsIn, Contexts}
@@ -27,8 +28,8 @@ use Rattle.sweep.specs.InnerSweeps.{TwoJoined, Unless, RefusedRightly, Yes, Halt
 use Rattle.sweep.specs.declared.Stop.{Stop}
 use Rattle.sweep.proofs.Images.{all_map, all_below, below_all, all_append, images_kept, listed_below, compatible_whole, compatible_images}
 use Rattle.kernel.proofs.Names.{name_back}
-use Rattle.sweep.proofs.Queues.{in_queue_kept}
-use Rattle.sweep.proofs.Sweeps.{one_block, joined_kept, swept_none, swept_more, swept_halted}
+use Rattle.sweep.proofs.Queues.{in_queue_kept, grown_first}
+use Rattle.sweep.proofs.Sweeps.{one_block, joined_kept, swept_more, swept_halted}
 
 -- ---- lists of arguments
 
@@ -285,14 +286,13 @@ running_due {k = k} {s} r q l = r.listed (s.queue k) (record { small = q.small k
 
 -- at the end the elements in use are the names
 pub running_left : {a : Algebra} {v w k : ℕ} {s : QueueState} {live places : List ℕ} {count : ℕ} → Running a v w k s live count → Queued a.size s → k ≤ s.size → s.size ≤ k
-    → InUse a.size live places count → NamesInUse a.size s.map live places (names a.size s.map)
+    → InUse a.size live places count → NamesInUse a.size s.map live places count
 running_left {a} {k = k} {s} {live} {places} {count} r q lo hi held =
     let e : count ≡ names a.size s.map = omega (arith, r.number) in
     let named : (x : ℕ) → Listed live count x → s.map x ≡ x = λ x m.
     let o = r.alive x m in
     elim (r.lost x o.small o.name) [ inl h ↦ h | inr h ↦ absurd (o.waiting h.0 (omega (arith, h.1.0)) h.1.1) ] in
-    subst (NamesInUse a.size s.map live places) e
-    (record {
+    record {
       in_use = held;
       listed = record {
         small = held.below;
@@ -306,16 +306,13 @@ running_left {a} {k = k} {s} {live} {places} {count} r q lo hi held =
         once = λ i j l lj z. let y : i ≡ j = sym (held.placed i (omega arith)) ∙ ap (byte places) z ∙ held.placed j lj in absurd (omega arith);
         count = e ∙ sym (count_of_names s.map a.size);
       };
-    })
+    }
 
 -- ---- the loop
 
 -- the passes so far: merges that every compatible function makes
 abbrev pub Rounds : ℕ → List ℕ → Stop → Algebra → QueueState → QueueState → Type 0
 Rounds n refused stop a s t = SweptTo n refused stop (Compatible a) (λ f. Unit {0}) s t
-
-pub rounds_none : {n : ℕ} {refused : List ℕ} {stop : Stop} (a : Algebra) {s : QueueState} → Sweeping n stop s → Rounds n refused stop a s s
-rounds_none a k = swept_none k tt
 
 pub rounds_more : (a : Algebra) {refused : List ℕ} {stop : Stop} {k : ℕ} {s t u : QueueState} {live : List ℕ} {count : ℕ} → Contexts a.size a.cells live count
     → Rounds a.size refused stop a s t → k < t.size → Swept a.size refused stop (OperationsIn a (length a.arities) (Listed live count) (t.map (t.queue k)) (t.queue k)) t u
@@ -355,9 +352,6 @@ module _ {n b : ℕ} (live places : List ℕ) (count : ℕ) (held : InUse n live
 
   abbrev last : ℕ
   last = byte live (count - 1)
-
-  pub use_below : b < 64
-  use_below = subst (λ (z : ℕ). z < 64) m.1.1 (omega (arith, held.most, held.below m.0 m.1.0))
 
   place_found : i ≡ m.0
   place_found = ap (byte places) (sym m.1.1) ∙ held.placed m.0 m.1.0
@@ -416,6 +410,38 @@ module _ {n b : ℕ} (live places : List ℕ) (count : ℕ) (held : InUse n live
           absurd (omega (arith, m.1.0))
       | no z ↦ let y : m.0 ≡ i = one_place m.0 i (omega (arith, m.1.0)) place_below (sym (rest m.0 z) ∙ m.1.1 ∙ sym there) in absurd (z y)
     ];
+  }
+
+-- the first `count` of a list, as a list of their own
+module _ (live : List ℕ) {count : ℕ} (l : count ≤ length live) where
+  front_long : length (take count live) ≡ count
+  front_long = grind (arith, common_steps)
+
+  front_byte : (i : ℕ) → i < count → byte (take count live) i ≡ byte live i
+  front_byte i k = get_or-take count live i 0 k
+
+  front_listed : (c : ℕ) → Listed live count c → Listed (take count live) (length (take count live)) c
+  front_listed c m = (m.0, (omega (arith, front_long, m.1.0), front_byte m.0 m.1.0 ∙ m.1.1))
+
+  front_back : (c : ℕ) → Listed (take count live) (length (take count live)) c → Listed live count c
+  front_back c m = let k : m.0 < count = omega (arith, front_long, m.1.0) in (m.0, (k, sym (front_byte m.0 k) ∙ m.1.1))
+
+  pub front_contexts : {n : ℕ} {cells : List ℕ} → Contexts n cells live count → Contexts n cells (take count live) (length (take count live))
+  front_contexts x = record {
+    cells_most = x.cells_most;
+    cells_below = x.cells_below;
+    live_room = omega arith;
+    live_below = λ i k. let h : i < count = omega (arith, front_long) in omega (arith, front_byte i h, x.live_below i h);
+  }
+
+  -- a pass with these as contexts
+  pub front_swept : (a : Algebra) {n x y : ℕ} {refused : List ℕ} {stop : Stop} {s t : QueueState}
+      → Swept n refused stop (OperationsIn a (length a.arities) (Listed (take count live) (length (take count live))) x y) s t
+      → Swept n refused stop (OperationsIn a (length a.arities) (Listed live count) x y) s t
+  front_swept a {n} {x} {y} {t = t} d = record {
+    sweeping = d.sweeping;
+    grown = grown_first (λ g good w. (record { each = λ j lj. images_fewer a j x y g _ _ front_back (good.0.each j lj) }, good.1)) d.grown;
+    done = λ u. record { each = λ j lj. images_fewer a j x y t.map _ _ front_listed ((d.done u).each j lj) };
   }
 
 -- elements in use as contexts

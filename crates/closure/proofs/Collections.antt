@@ -1,15 +1,11 @@
 -- The laws of lists that a loop collects: one element after another, and how many there are.
 use Prim.Native.Nat.{ℕ, zero, suc, ◌+◌, ◌≤◌, ◌<◌}
 use mathlib.Core.Bool.{Bool, true, false, not}
-use mathlib.Core.List.{List}
 use mathlib.Core.Path.{◌≡◌, refl, sym, ap, ◌∙◌}
 use native.Mathlib.Decide.{ℕ_discrete}
 use native.Mathlib.Numerals.{add-one}
 use native.Mathlib.Omega.{arith}
 use lib.Dec.{eqb}
-use lib.ListN.{length, set}
-use lib.Seq.{get_or-set_same, get_or-set_other}
-use Rattle.equivalence.specs.Equivalence.{byte}
 use Rattle.kernel.proofs.Names.{bit_most}
 use Rattle.kernel.specs.InnerKernel.{bit, names}
 use Rattle.closure.specs.InnerStarts.{Pushed, count_of, Collected}
@@ -89,20 +85,6 @@ count_of_others f zero = refl
 count_of_others f (suc n) = omega (arith, count_of_others f n, bit_not (eqb (f n) n))
 
 -- ---- one push
-
-pub pushed_not : (x k : ℕ) (wanted : Bool) (p : ℕ → ℕ) → wanted ≡ false → Pushed x wanted p k p k
-pushed_not x k wanted p e = record {
-  count = omega (arith, ap bit e);
-  kept = λ i l. refl;
-  new = λ t. let z : ◌≡◌ {A = ℕ} 0 1 = cc in absurd (omega arith);
-}
-
-pub pushed_yes : (x k : ℕ) (wanted : Bool) (out : List ℕ) → wanted ≡ true → k < length out → Pushed x wanted (byte out) k (byte (set out k x)) (k + 1)
-pushed_yes x k wanted out e l = record {
-  count = omega (arith, ap bit e);
-  kept = λ i li. get_or-set_other out k i x 0 (omega arith);
-  new = λ t. get_or-set_same out k x 0 l;
-}
 
 pub names_total : (f : ℕ → ℕ) {n k : ℕ} {p : ℕ → ℕ} → Collected (λ x. eqb (f x) x) n p k → 0 + names n f ≡ k
 names_total f {n} h = omega (arith, h.count, count_of_names f n)

@@ -12,13 +12,14 @@ use lib.ListN.{length}
 use borrow.Author.Tests.{eq-eqb, eqb-true, ne_eqb}
 use Rattle.equivalence.specs.Equivalence.{byte}
 use Rattle.kernel.specs.InnerKernel.{Canonical, Within, names}
-use Rattle.kernel.proofs.Kernels.{identity_canonical, names_identity, names_positive}
+use Rattle.kernel.proofs.Kernels.{identity_canonical, names_identity}
 use Rattle.algebra.specs.Accepted.{Accepted}
 use Rattle.algebra.specs.Algebra.{Algebra, algebra_of}
 use Rattle.translation.specs.InnerTranslations.{result, Compatible, Closed}
 use Rattle.algebra.proofs.Accepted.{accepted_well_formed}
 use Rattle.translation.proofs.Translations.{result_below}
-use Rattle.closure.specs.InnerClosing.{InUse, NamesInUse, Begun, Apart}
+use Rattle.closure.specs.InnerClosing.{InUse, NamesInUse, Begun, ApartMade}
+use Rattle.closure.specs.declared.Congruence.{Congruence}
 use Rattle.sweep.specs.InnerContexts.{Contexts}
 use Rattle.sweep.specs.InnerQueue.{QueueState, state, InQueue, Padded, Ready, Grown}
 use Rattle.sweep.specs.InnerSweeps.{TwoJoined, RefusedRightly, Sweeping, Swept}
@@ -206,19 +207,10 @@ grown_tried a {x = x} {y} lx ly z right d j e = record {
 pub tried_closed : {a : Algebra} {x y v w r : ℕ} {f f' : ℕ → ℕ} → Tried a x y v w f f' r → (TwoJoined v w f' → ⊥) → Closed a (Extends a.size f x y) f'
 tried_closed t u = record { canonical = t.canonical; compatible = t.compatible u; good = t.good; least = t.least }
 
-pub tried_joined : {a : Algebra} {x y v w r : ℕ} {f f' : ℕ → ℕ} {live places : List ℕ} → v < a.size → w < a.size → Tried a x y v w f f' r → f' v ≡ f' w → Apart a x y v w f f' live places 0
-tried_joined {v = v} {w} lv lw t j = record {
-  closed = λ h. absurd (h refl);
-  apart = λ h. absurd (h refl);
-  left = λ h. absurd (h refl);
-  joined = λ e g cg gg. t.least g cg gg v w lv lw j;
-}
+pub tried_joined : {a : Algebra} {x y v w r : ℕ} {f f' : ℕ → ℕ} → v < a.size → w < a.size → Tried a x y v w f f' r → f' v ≡ f' w
+    → (g : ℕ → ℕ) → Compatible a g → Extends a.size f x y g → g v ≡ g w
+tried_joined {v = v} {w} lv lw t j g cg gg = t.least g cg gg v w lv lw j
 
-pub tried_apart : {a : Algebra} {x y v w r k : ℕ} {f f' : ℕ → ℕ} {live places : List ℕ} → 0 < a.size → Tried a x y v w f f' r → (f' v ≡ f' w → ⊥) → k ≡ names a.size f'
-    → NamesInUse a.size f' live places (names a.size f') → Apart a x y v w f f' live places k
-tried_apart {a} {f' = f'} {live} {places} z t j e held = record {
-  closed = λ h. tried_closed t (λ i. j i.one);
-  apart = λ h. j;
-  left = λ h. subst (NamesInUse a.size f' live places) (sym e) held;
-  joined = λ h. absurd (omega (arith, names_positive a.size f' z t.canonical));
-}
+pub tried_apart : {a : Algebra} {x y v w r : ℕ} {f : ℕ → ℕ} (c : Congruence) → Tried a x y v w f (byte c.map) r → (byte c.map v ≡ byte c.map w → ⊥)
+    → NamesInUse a.size (byte c.map) c.names.list c.names.places c.names.count → ApartMade a x y v w f c
+tried_apart c t j held = record { closed = tried_closed t (λ i. j i.one); apart = j; left = held; rest = t.rest }

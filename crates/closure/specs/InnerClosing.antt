@@ -1,10 +1,11 @@
 -- Where the closure of a map begins: a congruence, and the names that the map took away from it, all queued.
-use Rattle.std.specs.Prelude.{ℕ, ◌+◌, ◌≤◌, ◌<◌, ◌≡◌, ◌⊎◌, List, length}
+use Rattle.std.specs.Prelude.{ℕ, ◌+◌, ◌≤◌, ◌<◌, ◌≡◌, ◌⊎◌, List, Option, Some, None, length}
 use Rattle.equivalence.specs.Equivalence.{byte}
-use Rattle.kernel.specs.InnerKernel.{Canonical, Within, Listed, names}
+use Rattle.kernel.specs.InnerKernel.{Canonical, Within, KeptPast, Listed, names}
 use Rattle.algebra.specs.Algebra.{Algebra}
 use Rattle.translation.specs.InnerTranslations.{Compatible, Closed}
 use Rattle.sweep.specs.InnerQueue.{QueueState, InQueue}
+use Rattle.closure.specs.declared.Congruence.{Congruence}
 use Rattle.closure.specs.InnerStarts.{Extends, NamesListed}
 
 -- the first `count` elements of a list are elements, all different: `places` has where each stands
@@ -41,10 +42,14 @@ pub record Retired (n b : ℕ) (live : List ℕ) (count : ℕ) (live' places' : 
   pub old : (c : ℕ) → Listed live' count' c → Listed live count c
   pub gone : Listed live' count' b → ⊥
 
--- the answer to a try that must hold v and w apart: 0 where v and w are joined, and then whatever is compatible and large enough joins them; else the try has made the
--- closure, r is the number of its blocks, and their names are in use
-pub record Apart (a : Algebra) (x y v w : ℕ) (f f' : ℕ → ℕ) (live places : List ℕ) (r : ℕ) : Type 0 where
-  pub closed : (r ≡ 0 → ⊥) → Closed a (Extends a.size f x y) f'
-  pub apart : (r ≡ 0 → ⊥) → f' v ≡ f' w → ⊥
-  pub left : (r ≡ 0 → ⊥) → NamesInUse a.size f' live places r
-  pub joined : r ≡ 0 → (g : ℕ → ℕ) → Compatible a g → Extends a.size f x y g → g v ≡ g w
+-- c is the closure of f with x and y joined; it holds v and w apart, and its names are in use
+pub record ApartMade (a : Algebra) (x y v w : ℕ) (f : ℕ → ℕ) (c : Congruence) : Type 0 where
+  pub closed : Closed a (Extends a.size f x y) (byte c.map)
+  pub apart : byte c.map v ≡ byte c.map w → ⊥
+  pub left : NamesInUse a.size (byte c.map) c.names.list c.names.places c.names.count
+  pub rest : KeptPast a.size f (byte c.map)
+
+-- the answer to a try that must hold v and w apart: that closure, or nothing where whatever is compatible and large enough joins v and w
+abbrev pub ApartIn : Algebra → ℕ → ℕ → ℕ → ℕ → (ℕ → ℕ) → Option Congruence → Type 0
+ApartIn a x y v w f (Some c) = ApartMade a x y v w f c
+ApartIn a x y v w f None = (g : ℕ → ℕ) → Compatible a g → Extends a.size f x y g → g v ≡ g w

@@ -1,19 +1,10 @@
 -- How a closure starts and what it promises.
-use Rattle.std.specs.Prelude.{ℕ, zero, suc, ◌+◌, ◌*◌, ◌≤◌, ◌<◌, ◌≡◌, Bool, true, List, eqb, length}
+use Rattle.std.specs.Prelude.{ℕ, zero, suc, ◌+◌, ◌*◌, ◌<◌, ◌≡◌, Bool, true, List, eqb, length}
 use Rattle.equivalence.specs.Equivalence.{byte}
 use Rattle.kernel.specs.InnerKernel.{Canonical, Within, KeptPast, bit, names}
 use Rattle.algebra.specs.Algebra.{Algebra}
 use Rattle.translation.specs.InnerTranslations.{Compatible}
 use Rattle.sweep.specs.InnerSweeps.{Unless, RefusedRightly}
-
--- 64 bytes for the map, for the queue, for the list of elements in use and for their places; there are elements, and no more
-pub record Rooms (n : ℕ) (m queue live places : List ℕ) : Type 0 where
-  pub some : 0 < n
-  pub most : n ≤ 64
-  pub map_room : length m ≡ 64
-  pub queue_room : length queue ≡ 64
-  pub live_room : length live ≡ 64
-  pub places_room : length places ≡ 64
 
 -- g joins the pairs of a flat list
 abbrev pub JoinsPairs : List ℕ → (ℕ → ℕ) → Type 0

@@ -1,68 +1,77 @@
 // The queue, element by element, until the map is a congruence.
 ghost use Rattle.std.specs.Prelude.{◌≡◌};
-ghost use Rattle.kernel.specs.InnerKernel.{Listed, names};
+ghost use Rattle.kernel.specs.InnerKernel.{Listed};
 ghost use Rattle.equivalence.specs.Equivalence.{byte};
 ghost use Rattle.algebra.specs.Algebra.{algebra_in};
 ghost use Rattle.algebra.specs.Accepted.{Accepted};
 ghost use Rattle.translation.specs.InnerTranslations.{Compatible};
-ghost use Rattle.sweep.specs.InnerQueue.{state};
+ghost use Rattle.sweep.specs.InnerQueue.{state_of};
 ghost use Rattle.sweep.specs.InnerContexts.{Contexts};
 ghost use Rattle.sweep.specs.InnerSweeps.{Sweeping, Swept};
 ghost use Rattle.closure.specs.InnerClosing.{InUse, NamesInUse, Begun, Retired};
 
-use sweep::Stop;
+use sweep::queue::Merging;
+use sweep::{Pass, Stop};
 
-// Takes b out of the elements in use; the last takes its place. How many are left.
-fn retire(live: &mut [u8], places: &mut [u8], n: usize, count: usize, b: u8) -> usize
-    requires in_use { InUse n live.old places.old count }
-    requires listed { Listed live.old count b }
-    ensures { Retired n b live.old count live.new places.new result }
-{
-    let i = places[b as usize];
-    let last = live[count - 1];
-    live[i as usize] = last;
-    places[last as usize] = i;
-    count - 1
+// The elements in use, all different: the first `count` of `list`. `places` has where each stands.
+#[derive(Clone, Copy)]
+pub struct Live {
+    pub list: [u8; 64],
+    pub places: [u8; 64],
+    pub count: usize,
+}
+
+impl Live {
+    // Takes b out of the elements in use; the last takes its place.
+    fn retire(&mut self, n: usize, b: u8)
+        requires in_use { InUse n self.old.list self.old.places self.old.count }
+        requires listed { Listed self.old.list self.old.count b }
+        ensures { Retired n b self.old.list self.old.count self.new.list self.new.places self.new.count }
+    {
+        let i = self.places[b as usize];
+        let last = self.list[self.count - 1];
+        self.list[i as usize] = last;
+        self.places[last as usize] = i;
+        self.count -= 1;
+    }
 }
 
 // Each queued element goes, with the name of its block, through all translations whose other arguments are in use, and is in use no
-// more after that. How many elements were queued in all. Where v and w stay apart, the elements in use are the names at the end.
+// more after that. Where v and w stay apart, the elements in use are the names at the end.
 pub fn close(
-    m: &mut [u8],
+    merging: &mut Merging,
+    live: &mut Live,
     n: usize,
-    queue: &mut [u8],
-    start: usize,
     arities: &[u8],
     cells: &[u8],
-    live: &mut [u8],
-    places: &mut [u8],
-    used: usize,
     refused: &[u8],
     stop: Stop,
-) -> usize
-    requires sweeping { Sweeping n stop (state m.old queue.old start) }
-    requires contexts { Contexts n cells.now live.old used }
-    requires in_use { InUse n live.old places.old used }
+)
+    requires sweeping { Sweeping n stop (state_of merging.old) }
+    requires contexts { Contexts n cells.now live.old.list live.old.count }
+    requires in_use { InUse n live.old.list live.old.places live.old.count }
     requires accepted { Accepted (algebra_in n arities cells) }
-    requires begun { Begun (algebra_in n arities cells) (state m.old queue.old start) live.old used }
-    ensures swept { Swept n refused.now stop (Compatible (algebra_in n arities.entry cells.entry)) (state m.old queue.old start) (state m.new queue.new result) }
-    ensures names_in_use { (byte m.new stop.v ≡ byte m.new stop.w → ⊥) → NamesInUse n (byte m.new) live.new places.new (names n (byte m.new)) }
+    requires begun { Begun (algebra_in n arities cells) (state_of merging.old) live.old.list live.old.count }
+    ensures swept { Swept n refused.now stop (Compatible (algebra_in n arities.entry cells.entry)) (state_of merging.old) (state_of merging.new) }
+    ensures names_in_use { (byte merging.new.map stop.v ≡ byte merging.new.map stop.w → ⊥) → NamesInUse n (byte merging.new.map) live.new.list live.new.places live.new.count }
 {
-    let mut len = start;
-    let mut count = used;
     let mut k = 0;
-    while k < len {
-        if sweep::step::halted(m, len, stop) {
-            return len;
+    // A `while`: the queue grows in it.
+    while k < merging.len {
+        let pass = Pass {
+            n,
+            cells,
+            live: &live.list[..live.count],
+            refused,
+            stop,
+        };
+        if pass.halted(merging) {
+            return;
         }
-        let b = queue[k];
-        let y = b as usize;
-        let x = m[y] as usize;
-        len = sweep::tables::operations(
-            m, n, queue, len, arities, cells, live, count, x, y, refused, stop,
-        );
-        count = retire(live, places, n, count, b);
+        let b = merging.queue[k];
+        let a = merging.map[b as usize];
+        pass.operations(merging, arities, a as usize, b as usize);
+        live.retire(n, b);
         k += 1;
     }
-    len
 }

@@ -1,24 +1,30 @@
 // What a closure begins with: pairs joined, and a list of the elements that are no names of a map.
-ghost use Rattle.std.specs.Prelude.{not, ℕ, ◌<◌, ◌≤◌, eqb, length};
+ghost use Rattle.std.specs.Prelude.{◌≡◌, not, ℕ, ◌<◌, ◌≤◌, eqb, length};
 ghost use Rattle.equivalence.specs.Equivalence.{byte};
-ghost use Rattle.sweep.specs.InnerQueue.{state, Ready, Grown};
+ghost use Rattle.sweep.specs.InnerQueue.{state_of, Ready, Grown};
 ghost use Rattle.closure.specs.InnerStarts.{JoinsPairs, Pushed, Collected};
 
-// Joins the pairs of a flat list. How many elements are queued then.
-pub fn seed(m: &mut [u8], n: usize, queue: &mut [u8], pairs: &[u8]) -> usize
-    requires ready { Ready n (state m.old queue.old 0) }
-    requires by_index { (i : ℕ) → i < length pairs.now → byte pairs.now i < n }
-    ensures grown { Grown n (JoinsPairs pairs.now) (state m.old queue.old 0) (state m.new queue.new result) }
-    ensures joins_pairs { JoinsPairs pairs.now (byte m.new) }
+use sweep::queue::Merging;
+
+// 64 bytes, each of which names itself.
+pub fn fresh() -> [u8; 64]
+    ensures { (x : ℕ) → x < 64 → byte result x ≡ x }
 {
-    let count = pairs.len() / 2;
-    let mut len = 0;
-    let mut j = 0;
-    while j < count {
-        len = sweep::queue::merge_queued(m, n, queue, len, pairs[2 * j], pairs[2 * j + 1]);
-        j += 1;
+    let mut m = [0u8; 64];
+    equivalence::blocks::identity(64, &mut m);
+    m
+}
+
+// Joins the pairs of a flat list.
+pub fn seed(merging: &mut Merging, n: usize, pairs: &[u8])
+    requires ready { Ready n (state_of merging.old) }
+    requires by_index { (i : ℕ) → i < length pairs.now → byte pairs.now i < n }
+    ensures grown { Grown n (JoinsPairs pairs.now) (state_of merging.old) (state_of merging.new) }
+    ensures joins_pairs { JoinsPairs pairs.now (byte merging.new.map) }
+{
+    for j in 0..pairs.len() / 2 {
+        merging.merge(n, pairs[2 * j], pairs[2 * j + 1]);
     }
-    len
 }
 
 // Puts x behind the first `len` elements where it is wanted.
@@ -41,10 +47,8 @@ pub fn others(m: &[u8], n: usize, out: &mut [u8]) -> usize
     ensures { Collected (λ x. not (eqb (byte m.now x) x)) n (byte out.new) result }
 {
     let mut len = 0;
-    let mut x = 0;
-    while x < n {
+    for x in 0..n {
         len = push(out, len, x as u8, m[x] as usize != x);
-        x += 1;
     }
     len
 }

@@ -1,6 +1,5 @@
 -- The calls of an accepted algebra: what Decompose answers, whatever is lent; Quotient with room enough; and demand 3 over them together.
 -- first, so that a wrong definition is refused by an example that it makes false
-use Rattle.congruence.proofs.Examples.{examples, space_examples}
 use Prim.Native.Nat.{ℕ, ◌*◌, ◌≤◌, ◌<◌}
 use mathlib.Core.List.{List, []}
 use mathlib.Core.Path.{◌≡◌, sym, ap, ◌∙◌}
@@ -13,7 +12,7 @@ use Rattle.equivalence.specs.Equivalence.{Map, is_map, blocks}
 use Rattle.equivalence.specs.Lists.{concat}
 use Rattle.equivalence.specs.Lent.{stretch, written}
 use Rattle.equivalence.specs.Refusal.{lowest, map_test}
-use Rattle.equivalence.proofs.Refusals.{lowest_none, lowest_next, lowest_append, serve_passed, space_passed}
+use Rattle.equivalence.proofs.Refusals.{lowest_none, lowest_next, lowest_append, serve_passed, space_passed, same_answer}
 use Rattle.equivalence.proofs.Stretches.{stretch_concat}
 use Rattle.equivalence.proofs.Tests.{T?}
 use Rattle.algebra.specs.Accepted.{algebra_tests, Accepted}
@@ -29,12 +28,11 @@ use Rattle.theory.proofs.Factors.{listed_long, unsplit, reducible_splits, splits
 use Rattle.congruence.proofs.Decomposing.{decomposed_yes, decomposed_no, of_irreducible, factor_bytes_yes, decompose_served, decompose_factors, decompose_short, decompose_irreducible}
 use Rattle.theory.proofs.Quotients.{quotient_cells_length, quotient_well_formed}
 use Rattle.quotient.specs.Quotient.{quotient_cells, quotient}
-use Rattle.equivalence.specs.declared.Check.TheVariants.{Passed}
 use Rattle.equivalence.specs.declared.Refusal.TheVariants.{Space}
-use Rattle.congruence.specs.declared.Divided.{Divided}
-use Rattle.congruence.specs.declared.Divided.TheVariants.{Blocks, Refused as DivideRefused}
-use Rattle.congruence.specs.declared.Decomposed.{Decomposed}
-use Rattle.congruence.specs.declared.Decomposed.TheVariants.{Factors, Refused as DecomposeRefused}
+use Rattle.std.specs.Prelude.{Result, Ok, Err}
+use Rattle.equivalence.specs.declared.Refusal.{Refusal}
+use Rattle.decomposition.specs.declared.Decomposed.{Decomposed}
+use Rattle.decomposition.specs.declared.Decomposed.TheVariants.{Factors}
 
 -- ---- Decompose
 
@@ -43,12 +41,12 @@ pub factors_reducible : (a : Algebra) (k : ℕ) → decomposed a ≡ Factors k �
 factors_reducible a k e =
     elim (T? (reducible a)) [
       | yes t ↦ let d = decomposed_yes a t in (t, cc)
-      | no t ↦ let d = decomposed_no a t in let z : ◌≡◌ {A = ℕ} 0 1 = cc in absurd (omega arith)
+      | no t ↦ let d = decomposed_no a t in absurd (cc)
     ]
 
 -- 9, 11 or the factors, whatever is lent
 module _ (a : Algebra) (accepted : Accepted a) (lent : List ℕ) where
-  abbrev answer : Decomposed
+  abbrev answer : Result Decomposed Refusal
   answer = (decompose_call a lent).0
 
   abbrev wanted : ℕ
@@ -57,31 +55,31 @@ module _ (a : Algebra) (accepted : Accepted a) (lent : List ℕ) where
   well : WellFormed a
   well = accepted_well_formed a accepted
 
-  answer_short : T (reducible a) → length lent < wanted → answer ≡ DecomposeRefused Space
-  answer_short t l = ap (λ (r : Decomposed × List ℕ). r.0) (decompose_short a accepted lent t l)
+  answer_short : T (reducible a) → length lent < wanted → answer ≡ Err Space
+  answer_short t l = ap (λ (r : Result Decomposed Refusal × List ℕ). r.0) (decompose_short a accepted lent t l)
 
-  answer_factors : T (reducible a) → wanted ≤ length lent → answer ≡ Factors (length (listed a))
-  answer_factors t l = ap (λ (r : Decomposed × List ℕ). r.0) (decompose_factors a accepted lent t l)
+  answer_factors : T (reducible a) → wanted ≤ length lent → answer ≡ Ok (Factors (length (listed a)))
+  answer_factors t l = ap (λ (r : Result Decomposed Refusal × List ℕ). r.0) (decompose_factors a accepted lent t l)
 
-  answer_eleven : ¬ T (reducible a) → answer ≡ irreducible_answer a
-  answer_eleven t = ap (λ (r : Decomposed × List ℕ). r.0) (decompose_irreducible a accepted lent t)
+  answer_eleven : ¬ T (reducible a) → answer ≡ Ok (irreducible_answer a)
+  answer_eleven t = ap (λ (r : Result Decomposed Refusal × List ℕ). r.0) (decompose_irreducible a accepted lent t)
 
   -- the answers differ, so each tells its condition
-  of_nine : answer ≡ DecomposeRefused Space → T (reducible a) × (length lent < wanted)
+  of_nine : answer ≡ Err Space → T (reducible a) × (length lent < wanted)
   of_nine e =
       elim (T? (reducible a)) [
         | yes t ↦ elim (dec_lt (length lent) wanted) [
           | yes l ↦ (t, l)
-          | no l ↦ let f = answer_factors t (omega (arith, l)) in let z : ◌≡◌ {A = ℕ} 0 1 = cc in absurd (omega arith)
+          | no l ↦ let f = answer_factors t (omega (arith, l)) in absurd (cc)
         ]
-        | no t ↦ let f = answer_eleven t in let z : ◌≡◌ {A = ℕ} 0 1 = cc in absurd (omega arith)
+        | no t ↦ let f = answer_eleven t in absurd (cc)
       ]
 
-  of_eleven : answer ≡ irreducible_answer a → ¬ T (reducible a)
+  of_eleven : answer ≡ Ok (irreducible_answer a) → ¬ T (reducible a)
   of_eleven e t =
       elim (dec_lt (length lent) wanted) [
-        | yes l ↦ let f = answer_short t l in let z : ◌≡◌ {A = ℕ} 0 1 = cc in omega arith
-        | no l ↦ let f = answer_factors t (omega (arith, l)) in let z : ◌≡◌ {A = ℕ} 0 1 = cc in omega arith
+        | yes l ↦ let f = answer_short t l in cc
+        | no l ↦ let f = answer_factors t (omega (arith, l)) in cc
       ]
 
   pub space_theorem : SpaceTheorem a lent
@@ -93,13 +91,13 @@ module _ (a : Algebra) (accepted : Accepted a) (lent : List ℕ) where
         );
         eleven = (λ e. unsplit a well (of_eleven e), λ u. answer_eleven (λ t. reducible_splits a well t u));
         factors = λ s l. decompose_factors a accepted lent (splits_reducible a well s) l;
-        most = λ room. ap (λ (r : Decomposed × List ℕ). r.0) (decompose_served a accepted lent (omega (arith, factor_space_most a well)));
+        most = λ room. ap (λ (r : Result Decomposed Refusal × List ℕ). r.0) (decompose_served a accepted lent (omega (arith, factor_space_most a well)));
       }
 
 -- ---- Quotient
 
 module _ (a : Algebra) (accepted : Accepted a) (m : Map) (p : Congruence a m) (tables : List ℕ) (room : quotient_space a m ≤ length tables) where
-  quotient_passed : lowest (quotient_tests a m (length tables)) ≡ Passed
+  quotient_passed : lowest (quotient_tests a m (length tables)) ≡ Ok tt
   unfolding Accepted map_test congruence_test
   quotient_passed =
       lowest_append (algebra_tests a) _ accepted
@@ -108,15 +106,15 @@ module _ (a : Algebra) (accepted : Accepted a) (m : Map) (p : Congruence a m) (t
       ∙ lowest_next _ [] (not_yes (is_congruence a m) p.respects)
       ∙ lowest_none
 
-  quotient_served : quotient_call a m tables ≡ (Blocks (blocks a.size m), written (quotient_cells a m) tables)
+  quotient_served : quotient_call a m tables ≡ (Ok (blocks a.size m), written (quotient_cells a m) tables)
   unfolding quotient_call
-  quotient_served = serve_passed DivideRefused _ (Blocks (blocks a.size m)) (quotient_cells a m) tables quotient_passed
+  quotient_served = serve_passed _ (blocks a.size m) (quotient_cells a m) tables quotient_passed
 
-  pub quotient_answer : (quotient_call a m tables).0 ≡ Blocks (blocks a.size m)
-  quotient_answer = ap (λ (r : Divided × List ℕ). r.0) quotient_served
+  pub quotient_answer : (quotient_call a m tables).0 ≡ Ok (blocks a.size m)
+  quotient_answer = ap (λ (r : Result ℕ Refusal × List ℕ). r.0) quotient_served
 
   pub quotient_bytes : (quotient_call a m tables).1 ≡ written (quotient_cells a m) tables
-  quotient_bytes = ap (λ (r : Divided × List ℕ). r.1) quotient_served
+  quotient_bytes = ap (λ (r : Result ℕ Refusal × List ℕ). r.1) quotient_served
 
   -- the tables that were written, with b and the arities, are the quotient
   pub quotient_algebra : algebra_from (blocks a.size m) a.arities (quotient_call a m tables).1 ≡ quotient a m
@@ -127,9 +125,6 @@ module _ (a : Algebra) (accepted : Accepted a) (m : Map) (p : Congruence a m) (t
 
 -- ---- demand 3 over the calls
 
-pub blocks_injective : (b c : ℕ) → Blocks b ≡ Blocks c → b ≡ c
-blocks_injective b c e = cc
-
 module _ (a : Algebra) (accepted : Accepted a) where
   -- Quotient by a congruence whose quotient answers 11
   pub quotient_answers11 : (m : Map) → Congruence a m → Answers11 (quotient a m) → QuotientAnswers11 a m
@@ -137,7 +132,7 @@ module _ (a : Algebra) (accepted : Accepted a) where
       record {
         given = λ tables h. quotient_answer a accepted m p tables h;
         answers11 = λ tables h b f again.
-            let b-is : blocks a.size m ≡ b = blocks_injective (blocks a.size m) b (sym (quotient_answer a accepted m p tables h) ∙ f) in
+            let b-is : blocks a.size m ≡ b = same_answer (sym (quotient_answer a accepted m p tables h) ∙ f) in
             let well = quotient_well_formed a (accepted_well_formed a accepted) m (congruence_is a m p) in
             let space = space_theorem (quotient a m) (well_formed_accepted (quotient a m) well) again in (
               element (common_pair (quotient a m)).0,
@@ -151,7 +146,7 @@ module _ (a : Algebra) (accepted : Accepted a) where
   factor_calls_lem lent room =
       let well : WellFormed a = accepted_well_formed a accepted in
       let served = decompose_served a accepted lent room in
-      let answer : (decompose_call a lent).0 ≡ decomposed a = ap (λ (r : Decomposed × List ℕ). r.0) served in
+      let answer : (decompose_call a lent).0 ≡ Ok (decomposed a) = ap (λ (r : Result Decomposed Refusal × List ℕ). r.0) served in
       let maps : (k i : ℕ) → decomposed a ≡ Factors k → i < k → stretch a.size (decompose_call a lent).1 i ≡ get_or (listed a) i [] =
       λ k i e l. let r = factors_reducible a k e in
       rw (served, factor_bytes_yes a r.0)
@@ -160,7 +155,7 @@ module _ (a : Algebra) (accepted : Accepted a) where
         answer = answer;
         maps = maps;
         quotients = λ k i e l.
-            let d : decomposed a ≡ Factors k = sym answer ∙ e in
+            let d : decomposed a ≡ Factors k = same_answer (sym answer ∙ e) in
             let r = factors_reducible a k d in
             let f = listed_right a accepted r.0 in
             let j : i < length (listed a) = omega (arith, r.1) in

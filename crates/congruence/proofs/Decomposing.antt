@@ -2,7 +2,7 @@
 -- of the quotient by a congruence that is maximal for some pair; and that the answer and the lent bytes follow from what the search found.
 use Prim.Native.Nat.{ℕ, ◌*◌, ◌≤◌, ◌<◌}
 use mathlib.Core.List.{List, []}
-use mathlib.Core.Path.{◌≡◌, refl, ap, ◌∙◌}
+use mathlib.Core.Path.{◌≡◌, refl, sym, ap, ◌∙◌}
 use native.Mathlib.Decide.{dec_lt}
 use native.Mathlib.Omega.{arith}
 use lib.Dec.{T}
@@ -10,11 +10,9 @@ use lib.ListN.{length}
 use Rattle.equivalence.specs.Equivalence.{Map}
 use Rattle.equivalence.specs.Lists.{concat}
 use Rattle.equivalence.specs.Lent.{written}
-use Rattle.equivalence.proofs.Refusals.{lowest_none, lowest_append, serve_passed, serve_failed, space_passed, space_refused}
+use Rattle.equivalence.proofs.Refusals.{lowest_none, lowest_append, serve_passed, serve_failed, space_passed, space_refused, handed_on}
 use Rattle.equivalence.proofs.Tests.{T?, pick_yes, pick_no}
 use Rattle.equivalence.specs.Refusal.{lowest}
-use Rattle.equivalence.specs.declared.Check.{Check}
-use Rattle.equivalence.specs.declared.Check.TheVariants.{Passed, Failed}
 use Rattle.equivalence.specs.declared.Refusal.{Refusal}
 use Rattle.equivalence.specs.declared.Refusal.TheVariants.{Space}
 use Rattle.equivalence.specs.declared.Element.{Element}
@@ -31,11 +29,10 @@ use Rattle.theory.proofs.Quotients.{quotient_well_formed, quotient_unsplit}
 use Rattle.theory.proofs.Separation.{MaximalFor}
 use Rattle.decomposition.specs.InnerFactored.{irreducible_with, found_in}
 use Rattle.decomposition.proofs.Finding.{listed_short, listed_all, found_reducible, found_irreducible}
-use Rattle.decomposition.specs.declared.Found.{Found}
-use Rattle.decomposition.specs.declared.Found.TheVariants.{Factors as Counted, Short, Irreducible as Paired}
 use Rattle.congruence.specs.Calls.{irreducible_answer, decomposed, factor_bytes, decompose_call}
-use Rattle.congruence.specs.declared.Decomposed.{Decomposed}
-use Rattle.congruence.specs.declared.Decomposed.TheVariants.{Factors, Irreducible, Refused as DecomposeRefused}
+use Rattle.std.specs.Prelude.{⊤, Result, Ok, Err, IsErrAnd}
+use Rattle.decomposition.specs.declared.Decomposed.{Decomposed}
+use Rattle.decomposition.specs.declared.Decomposed.TheVariants.{Factors, Irreducible}
 
 module _ (a : Algebra) where
   pub decomposed_yes : T (reducible a) → decomposed a ≡ Factors (length (listed a))
@@ -52,7 +49,7 @@ module _ (a : Algebra) (c : WellFormed a) where
   irreducible_of h = decomposed_no a (λ t. h (listed a) (split a c t))
 
   pub of_irreducible : (x y : Element) → decomposed a ≡ Irreducible x y → (ms : List Map) → ¬ Splitting a ms
-  of_irreducible x y e = unsplit a c (λ t. let d = decomposed_yes a t in let z : ◌≡◌ {A = ℕ} 0 1 = cc in omega arith)
+  of_irreducible x y e = unsplit a c (λ t. let d = decomposed_yes a t in cc)
 
 -- the quotient by a congruence that is maximal for some pair answers 11
 pub quotient_irreducible : (a : Algebra) → WellFormed a → (m : Map) → IsCongruence a m → (x y : ℕ) → x < a.size → y < a.size → MaximalFor a m x y
@@ -72,42 +69,37 @@ factor_bytes_no a t = pick_no (reducible a) (concat (listed a)) [] t
 -- ---- the call of an accepted algebra, whatever is lent
 
 module _ (a : Algebra) (accepted : Accepted a) (lent : List ℕ) where
-  pub decompose_served : factor_space a ≤ length lent → decompose_call a lent ≡ (decomposed a, written (factor_bytes a) lent)
+  pub decompose_served : factor_space a ≤ length lent → decompose_call a lent ≡ (Ok (decomposed a), written (factor_bytes a) lent)
   unfolding decompose_call Accepted
   decompose_served room =
-      serve_passed DecomposeRefused _ (decomposed a) (factor_bytes a) lent
+      serve_passed _ (decomposed a) (factor_bytes a) lent
       (lowest_append (algebra_tests a) _ accepted ∙ space_passed (factor_space a) (length lent) [] room ∙ lowest_none)
 
   pub decompose_factors : T (reducible a) → length (listed a) * a.size ≤ length lent
-      → decompose_call a lent ≡ (Factors (length (listed a)), written (concat (listed a)) lent)
+      → decompose_call a lent ≡ (Ok (Factors (length (listed a))), written (concat (listed a)) lent)
   decompose_factors t room = rw (decompose_served (rw (factor_space_yes a t) room), decomposed_yes a t, factor_bytes_yes a t)
 
-  pub decompose_short : T (reducible a) → length lent < length (listed a) * a.size → decompose_call a lent ≡ (DecomposeRefused Space, lent)
+  pub decompose_short : T (reducible a) → length lent < length (listed a) * a.size → decompose_call a lent ≡ (Err Space, lent)
   unfolding decompose_call Accepted
   decompose_short t few =
-      serve_failed DecomposeRefused _ (decomposed a) (factor_bytes a) lent Space
+      serve_failed _ (decomposed a) (factor_bytes a) lent Space
       (lowest_append (algebra_tests a) _ accepted ∙ space_refused (factor_space a) (length lent) [] (rw (factor_space_yes a t) few))
 
-  pub decompose_irreducible : ¬ T (reducible a) → decompose_call a lent ≡ (irreducible_answer a, lent)
+  pub decompose_irreducible : ¬ T (reducible a) → decompose_call a lent ≡ (Ok (irreducible_answer a), lent)
   unfolding written
   decompose_irreducible t = rw (decompose_served (rw (factor_space_no a t) (omega arith)), decomposed_no a t, factor_bytes_no a t)
 
 -- ---- from what the function found
 
-pub decompose_declined : (a : Algebra) (lent : List ℕ) {check : Check} (r : Refusal) → check ≡ Failed r → check ≡ lowest (algebra_tests a)
-    → (DecomposeRefused r, lent) ≡ decompose_call a lent
+pub decompose_declined : (a : Algebra) (lent : List ℕ) {check : Result ⊤ Refusal} {r : Refusal} → check ≡ Err r → check ≡ lowest (algebra_tests a)
+    → {answer : Result Decomposed Refusal} → IsErrAnd answer (λ e. e ≡ r) → (answer, lent) ≡ decompose_call a lent
 unfolding decompose_call
-decompose_declined a lent r known e = declined DecomposeRefused _ _ _ lent (algebra_declines a _ r known e) r refl
-
--- what was found, as the answer
-unfoldable answer_of : Found → Decomposed
-answer_of (Counted k) = Factors k
-answer_of Short = DecomposeRefused Space
-answer_of (Paired x y) = Irreducible x y
+decompose_declined a lent {check} {r} known e h =
+    ap (λ (d : Result Decomposed Refusal). (d, lent)) (handed_on h) ∙ declined _ _ _ lent (algebra_declines a _ r known e) r refl
 
 -- the call answers what was found, and leaves the same bytes
-found_answered : (a : Algebra) → Accepted a → (lent : List ℕ) → decompose_call a lent ≡ (answer_of (found_in a lent).0, (found_in a lent).1)
-unfolding answer_of irreducible_with
+found_answered : (a : Algebra) → Accepted a → (lent : List ℕ) → decompose_call a lent ≡ found_in a lent
+unfolding irreducible_with
 found_answered a accepted lent =
     elim (T? (reducible a)) [
       | yes t ↦ elim (dec_lt (length lent) (length (listed a) * a.size)) [
@@ -119,19 +111,6 @@ found_answered a accepted lent =
       | no t ↦ rw (decompose_irreducible a accepted lent t, found_irreducible a lent t)
     ]
 
-module _ (a : Algebra) (lent : List ℕ) {after : List ℕ} {found : Found} (f : (found, after) ≡ found_in a lent)
-    {check : Check} (known : check ≡ Passed) (e : check ≡ lowest (algebra_tests a)) where
-  as_found : {d : Decomposed} → answer_of found ≡ d → (d, after) ≡ decompose_call a lent
-  as_found is = rw (found_answered a (passed_accepted a known e) lent, ← f, is)
-
-  pub factors_answered : {k : ℕ} → found ≡ Counted k → (Factors k, after) ≡ decompose_call a lent
-  unfolding answer_of
-  factors_answered is = as_found (ap answer_of is)
-
-  pub short_answered : found ≡ Short → (DecomposeRefused Space, after) ≡ decompose_call a lent
-  unfolding answer_of
-  short_answered is = as_found (ap answer_of is)
-
-  pub irreducible_answered : {x y : Element} → found ≡ Paired x y → (Irreducible x y, after) ≡ decompose_call a lent
-  unfolding answer_of
-  irreducible_answered is = as_found (ap answer_of is)
+pub decompose_found : (a : Algebra) (lent : List ℕ) {check : Result ⊤ Refusal} → check ≡ Ok tt → check ≡ lowest (algebra_tests a)
+    → {found : Result Decomposed Refusal} {after : List ℕ} → (found, after) ≡ found_in a lent → (found, after) ≡ decompose_call a lent
+decompose_found a lent known e f = f ∙ sym (found_answered a (passed_accepted a known e) lent)

@@ -8,17 +8,17 @@ use lib.Dec.{T, T_not}
 use lib.ListN.{length, get_or, length-map}
 use Rattle.equivalence.specs.Equivalence.{Map, is_map, is_identity, meet, join, blocks, block_of}
 use Rattle.equivalence.proofs.BlockNumbers.{smallest, smallest_below, block_smallest}
-use Rattle.equivalence.specs.Lists.{every, first, without}
-use Rattle.pairorder.specs.Order.{Pair, pairs}
+use Rattle.equivalence.specs.Lists.{every, without}
+use Rattle.pairorder.specs.Order.{Pair}
 use Rattle.equivalence.proofs.Joins.{join_law}
 use Rattle.equivalence.proofs.Lists.{member_at, map_at}
 use Rattle.equivalence.proofs.Maps.{holds_of, of_holds, is_map_of, of_is_map, inside_of, of_inside}
 use Rattle.equivalence.proofs.Meets.{meet_map, of_meet, meet_greatest, meets_of, of_meets}
-use Rattle.equivalence.proofs.Tests.{T?, left, right}
+use Rattle.equivalence.proofs.Tests.{T?}
 use Rattle.algebra.specs.Accepted.{Accepted}
 use Rattle.algebra.specs.Algebra.{Algebra, Operation, operations, value}
 use Rattle.quotient.specs.Quotient.{quotient}
-use Rattle.algebra.specs.Congruence.{Congruence, congruences}
+use Rattle.algebra.specs.Congruence.{Congruence}
 use Rattle.algebra.proofs.Accepted.{WellFormed, accepted_well_formed}
 use Rattle.algebra.proofs.Arguments.{of_arguments}
 use Rattle.algebra.proofs.Congruences.{congruence_is, congruence_of}

@@ -16,13 +16,9 @@ use Rattle.equivalence.specs.Lent.{written, lent_after}
 use Rattle.equivalence.proofs.BlockNumbers.{blocks_le}
 use Rattle.equivalence.proofs.Lists.{every_of, member_index}
 use Rattle.equivalence.proofs.Maps.{of_is_map}
-use Rattle.equivalence.proofs.Refusals.{lowest_none}
+use Rattle.equivalence.proofs.Refusals.{lowest_none, err_never, same_answer}
 use Rattle.equivalence.proofs.Tests.{true_is}
-use Rattle.equivalence.specs.declared.Check.{Check}
-use Rattle.equivalence.specs.declared.Check.TheVariants.{Passed, Failed}
 use Rattle.equivalence.specs.declared.Refusal.{Refusal}
-use Rattle.equivalence.specs.declared.Written.{Written}
-use Rattle.equivalence.specs.declared.Written.TheVariants.{Done, Refused as WriteRefused}
 use Rattle.algebra.specs.Accepted.{Accepted}
 use Rattle.algebra.specs.Algebra.{Algebra, cell_count}
 use Rattle.algebra.specs.Congruence.{Congruence}
@@ -39,41 +35,26 @@ use Rattle.congruence.specs.Calls.{generate_tests, generate_call, contained_test
 use Rattle.congruence.specs.Calls.{quotient_call, decomposed, factor_bytes, decompose_tests, decompose_call, certify_tests, certify_call}
 use Rattle.congruence.specs.Demands.{LeastCongruence, GreatestCongruence, EarliestCongruence, MeetRight, JoinRight, QuotientAtMembers}
 use Rattle.congruence.specs.Meanings.{WroteMap, quotient_in, WroteQuotient, Meanings}
-use Rattle.congruence.proofs.Calls.{factors_reducible, quotient_algebra, blocks_injective}
+use Rattle.congruence.proofs.Calls.{factors_reducible, quotient_algebra}
 use Rattle.congruence.proofs.Decomposing.{factor_bytes_yes}
 use Rattle.congruence.proofs.Demands.{meet_right, join_right, generated_least, contained_greatest, separated_right, quotient_at_members, listed_right, listed_certified_yes}
 use Rattle.algebra.proofs.Tested.{algebra_passes}
 use Rattle.congruence.proofs.Testing.{maps_passed}
-use Rattle.congruence.proofs.Serving.{of_generate_tests, of_contained_tests, of_separate_tests, of_quotient_tests, of_decompose_tests, certify_yes}
-use Rattle.congruence.specs.declared.Generated.TheVariants.{Merges, Refused as GenerateRefused}
-use Rattle.congruence.specs.declared.Divided.{Divided}
-use Rattle.congruence.specs.declared.Divided.TheVariants.{Blocks, Refused as DivideRefused}
-use Rattle.congruence.specs.declared.Decomposed.TheVariants.{Factors, Refused as DecomposeRefused}
-use Rattle.congruence.specs.declared.Certified.TheVariants.{Yes}
+use Rattle.congruence.proofs.Serving.{of_generate_tests, of_contained_tests, of_separate_tests, of_quotient_tests, of_decompose_tests, certify_decided}
+use Rattle.std.specs.Prelude.{⊤, true, Result, Ok, Err}
+use Rattle.decomposition.specs.declared.Decomposed.TheVariants.{Factors}
 
 -- ---- an answer that is no refusal: the tests passed, it is the call's own answer, and the new bytes were written
 
-module _ {A : Type 0} (refused : Refusal → A) (answer : A) (new lent : List ℕ) {given : A} {out : List ℕ} (never : (r : Refusal) → ¬ (refused r ≡ given)) where
-  given_by : (c : Check) → answered refused c answer ≡ given → lent_after c new lent ≡ out → (c ≡ Passed) × (answer ≡ given) × (written new lent ≡ out)
+module _ {A : Type 0} (answer : A) (new lent : List ℕ) {given : A} {out : List ℕ} where
+  given_by : (c : Result ⊤ Refusal) → answered Err c (Ok answer) ≡ Ok given → lent_after c new lent ≡ out → (c ≡ Ok tt) × (answer ≡ given) × (written new lent ≡ out)
   unfolding answered lent_after
-  given_by Passed e f = (refl, e, f)
-  given_by (Failed r) e f = absurd (never r e)
+  given_by (Ok x) e f = (refl, same_answer e, f)
+  given_by (Err r) e f = absurd (err_never e)
 
-  serve_given : (tests : List Test) → serve refused tests answer new lent ≡ (given, out) → (lowest tests ≡ Passed) × (answer ≡ given) × (written new lent ≡ out)
+  serve_given : (tests : List Test) → serve tests answer new lent ≡ (Ok given, out) → (lowest tests ≡ Ok tt) × (answer ≡ given) × (written new lent ≡ out)
   unfolding serve
-  serve_given tests e = given_by (lowest tests) (ap (λ (r : A × List ℕ). r.0) e) (ap (λ (r : A × List ℕ). r.1) e)
-
-refused_done : (r : Refusal) → ¬ (WriteRefused r ≡ Done)
-refused_done r e = let z : ◌≡◌ {A = ℕ} 0 1 = cc in omega arith
-
-refused_merges : (k : ℕ) (r : Refusal) → ¬ (GenerateRefused r ≡ Merges k)
-refused_merges k r e = let z : ◌≡◌ {A = ℕ} 0 1 = cc in omega arith
-
-refused_blocks : (b : ℕ) (r : Refusal) → ¬ (DivideRefused r ≡ Blocks b)
-refused_blocks b r e = let z : ◌≡◌ {A = ℕ} 0 1 = cc in omega arith
-
-refused_factors : (k : ℕ) (r : Refusal) → ¬ (DecomposeRefused r ≡ Factors k)
-refused_factors k r e = let z : ◌≡◌ {A = ℕ} 0 1 = cc in omega arith
+  serve_given tests e = given_by (lowest tests) (ap (λ (r : Result A Refusal × List ℕ). r.0) e) (ap (λ (r : Result A Refusal × List ℕ). r.1) e)
 
 -- ---- what was written
 
@@ -95,10 +76,10 @@ wrote_map n P new lent m p e =
 
 -- ---- the services that write a map
 
-module _ (a : Algebra) (ps lent out : List ℕ) (k : ℕ) (e : generate_call a ps lent ≡ (Merges k, out)) where
-  generate_given : (lowest (generate_tests a ps (length lent)) ≡ Passed) × (Merges (a.size - blocks a.size (generated a ps)) ≡ Merges k) × (written (generated a ps) lent ≡ out)
+module _ (a : Algebra) (ps lent out : List ℕ) (k : ℕ) (e : generate_call a ps lent ≡ (Ok k, out)) where
+  generate_given : (lowest (generate_tests a ps (length lent)) ≡ Ok tt) × (a.size - blocks a.size (generated a ps) ≡ k) × (written (generated a ps) lent ≡ out)
   unfolding generate_call
-  generate_given = serve_given GenerateRefused _ (generated a ps) lent (refused_merges k) (generate_tests a ps (length lent)) e
+  generate_given = serve_given _ (generated a ps) lent (generate_tests a ps (length lent)) e
 
   generate_least : LeastCongruence a ps (generated a ps)
   generate_least = let t = of_generate_tests a (length lent) ps (sym generate_given.0) in generated_least a t.0 ps t.1.0
@@ -109,63 +90,59 @@ module _ (a : Algebra) (ps lent out : List ℕ) (k : ℕ) (e : generate_call a p
   generate_merges : k + blocks a.size (take a.size out) ≡ a.size
   generate_merges =
       let long : length (generated a ps) ≡ a.size = (of_is_map a.size (generated a ps) generate_least.congruence.map).long in
-      let count : a.size - blocks a.size (generated a ps) ≡ k = merges_injective (a.size - blocks a.size (generated a ps)) k generate_given.1 in
       ap (λ (m : Map). k + blocks a.size m) (wrote_first a.size (generated a ps) lent long generate_given.2)
-      ∙ omega (arith, count, blocks_le a.size (generated a ps))
-    where
-      merges_injective : (i j : ℕ) → Merges i ≡ Merges j → i ≡ j
-      merges_injective i j e = cc
+      ∙ omega (arith, generate_given.1, blocks_le a.size (generated a ps))
 
-contained_means : (a : Algebra) (m : Map) (lent out : List ℕ) → contained_call a m lent ≡ (Done, out) → WroteMap a.size (GreatestCongruence a m) lent out
+contained_means : (a : Algebra) (m : Map) (lent out : List ℕ) → contained_call a m lent ≡ (Ok tt, out) → WroteMap a.size (GreatestCongruence a m) lent out
 unfolding contained_call
 contained_means a m lent out e =
-    let g = serve_given WriteRefused Done (contained a m) lent refused_done (contained_tests a m (length lent)) e in
+    let g = serve_given tt (contained a m) lent (contained_tests a m (length lent)) e in
     let t = of_contained_tests a (length lent) m (sym g.0) in
     let r = contained_greatest a t.0 m t.1.0 in
     wrote_map a.size (GreatestCongruence a m) (contained a m) lent r.congruence.map r g.2
 
-separate_means : (a : Algebra) (v w : ℕ) (lent out : List ℕ) → separate_call a v w lent ≡ (Done, out) → WroteMap a.size (EarliestCongruence a v w) lent out
+separate_means : (a : Algebra) (v w : ℕ) (lent out : List ℕ) → separate_call a v w lent ≡ (Ok tt, out) → WroteMap a.size (EarliestCongruence a v w) lent out
 unfolding separate_call
 separate_means a v w lent out e =
-    let g = serve_given WriteRefused Done (separated a v w) lent refused_done (separate_tests a v w (length lent)) e in
+    let g = serve_given tt (separated a v w) lent (separate_tests a v w (length lent)) e in
     let t = of_separate_tests a (length lent) v w (sym g.0) in
     let r = separated_right a t.0 v w t.1.0 t.1.1.0 t.1.1.1.0 in
     wrote_map a.size (EarliestCongruence a v w) (separated a v w) lent r.congruence.map r g.2
 
 module _ (n : ℕ) (a b : Map) (lent out : List ℕ) where
-  meet_means : meet_call n a b lent ≡ (Done, out) → WroteMap n (MeetRight n a b) lent out
+  meet_means : meet_call n a b lent ≡ (Ok tt, out) → WroteMap n (MeetRight n a b) lent out
   unfolding meet_call two_maps_call
   meet_means e =
-      let g = given_by WriteRefused Done (meet n a b) lent refused_done (two_maps_check n a b lent) (ap (λ (r : Written × List ℕ). r.0) e) (ap (λ (r : Written × List ℕ). r.1) e) in
+      let g = given_by tt (meet n a b) lent (two_maps_check n a b lent) (ap (λ (r : Result ⊤ Refusal × List ℕ). r.0) e) (ap (λ (r : Result ⊤ Refusal × List ℕ). r.1) e) in
       let r = meet_right n a b in
       wrote_map n (MeetRight n a b) (meet n a b) lent r.map r g.2
 
-  join_means : join_call n a b lent ≡ (Done, out) → WroteMap n (JoinRight n a b) lent out
+  join_means : join_call n a b lent ≡ (Ok tt, out) → WroteMap n (JoinRight n a b) lent out
   unfolding join_call two_maps_call
   join_means e =
-      let g = given_by WriteRefused Done (join n a b) lent refused_done (two_maps_check n a b lent) (ap (λ (r : Written × List ℕ). r.0) e) (ap (λ (r : Written × List ℕ). r.1) e) in
+      let g = given_by tt (join n a b) lent (two_maps_check n a b lent) (ap (λ (r : Result ⊤ Refusal × List ℕ). r.0) e) (ap (λ (r : Result ⊤ Refusal × List ℕ). r.1) e) in
       let r = join_right n a b in
       wrote_map n (JoinRight n a b) (join n a b) lent r.map r g.2
 
 -- ---- Quotient
 
-module _ (a : Algebra) (m : Map) (lent out : List ℕ) (b : ℕ) (e : quotient_call a m lent ≡ (Blocks b, out)) where
-  quotient_given : (lowest (quotient_tests a m (length lent)) ≡ Passed) × (Blocks (blocks a.size m) ≡ Blocks b) × (written (quotient_cells a m) lent ≡ out)
+module _ (a : Algebra) (m : Map) (lent out : List ℕ) (b : ℕ) (e : quotient_call a m lent ≡ (Ok b, out)) where
+  quotient_given : (lowest (quotient_tests a m (length lent)) ≡ Ok tt) × (blocks a.size m ≡ b) × (written (quotient_cells a m) lent ≡ out)
   unfolding quotient_call
-  quotient_given = serve_given DivideRefused _ (quotient_cells a m) lent (refused_blocks b) (quotient_tests a m (length lent)) e
+  quotient_given = serve_given _ (quotient_cells a m) lent (quotient_tests a m (length lent)) e
 
   -- it had passed its tests, and wrote the cells of the algebra of b blocks
   pub quotient_gave : Accepted a × (Congruence a m × ((blocks a.size m ≡ b) × ((quotient_space a m ≤ length lent) × (written (quotient_cells a m) lent ≡ out))))
   quotient_gave =
       let t = of_quotient_tests a (length lent) m (sym quotient_given.0) in
-      (t.1.0, (record { map = t.1.1.0; respects = t.0 }, (blocks_injective (blocks a.size m) b quotient_given.1, (t.1.1.1, quotient_given.2))))
+      (t.1.0, (record { map = t.1.1.0; respects = t.0 }, (quotient_given.1, (t.1.1.1, quotient_given.2))))
 
   quotient_means : WroteQuotient a m b lent out
   quotient_means =
       let g = quotient_gave in
       let p = g.1.0 in
       let is = g.1.1.0 in
-      let bytes : (quotient_call a m lent).1 ≡ out = ap (λ (r : Divided × List ℕ). r.1) e in
+      let bytes : (quotient_call a m lent).1 ≡ out = ap (λ (r : Result ℕ Refusal × List ℕ). r.1) e in
       let q : quotient_in a b out ≡ quotient a m =
       subst (λ (c : ℕ). quotient_in a c out ≡ quotient a m) is
       (subst (λ (o : List ℕ). quotient_in a (blocks a.size m) o ≡ quotient a m) bytes (quotient_algebra a g.0 m p lent g.1.1.1.0)) in
@@ -178,11 +155,11 @@ module _ (a : Algebra) (m : Map) (lent out : List ℕ) (b : ℕ) (e : quotient_c
 -- ---- Decompose
 
 -- where it counts k factors it had passed its tests, and wrote the list
-pub decompose_gave : (a : Algebra) (lent out : List ℕ) (k : ℕ) → decompose_call a lent ≡ (Factors k, out)
+pub decompose_gave : (a : Algebra) (lent out : List ℕ) (k : ℕ) → decompose_call a lent ≡ (Ok (Factors k), out)
     → Accepted a × (T (reducible a) × ((k ≡ length (listed a)) × ((k * a.size ≤ length lent) × (written (concat (listed a)) lent ≡ out))))
 unfolding decompose_call
 decompose_gave a lent out k e =
-    let g = serve_given DecomposeRefused (decomposed a) (factor_bytes a) lent (refused_factors k) (decompose_tests a (length lent)) e in
+    let g = serve_given (decomposed a) (factor_bytes a) lent (decompose_tests a (length lent)) e in
     let t = of_decompose_tests a (length lent) (sym g.0) in
     let r = factors_reducible a k g.1 in
     (t.0, (r.0, (r.1, (rw (r.1, ← factor_space_yes a r.0) t.1, ap (λ (new : List ℕ). written new lent) (sym (factor_bytes_yes a r.0)) ∙ g.2))))
@@ -200,7 +177,7 @@ module _ (a : Algebra) (accepted : Accepted a) where
   listed_whole =
       ap (map_list a.size (length (listed a))) (sym (append-nil (concat (listed a)))) ∙ map_list_concat a.size (listed a) [] (listed_long a (accepted_well_formed a accepted))
 
-  certify_listed : T (reducible a) → certify_call a (concat (listed a)) ≡ Yes
+  certify_listed : T (reducible a) → certify_call a (concat (listed a)) ≡ Ok true
   unfolding Accepted
   certify_listed red =
       let n = a.size in
@@ -214,14 +191,14 @@ module _ (a : Algebra) (accepted : Accepted a) where
       let maps : T (every (is_map n) (map_list n (length bytes / n) bytes)) =
       subst (λ (ms : List Map). T (every (is_map n) ms)) (sym whole) (every_map (listed a) (λ i l. (f.congruences i l).map)) in
       let yes : T (certified a (map_list n (length bytes / n) bytes)) = subst (λ (ms : List Map). T (certified a ms)) (sym whole) (listed_certified_yes a accepted) in
-      let passed : Passed ≡ lowest (certify_tests a bytes) =
+      let passed : Ok tt ≡ lowest (certify_tests a bytes) =
       algebra_passes a _ accepted refl (sym (maps_passed n bytes [] even (omega (arith, number, f.few, w.most)) (true_is _ maps) refl ∙ lowest_none)) in
-      sym (certify_yes a bytes passed refl (true_is _ yes) refl)
+      sym (certify_decided a bytes passed refl (true_is _ yes))
     where
       every_map : (ms : List Map) → ((i : ℕ) → i < length ms → T (is_map a.size (get_or ms i []))) → T (every (is_map a.size) ms)
       every_map ms h = every_of (is_map a.size) ms (λ m i. let j = member_index ms m [] i in subst (λ (c : Map). T (is_map a.size c)) j.2 (h j.0 j.1))
 
-certify_means : (a : Algebra) (lent out : List ℕ) (k : ℕ) → decompose_call a lent ≡ (Factors k, out) → certify_call a (take (k * a.size) out) ≡ Yes
+certify_means : (a : Algebra) (lent out : List ℕ) (k : ℕ) → decompose_call a lent ≡ (Ok (Factors k), out) → certify_call a (take (k * a.size) out) ≡ Ok true
 certify_means a lent out k e =
     let g = decompose_gave a lent out k e in
     let long : length (concat (listed a)) ≡ k * a.size = listed_bytes a g.0 ∙ ap (λ (c : ℕ). c * a.size) (sym g.1.1.0) in

@@ -8,56 +8,54 @@ use Rattle.equivalence.specs.declared.Element.{Element}
 use Rattle.equivalence.specs.declared.Refusal.{Refusal}
 use Rattle.congruence.specs.Calls.{element}
 use Rattle.congruence.specs.Outcome.{generated_outcome, divided_outcome, decomposed_outcome, certified_outcome}
-use Rattle.congruence.specs.declared.Generated.TheVariants.{Merges, Refused as GenerateRefused}
-use Rattle.congruence.specs.declared.Divided.TheVariants.{Blocks, Refused as DivideRefused}
-use Rattle.congruence.specs.declared.Decomposed.TheVariants.{Factors, Irreducible, Refused as DecomposeRefused}
-use Rattle.congruence.specs.declared.Certified.TheVariants.{Yes, No, Refused as CertifyRefused}
+use Rattle.std.specs.Prelude.{true, false, Ok, Err}
+use Rattle.decomposition.specs.declared.Decomposed.TheVariants.{Factors, Irreducible}
 
 pub generated_outcome_injective : Injective generated_outcome
 unfolding generated_outcome
-generated_outcome_injective (Merges j) (Merges k) e = ap Merges (success_injective j k e)
-generated_outcome_injective (Merges k) (GenerateRefused r) e = absurd (success_apart k r e)
-generated_outcome_injective (GenerateRefused r) (Merges k) e = absurd (success_apart k r (sym e))
-generated_outcome_injective (GenerateRefused r) (GenerateRefused s) e = ap GenerateRefused (refusal_injective r s e)
+generated_outcome_injective (Ok j) (Ok k) e = ap Ok (success_injective j k e)
+generated_outcome_injective (Ok k) (Err r) e = absurd (success_apart k r e)
+generated_outcome_injective (Err r) (Ok k) e = absurd (success_apart k r (sym e))
+generated_outcome_injective (Err r) (Err s) e = ap Err (refusal_injective r s e)
 
 pub divided_outcome_injective : Injective divided_outcome
 unfolding divided_outcome
-divided_outcome_injective (Blocks j) (Blocks k) e = ap Blocks (success_injective j k e)
-divided_outcome_injective (Blocks k) (DivideRefused r) e = absurd (success_apart k r e)
-divided_outcome_injective (DivideRefused r) (Blocks k) e = absurd (success_apart k r (sym e))
-divided_outcome_injective (DivideRefused r) (DivideRefused s) e = ap DivideRefused (refusal_injective r s e)
+divided_outcome_injective (Ok j) (Ok k) e = ap Ok (success_injective j k e)
+divided_outcome_injective (Ok k) (Err r) e = absurd (success_apart k r e)
+divided_outcome_injective (Err r) (Ok k) e = absurd (success_apart k r (sym e))
+divided_outcome_injective (Err r) (Err s) e = ap Err (refusal_injective r s e)
 
 pub certified_outcome_injective : Injective certified_outcome
 unfolding certified_outcome
-certified_outcome_injective Yes Yes e = refl
-certified_outcome_injective Yes No e = let z : ◌≡◌ {A = ℕ} 1 0 = success_injective 1 0 e in absurd (omega arith)
-certified_outcome_injective Yes (CertifyRefused r) e = absurd (success_apart 1 r e)
-certified_outcome_injective No Yes e = let z : ◌≡◌ {A = ℕ} 0 1 = success_injective 0 1 e in absurd (omega arith)
-certified_outcome_injective No No e = refl
-certified_outcome_injective No (CertifyRefused r) e = absurd (success_apart 0 r e)
-certified_outcome_injective (CertifyRefused r) Yes e = absurd (success_apart 1 r (sym e))
-certified_outcome_injective (CertifyRefused r) No e = absurd (success_apart 0 r (sym e))
-certified_outcome_injective (CertifyRefused r) (CertifyRefused s) e = ap CertifyRefused (refusal_injective r s e)
+certified_outcome_injective (Ok true) (Ok true) e = refl
+certified_outcome_injective (Ok true) (Ok false) e = let z : ◌≡◌ {A = ℕ} 1 0 = success_injective 1 0 e in absurd (omega arith)
+certified_outcome_injective (Ok true) (Err r) e = absurd (success_apart 1 r e)
+certified_outcome_injective (Ok false) (Ok true) e = let z : ◌≡◌ {A = ℕ} 0 1 = success_injective 0 1 e in absurd (omega arith)
+certified_outcome_injective (Ok false) (Ok false) e = refl
+certified_outcome_injective (Ok false) (Err r) e = absurd (success_apart 0 r e)
+certified_outcome_injective (Err r) (Ok true) e = absurd (success_apart 1 r (sym e))
+certified_outcome_injective (Err r) (Ok false) e = absurd (success_apart 0 r (sym e))
+certified_outcome_injective (Err r) (Err s) e = ap Err (refusal_injective r s e)
 
 -- 11 with its pair is no success and no refusal
-eleven_not_success : (x y : Element) (k : ℕ) → ¬ (decomposed_outcome (Irreducible x y) ≡ success k)
+eleven_not_success : (x y : Element) (k : ℕ) → ¬ (decomposed_outcome (Ok (Irreducible x y)) ≡ success k)
 unfolding decomposed_outcome success
 eleven_not_success x y k e = let z : ◌≡◌ {A = ℕ} 11 0 = ap (λ (o : Outcome). o.reason) e in omega arith
 
-eleven_not_refusal : (x y : Element) (r : Refusal) → ¬ (decomposed_outcome (Irreducible x y) ≡ refusal r)
+eleven_not_refusal : (x y : Element) (r : Refusal) → ¬ (decomposed_outcome (Ok (Irreducible x y)) ≡ refusal r)
 unfolding decomposed_outcome refusal
 eleven_not_refusal x y r e = number_not_11 r (sym (ap (λ (o : Outcome). o.reason) e))
 
 pub decomposed_outcome_injective : Injective decomposed_outcome
 unfolding decomposed_outcome
-decomposed_outcome_injective (Factors j) (Factors k) e = ap Factors (success_injective j k e)
-decomposed_outcome_injective (Factors k) (Irreducible x y) e = absurd (eleven_not_success x y k (sym e))
-decomposed_outcome_injective (Factors k) (DecomposeRefused r) e = absurd (success_apart k r e)
-decomposed_outcome_injective (Irreducible x y) (Factors k) e = absurd (eleven_not_success x y k e)
-decomposed_outcome_injective (Irreducible x y) (Irreducible v w) e =
-    ap (λ (z : ℕ). Irreducible (element z) (element y.0)) (ap (λ (o : Outcome). o.first) e)
-    ∙ ap (λ (z : ℕ). Irreducible (element v.0) (element z)) (ap (λ (o : Outcome). o.second) e)
-decomposed_outcome_injective (Irreducible x y) (DecomposeRefused r) e = absurd (eleven_not_refusal x y r e)
-decomposed_outcome_injective (DecomposeRefused r) (Factors k) e = absurd (success_apart k r (sym e))
-decomposed_outcome_injective (DecomposeRefused r) (Irreducible x y) e = absurd (eleven_not_refusal x y r (sym e))
-decomposed_outcome_injective (DecomposeRefused r) (DecomposeRefused s) e = ap DecomposeRefused (refusal_injective r s e)
+decomposed_outcome_injective (Ok (Factors j)) (Ok (Factors k)) e = ap (λ (i : ℕ). Ok (Factors i)) (success_injective j k e)
+decomposed_outcome_injective (Ok (Factors k)) (Ok (Irreducible x y)) e = absurd (eleven_not_success x y k (sym e))
+decomposed_outcome_injective (Ok (Factors k)) (Err r) e = absurd (success_apart k r e)
+decomposed_outcome_injective (Ok (Irreducible x y)) (Ok (Factors k)) e = absurd (eleven_not_success x y k e)
+decomposed_outcome_injective (Ok (Irreducible x y)) (Ok (Irreducible v w)) e =
+    ap (λ (z : ℕ). Ok (Irreducible (element z) (element y.0))) (ap (λ (o : Outcome). o.first) e)
+    ∙ ap (λ (z : ℕ). Ok (Irreducible (element v.0) (element z))) (ap (λ (o : Outcome). o.second) e)
+decomposed_outcome_injective (Ok (Irreducible x y)) (Err r) e = absurd (eleven_not_refusal x y r e)
+decomposed_outcome_injective (Err r) (Ok (Factors k)) e = absurd (success_apart k r (sym e))
+decomposed_outcome_injective (Err r) (Ok (Irreducible x y)) e = absurd (eleven_not_refusal x y r (sym e))
+decomposed_outcome_injective (Err r) (Err s) e = ap Err (refusal_injective r s e)

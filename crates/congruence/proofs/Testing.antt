@@ -2,7 +2,7 @@
 -- its tests in turn. What a call does with that is in `Serving`.
 use Prim.Native.Nat.{ℕ, ◌≤◌, ◌<◌, ◌/◌, ◌%◌}
 use mathlib.Core.Bool.{Bool, true, false, not, ◌||◌}
-use mathlib.Core.List.{List, ◌∷◌}
+use mathlib.Core.List.{List, ◌∷◌, ◌++◌}
 use mathlib.Core.Logic.{inl, inr}
 use mathlib.Core.Path.{◌≡◌, sym, ap, ◌∙◌}
 use native.Mathlib.Decide.{dec_lt}
@@ -15,7 +15,7 @@ use Rattle.equivalence.specs.Lists.{every}
 use Rattle.equivalence.specs.Refusal.{Test, lowest, space_test, pairs_test, elements_test, equal_test}
 use Rattle.equivalence.proofs.Maps.{of_is_map}
 use Rattle.equivalence.proofs.Refusals.{map_refused, map_passed, space_passed, lowest_next, lowest_here}
-use Rattle.equivalence.proofs.Refusals.{space_refused}
+use Rattle.equivalence.proofs.Refusals.{space_refused, handed_on}
 use Rattle.equivalence.proofs.Tests.{T?, or_left, or_right, or_cases, eq→eqb, T_of, not_T_of}
 use Rattle.algebra.specs.Accepted.{algebra_tests}
 use Rattle.algebra.specs.Algebra.{Algebra, algebra_of}
@@ -28,8 +28,8 @@ use Rattle.maplist.specs.InnerMapLists.{map_list, MapsListed}
 use Rattle.theory.proofs.Above.{Below}
 use Rattle.maplist.proofs.ListTests.{of_every_map_list}
 use Rattle.equivalence.specs.declared.Refusal.TheVariants.{Range, NotMap, Space, Equal, NotCongruence}
-use Rattle.equivalence.specs.declared.Check.{Check}
-use Rattle.equivalence.specs.declared.Check.TheVariants.{Passed, Failed}
+use Rattle.std.specs.Prelude.{⊤, Result, Ok, Err, IsErrAnd}
+use Rattle.equivalence.specs.declared.Refusal.{Refusal}
 
 -- where `is_map` says so, it is a map
 pub flag_map : (n : ℕ) (m : Map) {r : Bool} → r ≡ is_map n m → not r ≡ false → T (is_map n m)
@@ -38,7 +38,7 @@ flag_map n m {r} e f = T_of (sym e ∙ not-false r f)
 pub flag_long : (n : ℕ) (m : Map) {r : Bool} → r ≡ is_map n m → not r ≡ false → n ≤ length m
 flag_long n m e f = omega (arith, (of_is_map n m (flag_map n m e f)).long)
 
-module _ (n : ℕ) (arities cells : List ℕ) {check : Check} (known : check ≡ Passed) (e : check ≡ lowest (algebra_tests (algebra_of n arities cells))) where
+module _ (n : ℕ) (arities cells : List ℕ) {check : Result ⊤ Refusal} (known : check ≡ Ok tt) (e : check ≡ lowest (algebra_tests (algebra_of n arities cells))) where
   passed_well_formed : WellFormed (algebra_of n arities cells)
   passed_well_formed = accepted_well_formed (algebra_of n arities cells) (passed_accepted (algebra_of n arities cells) known e)
 
@@ -54,14 +54,19 @@ module _ (n : ℕ) (arities cells : List ℕ) {check : Check} (known : check ≡
   pub passed_arity : (i : ℕ) → i < length arities → get_or arities i 0 ≤ 3
   passed_arity = passed_well_formed.arity
 
+-- a reason of the algebra's is handed on
+pub algebra_hands_on : (a : Algebra) (rest : List Test) {check : Result ⊤ Refusal} → check ≡ lowest (algebra_tests a) → {r : Refusal} → check ≡ Err r
+    → {answer : Result ⊤ Refusal} → IsErrAnd answer (λ e. e ≡ r) → answer ≡ lowest (algebra_tests a ++ rest)
+algebra_hands_on a rest e {r} known h = handed_on h ∙ algebra_declines a rest r known e
+
 -- ---- 7, of a list of pairs
 
 module _ (n : ℕ) (ps : List ℕ) (rest : List Test) where
-  pub pairs_odd : ¬ (length ps % 2 ≡ 0) → lowest (pairs_test n ps ∷ rest) ≡ Failed Range
+  pub pairs_odd : ¬ (length ps % 2 ≡ 0) → lowest (pairs_test n ps ∷ rest) ≡ Err Range
   unfolding pairs_test
   pairs_odd h = lowest_here (pairs_test n ps) rest (or_left (not (eqb (length ps % 2) 0)) _ (not_T (eqb (length ps % 2) 0) (λ t. h (eqb→eq (length ps % 2) 0 t))))
 
-  pub pairs_refused : {r : Bool} → r ≡ every (λ x. ltb x n) ps → not r ≡ true → lowest (pairs_test n ps ∷ rest) ≡ Failed Range
+  pub pairs_refused : {r : Bool} → r ≡ every (λ x. ltb x n) ps → not r ≡ true → lowest (pairs_test n ps ∷ rest) ≡ Err Range
   unfolding pairs_test
   pairs_refused e f = lowest_here (pairs_test n ps) rest (or_right (not (eqb (length ps % 2) 0)) _ (T_of (ap not (sym e) ∙ f)))
 
@@ -85,11 +90,11 @@ of_pairs_test n ps t =
 -- ---- 7, of two elements
 
 module _ (n v w : ℕ) (rest : List Test) where
-  pub first_refused : n ≤ v → lowest (elements_test n v w ∷ rest) ≡ Failed Range
+  pub first_refused : n ≤ v → lowest (elements_test n v w ∷ rest) ≡ Err Range
   unfolding elements_test
   first_refused h = lowest_here (elements_test n v w) rest (or_left (not (ltb v n)) _ (not_T (ltb v n) (λ t. omega (arith, ltb→lt v n t))))
 
-  pub second_refused : n ≤ w → lowest (elements_test n v w ∷ rest) ≡ Failed Range
+  pub second_refused : n ≤ w → lowest (elements_test n v w ∷ rest) ≡ Err Range
   unfolding elements_test
   second_refused h = lowest_here (elements_test n v w) rest (or_right (not (ltb v n)) _ (not_T (ltb w n) (λ t. omega (arith, ltb→lt w n t))))
 
@@ -111,7 +116,7 @@ of_elements_test n v w t = (
 -- ---- 10
 
 module _ (v w : ℕ) (rest : List Test) where
-  pub equal_refused : v ≡ w → lowest (equal_test v w ∷ rest) ≡ Failed Equal
+  pub equal_refused : v ≡ w → lowest (equal_test v w ∷ rest) ≡ Err Equal
   unfolding equal_test
   equal_refused e = lowest_here (equal_test v w) rest (eq→eqb v w e)
 
@@ -126,7 +131,7 @@ of_equal_test v w t e = t (eq→eqb v w e)
 -- ---- 12
 
 module _ (a : Algebra) (m : Map) (rest : List Test) where
-  pub congruence_refused : {r : Bool} → r ≡ is_congruence a m → not r ≡ true → lowest (congruence_test a m ∷ rest) ≡ Failed NotCongruence
+  pub congruence_refused : {r : Bool} → r ≡ is_congruence a m → not r ≡ true → lowest (congruence_test a m ∷ rest) ≡ Err NotCongruence
   unfolding congruence_test
   congruence_refused e f = lowest_here (congruence_test a m) rest (T_of (ap not (sym e) ∙ f))
 
@@ -141,19 +146,19 @@ of_congruence_test a m t = elim (T? (is_congruence a m)) [ yes s ↦ s | no s �
 -- ---- 8, of a list of maps
 
 module _ (n : ℕ) (bytes : List ℕ) (rest : List Test) where
-  pub maps_ragged : ¬ (length bytes % n ≡ 0) → lowest (maps_test n bytes ∷ rest) ≡ Failed NotMap
+  pub maps_ragged : ¬ (length bytes % n ≡ 0) → lowest (maps_test n bytes ∷ rest) ≡ Err NotMap
   unfolding maps_test
   maps_ragged h =
       lowest_here (maps_test n bytes) rest (or_left (not (eqb (length bytes % n) 0) || ltb 63 (length bytes / n)) _
       (or_left (not (eqb (length bytes % n) 0)) _ (not_T (eqb (length bytes % n) 0) (λ t. h (eqb→eq (length bytes % n) 0 t)))))
 
-  pub maps_many : 63 < length bytes / n → lowest (maps_test n bytes ∷ rest) ≡ Failed NotMap
+  pub maps_many : 63 < length bytes / n → lowest (maps_test n bytes ∷ rest) ≡ Err NotMap
   unfolding maps_test
   maps_many h =
       lowest_here (maps_test n bytes) rest (or_left (not (eqb (length bytes % n) 0) || ltb 63 (length bytes / n)) _
       (or_right (not (eqb (length bytes % n) 0)) _ (lt→ltb 63 (length bytes / n) h)))
 
-  pub maps_refused : {r : Bool} → r ≡ every (is_map n) (map_list n (length bytes / n) bytes) → not r ≡ true → lowest (maps_test n bytes ∷ rest) ≡ Failed NotMap
+  pub maps_refused : {r : Bool} → r ≡ every (is_map n) (map_list n (length bytes / n) bytes) → not r ≡ true → lowest (maps_test n bytes ∷ rest) ≡ Err NotMap
   unfolding maps_test maps_in map_list
   maps_refused e f =
       lowest_here (maps_test n bytes) rest (or_right (not (eqb (length bytes % n) 0) || ltb 63 (length bytes / n)) _ (T_of (ap not (sym e) ∙ f)))
@@ -190,7 +195,7 @@ of_maps_test n bytes some most t =
 -- ---- 9, where a function measured what is wanted
 
 module _ (wanted lent : ℕ) (rest : List Test) {measured : ℕ} (e : measured ≡ wanted) where
-  pub measured_refused : lent < measured → lowest (space_test wanted lent ∷ rest) ≡ Failed Space
+  pub measured_refused : lent < measured → lowest (space_test wanted lent ∷ rest) ≡ Err Space
   measured_refused h = space_refused wanted lent rest (omega arith)
 
   pub measured_passed : measured ≤ lent → lowest (space_test wanted lent ∷ rest) ≡ lowest rest
@@ -198,7 +203,6 @@ module _ (wanted lent : ℕ) (rest : List Test) {measured : ℕ} (e : measured �
 
 -- ---- what a check function finds, by the flags of its tests in turn
 pub ruleset tests-in-turn = (
-  algebra_declines,
   algebra_passes,
   test_declines,
   test_passes,

@@ -1,5 +1,5 @@
 -- Demands 2 and 3, stated over the definitions that the contracts cite.
-use Rattle.std.specs.Prelude.{ℕ, ◌≤◌, ◌<◌, ◌-◌, ◌*◌, ◌≡◌, ◌⊎◌, ◌↔◌, List, [], map, T, length, get_or}
+use Rattle.std.specs.Prelude.{ℕ, ◌≤◌, ◌<◌, ◌-◌, ◌*◌, ◌≡◌, ◌⊎◌, ◌↔◌, List, [], map, T, length, get_or, Ok, Err}
 use mathlib.Core.List.{Memᴰ as Member}
 use Rattle.equivalence.specs.Lists.{without, concat}
 use Rattle.equivalence.specs.Lent.{stretch, written}
@@ -14,8 +14,7 @@ use Rattle.quotient.specs.Quotient.{quotient}
 use Rattle.theory.specs.Decompose.{listed, most_factor_space, common_pair}
 use Rattle.theory.specs.Splitting.{Unsplit}
 use Rattle.congruence.specs.Calls.{irreducible_answer, quotient_space, quotient_call, algebra_from, decomposed, decompose_call}
-use Rattle.congruence.specs.declared.Decomposed.TheVariants.{Factors, Irreducible, Refused}
-use Rattle.congruence.specs.declared.Divided.TheVariants.{Blocks}
+use Rattle.decomposition.specs.declared.Decomposed.TheVariants.{Factors, Irreducible}
 
 -- Demand 2, Generate: the congruence holds the given pairs and lies inside every congruence that holds them
 pub record LeastCongruence (a : Algebra) (ps : List ℕ) (m : Map) : Type 0 where
@@ -105,22 +104,22 @@ pub record FactorTheorem (a : Algebra) : Type 0 where
 -- Decompose of an accepted algebra over the call, whatever is lent: 9 just where it splits and fewer than count × n bytes are lent, 11 with the common
 -- pair just where it does not split, else the factors at the start of the lent bytes; (n - 1) × n bytes are always enough
 pub record SpaceTheorem (a : Algebra) (lent : List ℕ) : Type 0 where
-  pub nine : ((decompose_call a lent).0 ≡ Refused Space) ↔ ((¬ Unsplit a) × (length lent < length (listed a) * a.size))
-  pub eleven : ((decompose_call a lent).0 ≡ irreducible_answer a) ↔ Unsplit a
-  pub factors : ¬ Unsplit a → length (listed a) * a.size ≤ length lent → decompose_call a lent ≡ (Factors (length (listed a)), written (concat (listed a)) lent)
-  pub most : most_factor_space a.size ≤ length lent → (decompose_call a lent).0 ≡ decomposed a
+  pub nine : ((decompose_call a lent).0 ≡ Err Space) ↔ ((¬ Unsplit a) × (length lent < length (listed a) * a.size))
+  pub eleven : ((decompose_call a lent).0 ≡ Ok (irreducible_answer a)) ↔ Unsplit a
+  pub factors : ¬ Unsplit a → length (listed a) * a.size ≤ length lent → decompose_call a lent ≡ (Ok (Factors (length (listed a))), written (concat (listed a)) lent)
+  pub most : most_factor_space a.size ≤ length lent → (decompose_call a lent).0 ≡ Ok (decomposed a)
 
 -- Quotient by m is given, and Decompose on the tables and b that it gave answers 11, whatever it is lent
 pub record QuotientAnswers11 (a : Algebra) (m : Map) : Type 0 where
-  pub given : (tables : List ℕ) → quotient_space a m ≤ length tables → (quotient_call a m tables).0 ≡ Blocks (blocks a.size m)
+  pub given : (tables : List ℕ) → quotient_space a m ≤ length tables → (quotient_call a m tables).0 ≡ Ok (blocks a.size m)
   pub answers11 : (tables : List ℕ) → quotient_space a m ≤ length tables
-      → (b : ℕ) → (quotient_call a m tables).0 ≡ Blocks b → (again : List ℕ)
-      → (x : Element) × (y : Element) × ((decompose_call (algebra_from b a.arities (quotient_call a m tables).1) again).0 ≡ Irreducible x y)
+      → (b : ℕ) → (quotient_call a m tables).0 ≡ Ok b → (again : List ℕ)
+      → (x : Element) × (y : Element) × ((decompose_call (algebra_from b a.arities (quotient_call a m tables).1) again).0 ≡ Ok (Irreducible x y))
 
 -- Demand 3 over the calls: Decompose; for each factor, Quotient of the same algebra by the factor's map as listed, bytes i × n to i × n + n;
 -- and Decompose on the tables and b that this gave, with the arities as before: it answers 11; the first two are lent at least what they want, and the
 -- last anything
 pub record FactorCalls (a : Algebra) (lent : List ℕ) : Type 0 where
-  pub answer : (decompose_call a lent).0 ≡ decomposed a
+  pub answer : (decompose_call a lent).0 ≡ Ok (decomposed a)
   pub maps : (k i : ℕ) → decomposed a ≡ Factors k → i < k → stretch a.size (decompose_call a lent).1 i ≡ get_or (listed a) i []
-  pub quotients : (k i : ℕ) → (decompose_call a lent).0 ≡ Factors k → i < k → QuotientAnswers11 a (stretch a.size (decompose_call a lent).1 i)
+  pub quotients : (k i : ℕ) → (decompose_call a lent).0 ≡ Ok (Factors k) → i < k → QuotientAnswers11 a (stretch a.size (decompose_call a lent).1 i)

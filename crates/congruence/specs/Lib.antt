@@ -4,3 +4,4 @@ pub mod Reasons
 pub mod Demands
 pub mod Meanings
 pub mod Examples
+pub use Rattle.decomposition.specs.declared.Decomposed

@@ -1,16 +1,12 @@
 -- Demand 2 over the calls: what an answer that is no refusal, and the lent bytes after it, mean. And Certify over Decompose's list.
-use Rattle.std.specs.Prelude.{ℕ, ◌+◌, ◌*◌, List, ◌≡◌, take, drop}
+use Rattle.std.specs.Prelude.{ℕ, ◌+◌, ◌*◌, List, ◌≡◌, take, drop, true, Ok}
 use Rattle.lattice.specs.Calls.{meet_call, join_call}
 use Rattle.equivalence.specs.Equivalence.{Map, blocks}
-use Rattle.equivalence.specs.declared.Written.TheVariants.{Done}
 use Rattle.algebra.specs.Algebra.{Algebra, cell_count}
 use Rattle.algebra.specs.Congruence.{Congruence}
 use Rattle.congruence.specs.Calls.{generate_call, contained_call, separate_call, quotient_call, algebra_from, decompose_call, certify_call}
 use Rattle.congruence.specs.Demands.{LeastCongruence, GreatestCongruence, EarliestCongruence, MeetRight, JoinRight, QuotientAtMembers}
-use Rattle.congruence.specs.declared.Generated.TheVariants.{Merges}
-use Rattle.congruence.specs.declared.Divided.TheVariants.{Blocks}
-use Rattle.congruence.specs.declared.Decomposed.TheVariants.{Factors}
-use Rattle.congruence.specs.declared.Certified.TheVariants.{Yes}
+use Rattle.decomposition.specs.declared.Decomposed.TheVariants.{Factors}
 
 -- every lent byte past the first k keeps its value
 abbrev pub KeptPast : ℕ → List ℕ → List ℕ → Type 0
@@ -33,12 +29,12 @@ pub record WroteQuotient (a : Algebra) (m : Map) (b : ℕ) (lent out : List ℕ)
 
 -- Demand 2 over the calls, whatever they are handed
 pub record Meanings : Type 0 where
-  pub generate : (a : Algebra) (ps lent out : List ℕ) (k : ℕ) → generate_call a ps lent ≡ (Merges k, out) → WroteMap a.size (LeastCongruence a ps) lent out
-  pub merges : (a : Algebra) (ps lent out : List ℕ) (k : ℕ) → generate_call a ps lent ≡ (Merges k, out) → k + blocks a.size (take a.size out) ≡ a.size
-  pub contained : (a : Algebra) (e : Map) (lent out : List ℕ) → contained_call a e lent ≡ (Done, out) → WroteMap a.size (GreatestCongruence a e) lent out
-  pub separate : (a : Algebra) (v w : ℕ) (lent out : List ℕ) → separate_call a v w lent ≡ (Done, out) → WroteMap a.size (EarliestCongruence a v w) lent out
-  pub meet : (n : ℕ) (a b : Map) (lent out : List ℕ) → meet_call n a b lent ≡ (Done, out) → WroteMap n (MeetRight n a b) lent out
-  pub join : (n : ℕ) (a b : Map) (lent out : List ℕ) → join_call n a b lent ≡ (Done, out) → WroteMap n (JoinRight n a b) lent out
-  pub quotient : (a : Algebra) (m : Map) (lent out : List ℕ) (b : ℕ) → quotient_call a m lent ≡ (Blocks b, out) → WroteQuotient a m b lent out
+  pub generate : (a : Algebra) (ps lent out : List ℕ) (k : ℕ) → generate_call a ps lent ≡ (Ok k, out) → WroteMap a.size (LeastCongruence a ps) lent out
+  pub merges : (a : Algebra) (ps lent out : List ℕ) (k : ℕ) → generate_call a ps lent ≡ (Ok k, out) → k + blocks a.size (take a.size out) ≡ a.size
+  pub contained : (a : Algebra) (e : Map) (lent out : List ℕ) → contained_call a e lent ≡ (Ok tt, out) → WroteMap a.size (GreatestCongruence a e) lent out
+  pub separate : (a : Algebra) (v w : ℕ) (lent out : List ℕ) → separate_call a v w lent ≡ (Ok tt, out) → WroteMap a.size (EarliestCongruence a v w) lent out
+  pub meet : (n : ℕ) (a b : Map) (lent out : List ℕ) → meet_call n a b lent ≡ (Ok tt, out) → WroteMap n (MeetRight n a b) lent out
+  pub join : (n : ℕ) (a b : Map) (lent out : List ℕ) → join_call n a b lent ≡ (Ok tt, out) → WroteMap n (JoinRight n a b) lent out
+  pub quotient : (a : Algebra) (m : Map) (lent out : List ℕ) (b : ℕ) → quotient_call a m lent ≡ (Ok b, out) → WroteQuotient a m b lent out
   -- whatever Decompose lists gets yes from Certify
-  pub certify : (a : Algebra) (lent out : List ℕ) (k : ℕ) → decompose_call a lent ≡ (Factors k, out) → certify_call a (take (k * a.size) out) ≡ Yes
+  pub certify : (a : Algebra) (lent out : List ℕ) (k : ℕ) → decompose_call a lent ≡ (Ok (Factors k), out) → certify_call a (take (k * a.size) out) ≡ Ok true

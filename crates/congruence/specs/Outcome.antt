@@ -1,32 +1,28 @@
 -- Document 01's number and values for each case of the services' answers.
+use Rattle.std.specs.Prelude.{ℕ, Bool, true, false, Result, Ok, Err}
 use Rattle.equivalence.specs.Outcome.{Outcome, success, refusal}
-use Rattle.congruence.specs.declared.Generated.{Generated}
-use Rattle.congruence.specs.declared.Generated.TheVariants.{Merges, Refused as GenerateRefused}
-use Rattle.congruence.specs.declared.Divided.{Divided}
-use Rattle.congruence.specs.declared.Divided.TheVariants.{Blocks, Refused as DivideRefused}
-use Rattle.congruence.specs.declared.Decomposed.{Decomposed}
-use Rattle.congruence.specs.declared.Decomposed.TheVariants.{Factors, Irreducible, Refused as DecomposeRefused}
-use Rattle.congruence.specs.declared.Certified.{Certified}
-use Rattle.congruence.specs.declared.Certified.TheVariants.{Yes, No, Refused as CertifyRefused}
+use Rattle.equivalence.specs.declared.Refusal.{Refusal}
+use Rattle.decomposition.specs.declared.Decomposed.{Decomposed}
+use Rattle.decomposition.specs.declared.Decomposed.TheVariants.{Factors, Irreducible}
 
 -- Generate: the merges
-unfoldable pub generated_outcome : Generated → Outcome
-generated_outcome (Merges k) = success k
-generated_outcome (GenerateRefused r) = refusal r
+unfoldable pub generated_outcome : Result ℕ Refusal → Outcome
+generated_outcome (Ok k) = success k
+generated_outcome (Err r) = refusal r
 
 -- Quotient: the blocks
-unfoldable pub divided_outcome : Divided → Outcome
-divided_outcome (Blocks b) = success b
-divided_outcome (DivideRefused r) = refusal r
+unfoldable pub divided_outcome : Result ℕ Refusal → Outcome
+divided_outcome (Ok b) = success b
+divided_outcome (Err r) = refusal r
 
 -- Decompose: the factors, or 11 with its pair
-unfoldable pub decomposed_outcome : Decomposed → Outcome
-decomposed_outcome (Factors k) = success k
-decomposed_outcome (Irreducible x y) = record { reason = 11; count = 0; first = x.0; second = y.0 }
-decomposed_outcome (DecomposeRefused r) = refusal r
+unfoldable pub decomposed_outcome : Result Decomposed Refusal → Outcome
+decomposed_outcome (Ok (Factors k)) = success k
+decomposed_outcome (Ok (Irreducible x y)) = record { reason = 11; count = 0; first = x.0; second = y.0 }
+decomposed_outcome (Err r) = refusal r
 
 -- Certify: 1 for yes, 0 for no
-unfoldable pub certified_outcome : Certified → Outcome
-certified_outcome Yes = success 1
-certified_outcome No = success 0
-certified_outcome (CertifyRefused r) = refusal r
+unfoldable pub certified_outcome : Result Bool Refusal → Outcome
+certified_outcome (Ok true) = success 1
+certified_outcome (Ok false) = success 0
+certified_outcome (Err r) = refusal r

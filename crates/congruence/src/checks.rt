@@ -7,47 +7,53 @@ ghost use Rattle.algebra.specs.Algebra.{algebra_in, cell_count};
 ghost use Rattle.congruence.specs.Calls.{generate_tests, contained_tests, separate_tests, quotient_tests, certify_tests};
 ghost use Rattle.maplist.specs.InnerMapLists.{map_list};
 
+use equivalence::Refusal;
 use equivalence::checks::all_below;
-use equivalence::{Check, Refusal};
 
 // The longest list of maps that Certify looks at.
 const MAX_MAPS: usize = 63;
 
 // Generate's tests.
-pub fn generate_check(n: usize, arities: &[u8], cells: &[u8], pairs: &[u8], room: usize) -> Check
+pub fn generate_check(
+    n: usize,
+    arities: &[u8],
+    cells: &[u8],
+    pairs: &[u8],
+    room: usize,
+) -> Result<(), Refusal>
     ensures { result ≡ lowest (generate_tests (algebra_in n arities.entry cells.entry) pairs.now room) }
 {
-    let check = algebra::check(n, arities, cells);
-    if let Check::Failed(reason) = check {
-        return Check::Failed(reason);
-    }
+    algebra::check(n, arities, cells)?;
     if pairs.len() % 2 != 0 {
-        return Check::Failed(Refusal::Range);
+        return Err(Refusal::Range);
     }
     if !all_below(n, pairs) {
-        return Check::Failed(Refusal::Range);
+        return Err(Refusal::Range);
     }
     if room < n {
-        return Check::Failed(Refusal::Space);
+        return Err(Refusal::Space);
     }
-    Check::Passed
+    Ok(())
 }
 
 // Contained's tests.
-pub fn contained_check(n: usize, arities: &[u8], cells: &[u8], map: &[u8], room: usize) -> Check
+pub fn contained_check(
+    n: usize,
+    arities: &[u8],
+    cells: &[u8],
+    map: &[u8],
+    room: usize,
+) -> Result<(), Refusal>
     ensures { result ≡ lowest (contained_tests (algebra_in n arities.entry cells.entry) map.now room) }
 {
-    let check = algebra::check(n, arities, cells);
-    if let Check::Failed(reason) = check {
-        return Check::Failed(reason);
-    }
+    algebra::check(n, arities, cells)?;
     if !equivalence::map::is_map(n, map) {
-        return Check::Failed(Refusal::NotMap);
+        return Err(Refusal::NotMap);
     }
     if room < n {
-        return Check::Failed(Refusal::Space);
+        return Err(Refusal::Space);
     }
-    Check::Passed
+    Ok(())
 }
 
 // Separate's tests.
@@ -58,26 +64,23 @@ pub fn separate_check(
     v: usize,
     w: usize,
     room: usize,
-) -> Check
+) -> Result<(), Refusal>
     ensures { result ≡ lowest (separate_tests (algebra_in n arities.entry cells.entry) v w room) }
 {
-    let check = algebra::check(n, arities, cells);
-    if let Check::Failed(reason) = check {
-        return Check::Failed(reason);
-    }
+    algebra::check(n, arities, cells)?;
     if n <= v {
-        return Check::Failed(Refusal::Range);
+        return Err(Refusal::Range);
     }
     if n <= w {
-        return Check::Failed(Refusal::Range);
+        return Err(Refusal::Range);
     }
     if room < n {
-        return Check::Failed(Refusal::Space);
+        return Err(Refusal::Space);
     }
     if v == w {
-        return Check::Failed(Refusal::Equal);
+        return Err(Refusal::Equal);
     }
-    Check::Passed
+    Ok(())
 }
 
 // How many cells the quotient's tables have together.
@@ -92,23 +95,26 @@ fn quotient_cells(n: usize, arities: &[u8], map: &[u8]) -> usize
 }
 
 // Quotient's tests. Space is measured by the number of blocks of the given map, whether it is a congruence or not.
-pub fn quotient_check(n: usize, arities: &[u8], cells: &[u8], map: &[u8], room: usize) -> Check
+pub fn quotient_check(
+    n: usize,
+    arities: &[u8],
+    cells: &[u8],
+    map: &[u8],
+    room: usize,
+) -> Result<(), Refusal>
     ensures { result ≡ lowest (quotient_tests (algebra_in n arities.entry cells.entry) map.now room) }
 {
-    let check = algebra::check(n, arities, cells);
-    if let Check::Failed(reason) = check {
-        return Check::Failed(reason);
-    }
+    algebra::check(n, arities, cells)?;
     if !equivalence::map::is_map(n, map) {
-        return Check::Failed(Refusal::NotMap);
+        return Err(Refusal::NotMap);
     }
     if room < quotient_cells(n, arities, map) {
-        return Check::Failed(Refusal::Space);
+        return Err(Refusal::Space);
     }
     if !likeness::is_congruence(n, arities, cells, map) {
-        return Check::Failed(Refusal::NotCongruence);
+        return Err(Refusal::NotCongruence);
     }
-    Check::Passed
+    Ok(())
 }
 
 // Whether each of the first `count` stretches of n bytes is a map.
@@ -116,36 +122,29 @@ fn all_maps(n: usize, count: usize, maps: &[u8]) -> bool
     requires { count * n ≤ length maps.now }
     ensures { result ≡ every (is_map n) (map_list n count maps.now) }
 {
-    let mut i = 0;
-    let mut at = 0;
-    while i < count {
-        let next = at + n;
-        if !equivalence::map::is_map(n, &maps[at..next]) {
+    for i in 0..count {
+        let at = i * n;
+        if !equivalence::map::is_map(n, &maps[at..at + n]) {
             return false;
         }
-        at = next;
-        i += 1;
     }
     true
 }
 
 // Certify's tests.
-pub fn certify_check(n: usize, arities: &[u8], cells: &[u8], maps: &[u8]) -> Check
+pub fn certify_check(n: usize, arities: &[u8], cells: &[u8], maps: &[u8]) -> Result<(), Refusal>
     ensures { result ≡ lowest (certify_tests (algebra_in n arities.entry cells.entry) maps.now) }
 {
-    let check = algebra::check(n, arities, cells);
-    if let Check::Failed(reason) = check {
-        return Check::Failed(reason);
-    }
+    algebra::check(n, arities, cells)?;
     if maps.len() % n != 0 {
-        return Check::Failed(Refusal::NotMap);
+        return Err(Refusal::NotMap);
     }
     let count = maps.len() / n;
     if MAX_MAPS < count {
-        return Check::Failed(Refusal::NotMap);
+        return Err(Refusal::NotMap);
     }
     if !all_maps(n, count, maps) {
-        return Check::Failed(Refusal::NotMap);
+        return Err(Refusal::NotMap);
     }
-    Check::Passed
+    Ok(())
 }

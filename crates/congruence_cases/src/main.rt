@@ -1,9 +1,11 @@
 // Generate, Contained, Separate, Quotient and Certify on cases that a reader can check by hand: each line is a call on the bytes n, arities, cells and
 // the service's own input, its lent bytes before it all 9, and what came of it.
+// Answers are printed by hand: a Result has no Display, none can be given to it here, and `io` takes no formatter.
 #![tactic(auto)]
 
-use congruence::{Certified, Divided, Generated};
-use equivalence::{Refusal, Written};
+ghost use Rattle.std.specs.Prelude.{◌≤◌};
+
+use equivalence::Refusal;
 
 // The call's name, the algebra and the service's own input.
 fn print_call(name: &[u8], n: usize, arities: &[u8], cells: &[u8], input: &[u8]) {
@@ -14,27 +16,21 @@ fn print_call(name: &[u8], n: usize, arities: &[u8], cells: &[u8], input: &[u8])
 }
 
 fn print_refused(reason: Refusal) {
-    printing::print_refused(equivalence::checks::number(reason));
+    printing::print_refused(u8::from(reason));
 }
 
-fn print_written(answer: Written, lent: &[u8]) {
-    if let Written::Refused(reason) = answer {
+fn print_written(answer: Result<(), Refusal>, lent: &[u8]) {
+    if let Err(reason) = answer {
         print_refused(reason);
     }
     printing::print_lent(lent);
 }
 
-fn print_generated(answer: Generated) {
+// How many merges, or blocks.
+fn print_counted(answer: Result<u8, Refusal>) {
     match answer {
-        Generated::Merges(count) => print_count(count),
-        Generated::Refused(reason) => print_refused(reason),
-    }
-}
-
-fn print_divided(answer: Divided) {
-    match answer {
-        Divided::Blocks(count) => print_count(count),
-        Divided::Refused(reason) => print_refused(reason),
+        Ok(count) => print_count(count),
+        Err(reason) => print_refused(reason),
     }
 }
 
@@ -42,20 +38,21 @@ fn print_count(count: u8) {
     printing::print_bytes(&[count]);
 }
 
-fn generate_into(n: usize, arities: &[u8], cells: &[u8], pairs: &[u8], lent: &mut [u8]) {
+fn generate_lent<const LENT: usize>(n: usize, arities: &[u8], cells: &[u8], pairs: &[u8])
+    requires { LENT ≤ 64 }
+{
+    let mut lent = [9u8; LENT];
     print_call(b"generate", n, arities, cells, pairs);
-    print_generated(congruence::generate(n, arities, cells, pairs, lent));
-    printing::print_lent(lent);
+    print_counted(congruence::generate(n, arities, cells, pairs, &mut lent));
+    printing::print_lent(&lent);
 }
 
 fn generate(n: usize, arities: &[u8], cells: &[u8], pairs: &[u8]) {
-    let mut lent = [9u8; 5];
-    generate_into(n, arities, cells, pairs, &mut lent);
+    generate_lent::<5>(n, arities, cells, pairs);
 }
 
 fn generate_short(n: usize, arities: &[u8], cells: &[u8], pairs: &[u8]) {
-    let mut lent = [9u8; 3];
-    generate_into(n, arities, cells, pairs, &mut lent);
+    generate_lent::<3>(n, arities, cells, pairs);
 }
 
 fn contained(n: usize, arities: &[u8], cells: &[u8], map: &[u8]) {
@@ -81,27 +78,28 @@ fn separate_printed(n: usize, arities: &[u8], cells: &[u8], v: usize, w: usize) 
     print_written(answer, &lent);
 }
 
-fn quotient_into(n: usize, arities: &[u8], cells: &[u8], map: &[u8], lent: &mut [u8]) {
+fn quotient_lent<const LENT: usize>(n: usize, arities: &[u8], cells: &[u8], map: &[u8])
+    requires { LENT ≤ 64 }
+{
+    let mut lent = [9u8; LENT];
     print_call(b"quotient", n, arities, cells, map);
-    print_divided(congruence::quotient(n, arities, cells, map, lent));
-    printing::print_lent(lent);
+    print_counted(congruence::quotient(n, arities, cells, map, &mut lent));
+    printing::print_lent(&lent);
 }
 
 fn quotient(n: usize, arities: &[u8], cells: &[u8], map: &[u8]) {
-    let mut lent = [9u8; 5];
-    quotient_into(n, arities, cells, map, &mut lent);
+    quotient_lent::<5>(n, arities, cells, map);
 }
 
 fn quotient_short(n: usize, arities: &[u8], cells: &[u8], map: &[u8]) {
-    let mut lent = [9u8; 2];
-    quotient_into(n, arities, cells, map, &mut lent);
+    quotient_lent::<2>(n, arities, cells, map);
 }
 
-fn print_certified(answer: Certified) {
+fn print_certified(answer: Result<bool, Refusal>) {
     match answer {
-        Certified::Yes => print_word(b" yes"),
-        Certified::No => print_word(b" no"),
-        Certified::Refused(reason) => print_refused(reason),
+        Ok(true) => print_word(b" yes"),
+        Ok(false) => print_word(b" no"),
+        Err(reason) => print_refused(reason),
     }
 }
 

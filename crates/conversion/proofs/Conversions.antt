@@ -6,12 +6,11 @@ use mathlib.Core.Path.{◌≡◌, refl, sym, ap, ◌∙◌}
 use native.Mathlib.Omega.{arith}
 use lib.ListN.{take}
 use borrow.Author.Tests.{eq-eqb}
+use Rattle.std.specs.Prelude.{⊤, Result, Ok, Err}
 use Rattle.equivalence.specs.Equivalence.{is_map}
 use Rattle.equivalence.specs.Lists.{every, up_to}
 use Rattle.equivalence.specs.Refusal.{Test, lowest, size_test, answered}
 use Rattle.equivalence.proofs.Tests.{pick}
-use Rattle.equivalence.specs.declared.Check.{Check}
-use Rattle.equivalence.specs.declared.Check.TheVariants.{Passed, Failed}
 use Rattle.equivalence.specs.declared.Refusal.{Refusal}
 use Rattle.equivalence.specs.declared.Refusal.TheVariants.{NotMap}
 use Rattle.sheet.specs.Points.{is_faultless}
@@ -20,8 +19,7 @@ use Rattle.sheet.specs.declared.Sheet.{Sheet}
 use Rattle.benchtests.specs.Tests.{bench_test, clear_tests}
 use Rattle.benchsheets.specs.State.{zero_bench}
 use Rattle.benchtests.proofs.Testing.{sheet_next}
-use Rattle.bench.proofs.Calling.{done_with, refused, benched_answer, benched_done, benched_refused, benched_no, benched_yes}
-use Rattle.bench.specs.declared.Answer.TheVariants.{Done, Refused}
+use Rattle.bench.proofs.Calling.{benched_answer, benched_done, benched_refused}
 use Rattle.benchsheets.specs.declared.Bench.{Bench}
 use Rattle.oldbenches.specs.OldKinds.{maps_test, convert_tests, unpointed}
 use Rattle.conversion.specs.Conversion.{untallied, map_alone, with_tallies, faults_test, convert_v3_tests, convert_v3_call}
@@ -34,7 +32,7 @@ use Rattle.oldbenches.specs.declared.SheetV3.{SheetV3}
 -- a test before others that find the same
 lowest_behind : (t : Test) (ts us : List Test) → lowest ts ≡ lowest us → lowest (t ∷ ts) ≡ lowest (t ∷ us)
 unfolding lowest
-lowest_behind t ts us e = ap (λ (c : Check). pick t.applies (Failed t.reason) c) e
+lowest_behind t ts us e = ap (λ (c : Result ⊤ Refusal). pick t.applies (Err t.reason) c) e
 
 -- sheets of any kind that are asked what 8 asks of those that they become: the tests are Clear's but for 7, which no sheet below 8 draws
 module _ {A : Type 0} (of : A → Sheet) (n : ℕ) (isRight : A → Bool) (each : (s : A) → is_faultless n (of s) ≡ isRight s) (b : Bench) (e : b.n ≡ n) where
@@ -80,29 +78,21 @@ module _ (old : BenchV3) where
   tests_v3 = convert_v3_tests old.n old.sheets
 
   -- it tests the bench that it makes as Clear does
-  module _ (b : Bench) (m : b ≡ with_tallies old) {check : Check} (s : check ≡ lowest (clear_tests b 0)) where
-    found : check ≡ lowest tests_v3
+  module _ (b : Bench) (m : b ≡ with_tallies old) {check : Result ⊤ Refusal} (s : check ≡ lowest (clear_tests b 0)) where
+    pub found_v3 : check ≡ lowest tests_v3
     unfolding with_tallies
-    found = s ∙ sym (convert_v3_clear old.n old.sheets b (ap (λ (b : Bench). b.n) m) (ap (λ (b : Bench). b.sheets) m) 0 (omega arith))
-
-    pub third_no : {r : Refusal} → check ≡ Failed r → (z : Bench) → z ≡ zero_bench → refused r z ≡ convert_v3_call old
-    unfolding convert_v3_call
-    third_no e z f = benched_no tests_v3 (with_tallies old) zero_bench found e z f
-
-    pub third_yes : check ≡ Passed → done_with b ≡ convert_v3_call old
-    unfolding convert_v3_call
-    third_yes e = benched_yes tests_v3 (with_tallies old) zero_bench found e b m
+    found_v3 = s ∙ sym (convert_v3_clear old.n old.sheets b (ap (λ (b : Bench). b.n) m) (ap (λ (b : Bench). b.sheets) m) 0 (omega arith))
 
   -- its answer is that of the tests
-  pub third_answer : (convert_v3_call old).answer ≡ answered Refused (lowest tests_v3) Done
+  pub third_answer : (convert_v3_call old).answer ≡ answered Err (lowest tests_v3) (Ok tt)
   unfolding convert_v3_call
   third_answer = benched_answer tests_v3 (with_tallies old) zero_bench
 
   -- and what it gives is known by that
-  pub third_done : (convert_v3_call old).answer ≡ Done → (convert_v3_call old).bench ≡ with_tallies old
+  pub third_done : (convert_v3_call old).answer ≡ Ok tt → (convert_v3_call old).bench ≡ with_tallies old
   unfolding convert_v3_call
   third_done e = benched_done tests_v3 (with_tallies old) zero_bench e
 
-  pub third_refused : (r : Refusal) → (convert_v3_call old).answer ≡ Refused r → (convert_v3_call old).bench ≡ zero_bench
+  pub third_refused : (r : Refusal) → (convert_v3_call old).answer ≡ Err r → (convert_v3_call old).bench ≡ zero_bench
   unfolding convert_v3_call
   third_refused r e = benched_refused tests_v3 (with_tallies old) zero_bench r e

@@ -35,5 +35,5 @@ unfoldable pub convert_v3_tests : ℕ → List SheetV3 → List Test
 convert_v3_tests n sheets = size_test n ∷ faults_test n sheets ∷ []
 
 -- conversion of a bench of the third kind (1, 8): a bench with all that it holds; refused, a bench of zeros
-unfoldable pub convert_v3_call : BenchV3 → Benched
+unfoldable pub convert_v3_call : BenchV3 → Benched Bench
 convert_v3_call old = benched (convert_v3_tests old.n old.sheets) (with_tallies old) zero_bench

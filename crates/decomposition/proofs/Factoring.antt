@@ -1,5 +1,5 @@
 -- Decompose of an accepted algebra: what was gathered is a list of maps in a slice, and what is left of it are the factors; for n = 1 nothing is gathered.
-use Prim.Native.Nat.{ℕ, ◌+◌, ◌-◌, ◌*◌, ◌≤◌, ◌<◌}
+use Prim.Native.Nat.{ℕ, ◌-◌, ◌*◌, ◌≤◌, ◌<◌}
 use mathlib.Core.List.{List, []}
 use mathlib.Core.Path.{◌≡◌, sym, ap, subst, ◌∙◌}
 use native.Mathlib.Nat.{mul-le-mul_right}
@@ -24,17 +24,12 @@ use Rattle.equivalence.specs.declared.Element.{Element}
 use Rattle.gathering.specs.InnerGathering.{GatheredRight}
 use Rattle.gathering.specs.declared.gather.Collected.{Collected}
 use Rattle.gathering.specs.declared.gather.Collected.TheVariants.{All, Joined}
-use Rattle.decomposition.specs.InnerFactored.{Storage, listed_in, irreducible_with, found_in}
-use Rattle.decomposition.specs.declared.Found.{Found}
-use Rattle.decomposition.specs.declared.Found.TheVariants.{Irreducible}
+use Rattle.decomposition.specs.InnerFactored.{listed_in, irreducible_with, found_in}
+use Rattle.equivalence.specs.declared.Refusal.{Refusal}
+use Rattle.std.specs.Prelude.{Result, Ok}
+use Rattle.decomposition.specs.declared.Decomposed.{Decomposed}
+use Rattle.decomposition.specs.declared.Decomposed.TheVariants.{Irreducible}
 use Rattle.decomposition.proofs.Finding.{found_reducible, found_irreducible}
-
--- the arrays are enough for any algebra
-pub storage_most : {n : ℕ} {maps suffixes table met needed : List ℕ} → n ≤ 64 → length maps ≡ 4032 → length suffixes ≡ 4096 → length table ≡ 4096 → length met ≡ 64 → length needed ≡ 64
-    → Storage n maps suffixes table met needed
-storage_most {n} most m s t d e =
-    let h = most_factor_space_most n most in
-    record { gathered = omega arith; ends = omega arith; pairs = omega arith; meets = omega arith; numbers = omega arith }
 
 module _ (a : Algebra) (accepted : Accepted a) where
   c : WellFormed a
@@ -89,34 +84,38 @@ module _ (a : Algebra) (accepted : Accepted a) where
     unfolding listed
     factors_left = ap (pruned a.size []) map_list_all
 
-  -- on storage that is enough
-  module _ {maps suffixes table met needed : List ℕ} (s : Storage a.size maps suffixes table met needed) where
+  -- 64 bytes are enough for a meet, and 4,032 for what is gathered
+  pub meet_room : a.size ≤ 64
+  meet_room = c.most
+
+  pub gathered_room : most_factor_space a.size ≤ 4032
+  gathered_room = most_factor_space_most a.size c.most
+
+  -- where what is gathered has room
+  module _ (maps : List ℕ) (room : most_factor_space a.size ≤ length maps) where
     module _ {r : Collected} {k : ℕ} (e : r ≡ All k) (after : List ℕ) (g : GatheredRight a r maps after) where
       all_gathered : GatheredRight a (All k) maps after
       all_gathered = subst (λ (z : Collected). GatheredRight a z maps after) e g
 
-      pub gathered_fits : MapsListed a.size k after × (k * a.size + a.size ≤ length suffixes) × (k ≤ length needed)
-      gathered_fits =
-          let h = gathered_few maps all_gathered.1 all_gathered.2 s.gathered in
-          let room : k * a.size ≤ (a.size - 1) * a.size = mul-le-mul_right a.size h in (
-            maps_listed maps all_gathered.1 all_gathered.2 s.gathered,
-            omega (arith, s.ends),
-            omega (arith, s.numbers),
-          )
+      pub gathered_listed : MapsListed a.size k after
+      gathered_listed = maps_listed maps all_gathered.1 all_gathered.2 room
 
-      pub found_listed : (lent : List ℕ) {found : Found} {lent' : List ℕ} → (found, lent') ≡ listed_in a.size (pruned a.size [] (map_list a.size k after)) lent
+      pub gathered_count : k ≤ a.size - 1
+      gathered_count = gathered_few maps all_gathered.1 all_gathered.2 room
+
+      pub found_listed : (lent : List ℕ) {found : Result Decomposed Refusal} {lent' : List ℕ} → (found, lent') ≡ listed_in a.size (pruned a.size [] (map_list a.size k after)) lent
           → (found, lent') ≡ found_in a lent
       found_listed lent f =
-          f ∙ ap (λ (ms : List Map). listed_in a.size ms lent) (factors_left maps all_gathered.1 all_gathered.2 s.gathered)
+          f ∙ ap (λ (ms : List Map). listed_in a.size ms lent) (factors_left maps all_gathered.1 all_gathered.2 room)
           ∙ sym (found_reducible a lent all_gathered.0)
 
-    pub found_joined : {r : Collected} {x y : Element} → r ≡ Joined x y → (after lent : List ℕ) → GatheredRight a r maps after → (Irreducible x y, lent) ≡ found_in a lent
-    unfolding irreducible_with
-    found_joined e after lent g =
-        let h = subst (λ (z : Collected). GatheredRight a z maps after) e g in sym (found_irreducible a lent h.0 ∙ rw h.1)
+  pub found_joined : (maps : List ℕ) {r : Collected} {x y : Element} → r ≡ Joined x y → (after lent : List ℕ) → GatheredRight a r maps after → (Ok (Irreducible x y), lent) ≡ found_in a lent
+  unfolding irreducible_with
+  found_joined maps e after lent g =
+      let h = subst (λ (z : Collected). GatheredRight a z maps after) e g in sym (found_irreducible a lent h.0 ∙ rw h.1)
 
   -- 11 for n = 1: nothing is gathered
-  pub found_one : a.size ≡ 1 → (lent : List ℕ) → (Irreducible (record { 0 = 0 }) (record { 0 = 0 }), lent) ≡ found_in a lent
+  pub found_one : a.size ≡ 1 → (lent : List ℕ) → (Ok (Irreducible (record { 0 = 0 }) (record { 0 = 0 })), lent) ≡ found_in a lent
   unfolding irreducible_with
   found_one e lent =
       sym (found_irreducible a lent (λ t. absurd (omega (arith, (listed_law a c).few, (split a c t).some))) ∙ rw (common_pair_one a c e))

@@ -18,15 +18,18 @@ use Rattle.theory.specs.Decompose.{pruned, listed, reducible, common_pair}
 use Rattle.maplist.specs.InnerMapLists.{map_list}
 use Rattle.pruning.specs.InnerPruning.{chosen, ChosenMaps, NeededMaps}
 use Rattle.decomposition.specs.InnerFactored.{listed_in, irreducible_with, found_in}
-use Rattle.decomposition.specs.declared.Found.{Found}
-use Rattle.decomposition.specs.declared.Found.TheVariants.{Factors, Short}
+use Rattle.equivalence.specs.declared.Refusal.TheVariants.{Space}
+use Rattle.equivalence.specs.declared.Refusal.{Refusal}
+use Rattle.std.specs.Prelude.{Result, Ok, Err}
+use Rattle.decomposition.specs.declared.Decomposed.{Decomposed}
+use Rattle.decomposition.specs.declared.Decomposed.TheVariants.{Factors}
 
 module _ (n : ℕ) (ms : List Map) (lent : List ℕ) where
-  abbrev none : Found × List ℕ
-  none = (Short, lent)
+  abbrev none : Result Decomposed Refusal × List ℕ
+  none = (Err Space, lent)
 
-  abbrev all : Found × List ℕ
-  all = (Factors (length ms), written (concat ms) lent)
+  abbrev all : Result Decomposed Refusal × List ℕ
+  all = (Ok (Factors (length ms)), written (concat ms) lent)
 
   pub listed_short : length lent < length ms * n → listed_in n ms lent ≡ none
   unfolding listed_in
@@ -37,8 +40,8 @@ module _ (n : ℕ) (ms : List Map) (lent : List ℕ) where
   listed_all h = pick_no (ltb (length lent) (length ms * n)) none all (λ t. omega (arith, ltb→lt (length lent) (length ms * n) t))
 
 module _ (a : Algebra) (lent : List ℕ) where
-  abbrev joined : Found × List ℕ
-  joined = (irreducible_with (common_pair a), lent)
+  abbrev joined : Result Decomposed Refusal × List ℕ
+  joined = (Ok (irreducible_with (common_pair a)), lent)
 
   pub found_reducible : T (reducible a) → found_in a lent ≡ listed_in a.size (listed a) lent
   unfolding found_in
@@ -60,15 +63,15 @@ module _ {n : ℕ} {maps : List ℕ} {k : ℕ} {needed : List ℕ} (c : ChosenMa
   chosen_counted few = omega (arith, mul-le-mul {n₂ = 63} {m₂ = 64} few c.most)
 
   module _ (lent : List ℕ) where
-    pub room_short : length lent < k * n → ◌≡◌ {A = Found × List ℕ} (Short, lent) (listed_in n (chosen n maps k needed) lent)
+    pub room_short : length lent < k * n → ◌≡◌ {A = Result Decomposed Refusal × List ℕ} (Err Space, lent) (listed_in n (chosen n maps k needed) lent)
     room_short h = sym (listed_short n (chosen n maps k needed) lent (rw chosen_length h))
 
     pub room_enough : k * n ≤ length lent → {after : List ℕ} → after ≡ written (concat (chosen n maps k needed)) lent
-        → ◌≡◌ {A = Found × List ℕ} (Factors k, after) (listed_in n (chosen n maps k needed) lent)
+        → ◌≡◌ {A = Result Decomposed Refusal × List ℕ} (Ok (Factors k), after) (listed_in n (chosen n maps k needed) lent)
     room_enough h e = sym (listed_all n (chosen n maps k needed) lent (rw chosen_length h) ∙ rw (chosen_length, e))
 
 -- what is needed of a list of maps
-pub needed_listed : {n count : ℕ} {maps : List ℕ} {kept : ℕ} {needed : List ℕ} (lent : List ℕ) {found : Found} {after : List ℕ}
+pub needed_listed : {n count : ℕ} {maps : List ℕ} {kept : ℕ} {needed : List ℕ} (lent : List ℕ) {found : Result Decomposed Refusal} {after : List ℕ}
     → NeededMaps n count maps kept needed → (found, after) ≡ listed_in n (chosen n maps kept needed) lent
     → (found, after) ≡ listed_in n (pruned n [] (map_list n count maps)) lent
 needed_listed {n} lent m e = e ∙ ap (λ (ms : List Map). listed_in n ms lent) m.left

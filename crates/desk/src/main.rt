@@ -19,7 +19,7 @@ const SHORT_TEXT: usize = 32768;
 const SHORT_OUT: usize = 36864;
 
 // A run that paused: where it stands, and how many bytes are written out.
-#[derive(Clone, Copy)]
+#[derive(Clone, Copy, Debug, PartialEq, Eq)]
 struct Paused {
     standing: Standing,
     written: usize,
@@ -56,6 +56,7 @@ fn run(text: &[u8], arities: &mut [u8], room: &mut [u8], out: &mut [u8]) -> Paus
 {
     let mut standing = unread(true);
     let mut written: usize = 0;
+    // A `while`: it ends where no fill can be made.
     while can_fill(text.len(), standing, arities.len(), room.len(), out.len()) {
         let filled = fill(text, standing, arities, room, out);
         let wrote = filled.wrote;
@@ -73,6 +74,7 @@ fn run_on(text: &[u8], paused: Paused, arities: &mut [u8], room: &mut [u8], out:
 {
     let mut standing = paused.standing;
     let mut written = paused.written;
+    // A `while`: it ends where the run is over.
     while standing.goes {
         let filled = fill(text, standing, arities, room, out);
         let wrote = filled.wrote;

@@ -15,7 +15,6 @@ use native.Mathlib.Decide.{dec_lt}
 use native.Mathlib.Omega.{arith}
 use lib.Dec.{eqb, eqb→eq}
 use lib.ListN.{length, take, length-append, get_or-append}
-use lib.Pow.{low}
 use lib.Seq.{get_or-take, get_or-append_seam, take-suc, take_all, length-take-le}
 use Rattle.equivalence.specs.Equivalence.{Map, byte, names_of, maps}
 use Rattle.equivalence.specs.Lists.{up_to}

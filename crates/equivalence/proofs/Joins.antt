@@ -1,7 +1,7 @@
 -- Joins: the least upper bound of two maps.
 use Prim.Native.Nat.{ℕ}
 use mathlib.Core.Bool.{Bool, ◌&&◌}
-use mathlib.Core.List.{List, map, Memᴰ as Member}
+use mathlib.Core.List.{List, Memᴰ as Member}
 use mathlib.Core.Path.{◌≡◌}
 use Rattle.equivalence.specs.Equivalence.{Map, inside, meet_all, maps, best, join}
 use Rattle.equivalence.specs.Lists.{keep}

@@ -1,7 +1,7 @@
 pub mod AllMaps
 pub mod Best
-pub mod Bounds
 pub mod Bytes
+pub mod Passes
 pub mod BlockNumbers
 pub mod Joins
 pub mod Laying

@@ -9,7 +9,7 @@ use mathlib.Core.List.{List, [], ◌∷◌, Memᴰ as Member}
 use mathlib.Core.Logic.{inl, inr}
 use mathlib.Core.Path.{◌≡◌, refl, sym, subst, ◌∙◌}
 use lib.Dec.{T}
-use Rattle.equivalence.specs.Equivalence.{Map, byte, holds, identity, same, meet, meet_all}
+use Rattle.equivalence.specs.Equivalence.{Map, byte, holds, identity, meet, meet_all}
 use Rattle.equivalence.proofs.Maps.{Holds, holds_of, of_holds, IsMap, Inside, IsEquivalence, map_of_holds}
 use Rattle.equivalence.proofs.Maps.{of_map_of, map_of_map, map_of_byte, map_ext, identity_discrete, discrete_identity, whole_map, whole_holds}
 use Rattle.equivalence.proofs.Tests.{both, left, right}

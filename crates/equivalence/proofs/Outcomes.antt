@@ -9,7 +9,7 @@ use Rattle.equivalence.proofs.Ranks.{number_of_injective}
 use Rattle.equivalence.proofs.Tests.{left, right}
 use Rattle.equivalence.specs.declared.Refusal.{Refusal}
 use Rattle.equivalence.specs.declared.Refusal.TheVariants.{Size, Operations, Arity, Cells, Length, Cell, Range, NotMap, Space, Equal, NotCongruence, Tally, Text, UnknownName, PointsFull}
-use Rattle.equivalence.specs.declared.Written.TheVariants.{Done, Refused as WriteRefused}
+use Rattle.std.specs.Prelude.{Ok, Err}
 
 -- ---- success, refusal and 11 differ
 
@@ -54,7 +54,7 @@ success_injective j k e = ap (λ (o : Outcome). o.count) e
 
 pub written_outcome_injective : Injective written_outcome
 unfolding written_outcome
-written_outcome_injective Done Done e = refl
-written_outcome_injective Done (WriteRefused r) e = absurd (success_apart 0 r e)
-written_outcome_injective (WriteRefused r) Done e = absurd (success_apart 0 r (sym e))
-written_outcome_injective (WriteRefused r) (WriteRefused s) e = ap WriteRefused (refusal_injective r s e)
+written_outcome_injective (Ok x) (Ok y) e = refl
+written_outcome_injective (Ok x) (Err r) e = absurd (success_apart 0 r e)
+written_outcome_injective (Err r) (Ok x) e = absurd (success_apart 0 r (sym e))
+written_outcome_injective (Err r) (Err s) e = ap Err (refusal_injective r s e)

@@ -15,12 +15,11 @@ use Rattle.equivalence.specs.Outcome.{Injective}
 use Rattle.equivalence.specs.Lent.{lent_after}
 use Rattle.equivalence.specs.Ranks.{rank, rises, LowestReason, ReasonRight, RefusalRight}
 use Rattle.equivalence.specs.Refusal.{Test, number_of, lowest, answered, serve}
-use Rattle.equivalence.proofs.Refusals.{lowest_none, lowest_here, lowest_next}
+use Rattle.equivalence.proofs.Refusals.{ok_never, same_reason, lowest_none, lowest_here, lowest_next}
 use Rattle.equivalence.proofs.Tests.{T?, left, right}
 use Rattle.equivalence.specs.declared.Refusal.{Refusal}
 use Rattle.equivalence.specs.declared.Refusal.TheVariants.{Size, Operations, Arity, Cells, Length, Cell, Range, NotMap, Space, Equal, NotCongruence, Tally, Text, UnknownName, PointsFull}
-use Rattle.equivalence.specs.declared.Check.{Check}
-use Rattle.equivalence.specs.declared.Check.TheVariants.{Passed, Failed}
+use Rattle.std.specs.Prelude.{⊤, Result, Ok, Err}
 
 -- ---- a reason is known by its number, and by its rank
 
@@ -85,12 +84,11 @@ lowest_behind t rest r h l =
     }
 
 -- the reason that is found is the lowest
-found_lowest : (tests : List Test) → T (rises tests) → (r : Refusal) → lowest tests ≡ Failed r → LowestReason tests r
-found_lowest [] up r e = let f : Passed ≡ Failed r = sym lowest_none ∙ e in let z : ◌≡◌ {A = ℕ} 0 1 = cc in absurd (omega arith)
+found_lowest : (tests : List Test) → T (rises tests) → (r : Refusal) → lowest tests ≡ Err r → LowestReason tests r
+found_lowest [] up r e = absurd (ok_never (sym lowest_none ∙ e))
 found_lowest (t ∷ rest) up r e =
     elim (T? t.applies) [
-      | yes h ↦ let f : Failed t.reason ≡ Failed r = sym (lowest_here t rest h) ∙ e in
-          let is : t.reason ≡ r = cc in
+      | yes h ↦ let is : t.reason ≡ r = same_reason (sym (lowest_here t rest h) ∙ e) in
           record {
             test = t;
             listed = here refl;
@@ -105,7 +103,7 @@ found_lowest (t ∷ rest) up r e =
     ]
 
 -- the lowest reason is found
-lowest_found : (tests : List Test) → T (rises tests) → (r : Refusal) → LowestReason tests r → lowest tests ≡ Failed r
+lowest_found : (tests : List Test) → T (rises tests) → (r : Refusal) → LowestReason tests r → lowest tests ≡ Err r
 lowest_found [] up r l = absurd (not-nil l.listed)
 lowest_found (t ∷ rest) up r l =
     elim (T? t.applies) [
@@ -114,7 +112,7 @@ lowest_found (t ∷ rest) up r l =
         | inr k ↦ rises_first t rest up l.test k
       ] in
           let same : rank l.test.reason ≡ rank r = ap rank l.reason in
-          lowest_here t rest h ∙ ap Failed (rank_injective t.reason r (omega (arith, most, same, l.lowest t (here refl) h)))
+          lowest_here t rest h ∙ ap Err (rank_injective t.reason r (omega (arith, most, same, l.lowest t (here refl) h)))
       | no h ↦ lowest_next t rest h
           ∙ lowest_found rest (rises_rest t rest up) r
           (record {
@@ -127,26 +125,26 @@ lowest_found (t ∷ rest) up r l =
     ]
 
 -- the tests of a call rise: it is refused with the lowest reason, and only so
-pub lowest_reason : (tests : List Test) → T (rises tests) → ReasonRight Failed (lowest tests) tests
+pub lowest_reason : (tests : List Test) → T (rises tests) → ReasonRight (lowest tests) tests
 lowest_reason tests up r = (found_lowest tests up r, lowest_found tests up r)
 
--- a call that answers by its tests: where refusals differ, from each other and from the answer, it is refused by the same law
-module _ {A : Type 0} (refused : Refusal → A) (answer : A) (apart : Injective refused) (never : (r : Refusal) → ¬ (answer ≡ refused r)) where
-  failed_of : (r : Refusal) (c : Check) → answered refused c answer ≡ refused r → c ≡ Failed r
+-- a call that answers by its tests is refused by the same law
+module _ {A : Type 0} (answer : A) where
+  err_of : (r : Refusal) (c : Result ⊤ Refusal) → answered Err c (Ok answer) ≡ Err r → c ≡ Err r
   unfolding answered
-  failed_of r Passed e = absurd (never r e)
-  failed_of r (Failed s) e = ap Failed (apart s r e)
+  err_of r (Ok x) e = absurd (ok_never e)
+  err_of r (Err s) e = ap Err (same_reason e)
 
-  pub answered_reason : (tests : List Test) → T (rises tests) → ReasonRight refused (answered refused (lowest tests) answer) tests
+  pub answered_reason : (tests : List Test) → T (rises tests) → ReasonRight (answered Err (lowest tests) (Ok answer)) tests
   unfolding answered
   answered_reason tests up r = (
-    λ e. found_lowest tests up r (failed_of r (lowest tests) e),
-    λ l. ap (λ (c : Check). answered refused c answer) (lowest_found tests up r l),
+    λ e. found_lowest tests up r (err_of r (lowest tests) e),
+    λ l. ap (λ (c : Result ⊤ Refusal). answered Err c (Ok answer)) (lowest_found tests up r l),
   )
 
   -- and where it writes, a refusal leaves every lent byte
-  pub serve_refusal : (tests : List Test) (new lent : List ℕ) → T (rises tests) → RefusalRight refused (serve refused tests answer new lent) tests lent
+  pub serve_refusal : (tests : List Test) (new lent : List ℕ) → T (rises tests) → RefusalRight (serve tests answer new lent) tests lent
   unfolding serve lent_after
   serve_refusal tests new lent up =
-      let right : ReasonRight refused (answered refused (lowest tests) answer) tests = answered_reason tests up in
-      record { reason = right; unwritten = λ r e. ap (λ (c : Check). lent_after c new lent) (lowest_found tests up r ((right r).0 e)) }
+      let right : ReasonRight (answered Err (lowest tests) (Ok answer)) tests = answered_reason tests up in
+      record { reason = right; unwritten = λ r e. ap (λ (c : Result ⊤ Refusal). lent_after c new lent) (lowest_found tests up r ((right r).0 e)) }

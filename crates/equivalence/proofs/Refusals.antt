@@ -15,41 +15,70 @@ use Rattle.equivalence.proofs.Tests.{T?, or_left, or_right, or_cases, eq→eqb, 
 use Rattle.equivalence.specs.declared.Refusal.{Refusal}
 use Rattle.equivalence.specs.declared.Refusal.TheVariants.{Size, NotMap, Space}
 use borrow.Author.Tests.{not-true, not-false}
-use Rattle.equivalence.specs.declared.Check.TheVariants.{Passed, Failed}
+use Rattle.std.proofs.lemmas.Result.{err_from_is_err_and}
+use Rattle.std.specs.Prelude.{⊤, Result, Ok, Err, IsErrAnd, is_err}
+
+-- an answer is no refusal, and refusals are equal only where their reasons are
+pub ok_never : {A : Type 0} {x : A} {r : Refusal} → Ok x ≡ Err r → ⊥
+ok_never e = cc
+
+pub err_never : {A : Type 0} {x : A} {r : Refusal} → Err r ≡ Ok x → ⊥
+err_never e = cc
+
+pub same_reason : {A : Type 0} {r s : Refusal} → ◌≡◌ {A = Result A Refusal} (Err r) (Err s) → r ≡ s
+same_reason e = cc
+
+pub same_answer : {A : Type 0} {x y : A} → ◌≡◌ {A = Result A Refusal} (Ok x) (Ok y) → x ≡ y
+same_answer e = cc
+
+-- what `?` hands on where a call declines: the same reason
+pub handed_on : {A : Type 0} {r : Refusal} {answer : Result A Refusal} → IsErrAnd answer (λ e. e ≡ r) → answer ≡ Err r
+handed_on {A} {r} {answer} h = let p = err_from_is_err_and answer h in p.1 ∙ ap Err p.2
+
+-- what `is_err` says of what tests found
+pub passed_of : {check : Result ⊤ Refusal} {flag : Bool} → flag ≡ is_err check → flag ≡ false → check ≡ Ok tt
+passed_of {check} {flag} e f = at check (sym e ∙ f)
+  where
+    at : (c : Result ⊤ Refusal) → is_err c ≡ false → c ≡ Ok tt
+    at (Ok x) g = refl
+    at (Err r) g = cc
+
+pub declined_of : {check : Result ⊤ Refusal} {flag : Bool} → flag ≡ is_err check → flag ≡ true → ¬ (check ≡ Ok tt)
+declined_of e f g = let h : true ≡ false = sym f ∙ e ∙ ap is_err g in cc
 
 -- no tests, no reason
-pub lowest_none : lowest [] ≡ Passed
+pub lowest_none : lowest [] ≡ Ok tt
 unfolding lowest
 lowest_none = refl
 
 -- a test that does not apply is passed over
 pub lowest_next : (t : Test) (rest : List Test) → ¬ T t.applies → lowest (t ∷ rest) ≡ lowest rest
 unfolding lowest
-lowest_next t rest h = pick_no t.applies (Failed t.reason) (lowest rest) h
+lowest_next t rest h = pick_no t.applies (Err t.reason) (lowest rest) h
 
 -- a test that applies is the answer
-pub lowest_here : (t : Test) (rest : List Test) → T t.applies → lowest (t ∷ rest) ≡ Failed t.reason
+pub lowest_here : (t : Test) (rest : List Test) → T t.applies → lowest (t ∷ rest) ≡ Err t.reason
 unfolding lowest
-lowest_here t rest h = pick_yes t.applies (Failed t.reason) (lowest rest) h
+lowest_here t rest h = pick_yes t.applies (Err t.reason) (lowest rest) h
 
 -- where all pass, the first does not apply and the rest pass
-pub of_passed : (t : Test) (rest : List Test) → lowest (t ∷ rest) ≡ Passed → (¬ T t.applies) × (lowest rest ≡ Passed)
+pub of_passed : (t : Test) (rest : List Test) → lowest (t ∷ rest) ≡ Ok tt → (¬ T t.applies) × (lowest rest ≡ Ok tt)
 of_passed t rest e =
     elim (T? t.applies) [
-      | yes h ↦ let f : Failed t.reason ≡ Passed = sym (lowest_here t rest h) ∙ e in let z : ◌≡◌ {A = ℕ} 0 1 = cc in absurd (omega arith)
+      | yes h ↦ absurd (err_never (sym (lowest_here t rest h) ∙ e))
       | no h ↦ (h, sym (lowest_next t rest h) ∙ e)
     ]
 
 -- tests that pass are passed over
-pub lowest_append : (ts rest : List Test) → lowest ts ≡ Passed → lowest (ts ++ rest) ≡ lowest rest
+pub lowest_append : (ts rest : List Test) → lowest ts ≡ Ok tt → lowest (ts ++ rest) ≡ lowest rest
 lowest_append [] rest e = refl
 lowest_append (t ∷ ts) rest e =
     let p = of_passed t ts e in lowest_next t (ts ++ rest) p.0 ∙ lowest_append ts rest p.1
 
 -- a reason found among the first tests is the answer
-pub lowest_failed : (ts rest : List Test) (r : Refusal) → lowest ts ≡ Failed r → lowest (ts ++ rest) ≡ Failed r
+pub lowest_failed : (ts rest : List Test) (r : Refusal) → lowest ts ≡ Err r → lowest (ts ++ rest) ≡ Err r
 unfolding lowest
-lowest_failed [] rest r e = let z : ◌≡◌ {A = ℕ} 0 1 = cc in absurd (omega arith)
+lowest_failed [] rest r e = absurd (ok_never e)
 lowest_failed (t ∷ ts) rest r e =
     elim (T? t.applies) [
       | yes h ↦ lowest_here t (ts ++ rest) h ∙ sym (lowest_here t ts h) ∙ e
@@ -57,7 +86,7 @@ lowest_failed (t ∷ ts) rest r e =
     ]
 
 -- where two lists of tests pass one after the other, both pass
-pub passed_append : (ts rest : List Test) → lowest (ts ++ rest) ≡ Passed → (lowest ts ≡ Passed) × (lowest rest ≡ Passed)
+pub passed_append : (ts rest : List Test) → lowest (ts ++ rest) ≡ Ok tt → (lowest ts ≡ Ok tt) × (lowest rest ≡ Ok tt)
 passed_append [] rest e = (lowest_none, e)
 passed_append (t ∷ ts) rest e =
     let p = of_passed t (ts ++ rest) e in
@@ -65,20 +94,20 @@ passed_append (t ∷ ts) rest e =
     (lowest_next t ts p.0 ∙ r.0, r.1)
 
 -- a call whose tests pass
-pub serve_passed {ℓ} : {A : Type ℓ} (refused : Refusal → A) (tests : List Test) (answer : A) (new lent : List ℕ) → lowest tests ≡ Passed
-    → serve refused tests answer new lent ≡ (answer, written new lent)
+pub serve_passed : {A : Type 0} (tests : List Test) (answer : A) (new lent : List ℕ) → lowest tests ≡ Ok tt
+    → serve tests answer new lent ≡ (Ok answer, written new lent)
 unfolding serve answered lent_after
-serve_passed refused tests answer new lent e = rw e
+serve_passed tests answer new lent e = rw e
 
 -- a call that a test declines
-pub serve_failed {ℓ} : {A : Type ℓ} (refused : Refusal → A) (tests : List Test) (answer : A) (new lent : List ℕ) (r : Refusal) → lowest tests ≡ Failed r
-    → serve refused tests answer new lent ≡ (refused r, lent)
+pub serve_failed : {A : Type 0} (tests : List Test) (answer : A) (new lent : List ℕ) (r : Refusal) → lowest tests ≡ Err r
+    → serve tests answer new lent ≡ (Err r, lent)
 unfolding serve answered lent_after
-serve_failed refused tests answer new lent r e = rw e
+serve_failed tests answer new lent r e = rw e
 
 -- ---- the tests of this crate: where one applies, or is passed over, by the flag that a function answers; and what a test that does not apply says
 
-pub size_refused : (n : ℕ) (rest : List Test) {r : Bool} → r ≡ not (size_test n).applies → not r ≡ true → lowest (size_test n ∷ rest) ≡ Failed Size
+pub size_refused : (n : ℕ) (rest : List Test) {r : Bool} → r ≡ not (size_test n).applies → not r ≡ true → lowest (size_test n ∷ rest) ≡ Err Size
 unfolding size_test
 size_refused n rest {r} e f = lowest_here (size_test n) rest (T_of (not-false (size_test n).applies (sym e ∙ not-true r f)))
 
@@ -104,7 +133,7 @@ unfolding size_test
 size_test_of n l k t =
     elim (or_cases (eqb n 0) (ltb 64 n) t) [ inl s ↦ absurd (omega (arith, eqb→eq n 0 s)) | inr s ↦ absurd (omega (arith, ltb→lt 64 n s)) ]
 
-pub map_refused : (n : ℕ) (m : Map) (rest : List Test) {r : Bool} → r ≡ is_map n m → not r ≡ true → lowest (map_test n m ∷ rest) ≡ Failed NotMap
+pub map_refused : (n : ℕ) (m : Map) (rest : List Test) {r : Bool} → r ≡ is_map n m → not r ≡ true → lowest (map_test n m ∷ rest) ≡ Err NotMap
 unfolding map_test
 map_refused n m rest {r} e f = lowest_here (map_test n m) rest (T_of (ap not (sym e) ∙ f))
 
@@ -116,7 +145,7 @@ pub of_map_test : (n : ℕ) (m : Map) → ¬ T (map_test n m).applies → IsMap 
 unfolding map_test
 of_map_test n m t = elim (T? (is_map n m)) [ yes s ↦ of_is_map n m s | no s ↦ absurd (t (not_T (is_map n m) s)) ]
 
-pub space_refused : (wanted lent : ℕ) (rest : List Test) → lent < wanted → lowest (space_test wanted lent ∷ rest) ≡ Failed Space
+pub space_refused : (wanted lent : ℕ) (rest : List Test) → lent < wanted → lowest (space_test wanted lent ∷ rest) ≡ Err Space
 unfolding space_test
 space_refused wanted lent rest l = lowest_here (space_test wanted lent) rest (lt→ltb lent wanted l)
 

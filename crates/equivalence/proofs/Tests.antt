@@ -74,3 +74,8 @@ false_is false t = refl
 
 pub and_true : {a b : Bool} → a ≡ true → b ≡ (a && b)
 and_true {a} {b} e = rw e refl
+
+-- flags that hold together are one
+pub same_flags : (a b : Bool) → (T a → T b) → (T b → T a) → a ≡ b
+same_flags true b f g = true_is b (f tt)
+same_flags false b f g = false_is b (λ t. g t)

@@ -1,7 +1,6 @@
 -- Lent bytes: what is written to them, where, and what stays.
-use Rattle.std.specs.Prelude.{ℕ, ◌*◌, List, ◌++◌, length, take, drop}
-use Rattle.equivalence.specs.declared.Check.{Check}
-use Rattle.equivalence.specs.declared.Check.TheVariants.{Passed, Failed}
+use Rattle.std.specs.Prelude.{ℕ, ◌*◌, List, ◌++◌, length, take, drop, ⊤, Result, Ok, Err}
+use Rattle.equivalence.specs.declared.Refusal.{Refusal}
 
 -- the lent bytes with the new ones at their start
 unfoldable pub written : List ℕ → List ℕ → List ℕ
@@ -16,6 +15,6 @@ unfoldable pub stretch : ℕ → List ℕ → ℕ → List ℕ
 stretch n l i = take n (drop (i * n) l)
 
 -- the lent bytes after a call: a refusal writes nothing
-unfoldable pub lent_after : Check → List ℕ → List ℕ → List ℕ
-lent_after Passed new lent = written new lent
-lent_after (Failed r) new lent = lent
+unfoldable pub lent_after : Result ⊤ Refusal → List ℕ → List ℕ → List ℕ
+lent_after (Ok x) new lent = written new lent
+lent_after (Err r) new lent = lent

@@ -1,9 +1,7 @@
 -- Document 01's number and values for an answer, and the 32-bit number that a C caller gets.
-use Rattle.std.specs.Prelude.{ℕ, ◌+◌, ◌*◌, ◌≡◌}
+use Rattle.std.specs.Prelude.{ℕ, ◌+◌, ◌*◌, ◌≡◌, ⊤, Result, Ok, Err}
 use Rattle.equivalence.specs.Refusal.{number_of}
 use Rattle.equivalence.specs.declared.Refusal.{Refusal}
-use Rattle.equivalence.specs.declared.Written.{Written}
-use Rattle.equivalence.specs.declared.Written.TheVariants.{Done, Refused}
 
 -- a reason, 0 for success, with a count and two elements, each 0 where there is none
 pub record Outcome : Type 0 where
@@ -21,9 +19,9 @@ unfoldable pub refusal : Refusal → Outcome
 refusal r = record { reason = number_of r; count = 0; first = 0; second = 0 }
 
 -- Contained, Separate, Meet, Join
-unfoldable pub written_outcome : Written → Outcome
-written_outcome Done = success 0
-written_outcome (Refused r) = refusal r
+unfoldable pub written_outcome : Result ⊤ Refusal → Outcome
+written_outcome (Ok x) = success 0
+written_outcome (Err r) = refusal r
 
 -- reason + 256 × count + 65,536 × first element + 16,777,216 × second element
 unfoldable pub packed : Outcome → ℕ

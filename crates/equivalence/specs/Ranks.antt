@@ -1,5 +1,5 @@
 -- The order in which reasons go before each other, and the lowest of the reasons that apply.
-use Rattle.std.specs.Prelude.{ℕ, ◌≤◌, Bool, true, ◌&&◌, List, [], ◌∷◌, ◌↔◌, ◌≡◌, T, leb}
+use Rattle.std.specs.Prelude.{ℕ, ◌≤◌, Bool, true, ◌&&◌, List, [], ◌∷◌, ◌↔◌, ◌≡◌, T, leb, Result, Err}
 use mathlib.Core.List.{Memᴰ as Member}
 use Rattle.equivalence.specs.Refusal.{Test, number_of}
 use Rattle.equivalence.specs.declared.Refusal.{Refusal}
@@ -23,10 +23,10 @@ pub record LowestReason (tests : List Test) (r : Refusal) : Type 0 where
   pub lowest : (u : Test) → Member u tests → T u.applies → rank r ≤ rank u.reason
 
 -- a call's answer is the refusal r if and only if r is the lowest reason among its tests
-abbrev pub ReasonRight : {A : Type 0} → (Refusal → A) → A → List Test → Type 0
-ReasonRight refused answer tests = (r : Refusal) → (answer ≡ refused r) ↔ LowestReason tests r
+abbrev pub ReasonRight : {A : Type 0} → Result A Refusal → List Test → Type 0
+ReasonRight answer tests = (r : Refusal) → (answer ≡ Err r) ↔ LowestReason tests r
 
 -- a call that writes is refused with the lowest reason among its tests, and only so; refused, it leaves every lent byte
-pub record RefusalRight {A : Type 0} (refused : Refusal → A) (call : A × List ℕ) (tests : List Test) (lent : List ℕ) : Type 0 where
-  pub reason : ReasonRight refused call.0 tests
-  pub unwritten : (r : Refusal) → call.0 ≡ refused r → call.1 ≡ lent
+pub record RefusalRight {A : Type 0} (call : Result A Refusal × List ℕ) (tests : List Test) (lent : List ℕ) : Type 0 where
+  pub reason : ReasonRight call.0 tests
+  pub unwritten : (r : Refusal) → call.0 ≡ Err r → call.1 ≡ lent

@@ -1,12 +1,10 @@
 -- The reasons to decline, their numbers, and the lowest that applies.
-use Rattle.std.specs.Prelude.{ℕ, ◌%◌, Bool, true, false, not, ◌||◌, List, [], ◌∷◌, eqb, ltb, length}
+use Rattle.std.specs.Prelude.{ℕ, ◌%◌, Bool, true, false, not, ◌||◌, List, [], ◌∷◌, eqb, ltb, length, ⊤, Result, Ok, Err}
 use Rattle.equivalence.specs.Equivalence.{Map, is_map}
 use Rattle.equivalence.specs.Lists.{every}
 use Rattle.equivalence.specs.Lent.{lent_after}
 use Rattle.equivalence.specs.declared.Refusal.{Refusal}
 use Rattle.equivalence.specs.declared.Refusal.TheVariants.{Size, Operations, Arity, Cells, Length, Cell, Range, NotMap, Space, Equal, NotCongruence, Tally, Text, UnknownName, PointsFull}
-use Rattle.equivalence.specs.declared.Check.{Check}
-use Rattle.equivalence.specs.declared.Check.TheVariants.{Passed, Failed}
 
 -- the number in the table of reasons; 11 is `Decomposed`'s case `Irreducible`
 unfoldable pub number_of : Refusal → ℕ
@@ -32,9 +30,9 @@ pub record Test : Type 0 where
   pub reason : Refusal
 
 -- the first reason that applies; where the tests rise by rank (`rises` in Ranks.antt) it is the lowest
-unfoldable pub lowest : List Test → Check
-lowest [] = Passed
-lowest (t ∷ rest) = elim t.applies [ true ↦ Failed t.reason | false ↦ lowest rest ]
+unfoldable pub lowest : List Test → Result ⊤ Refusal
+lowest [] = Ok tt
+lowest (t ∷ rest) = elim t.applies [ true ↦ Err t.reason | false ↦ lowest rest ]
 
 -- 1: n is 0 or above 64
 unfoldable pub size_test : ℕ → Test
@@ -61,14 +59,14 @@ unfoldable pub equal_test : ℕ → ℕ → Test
 equal_test v w = record { applies = eqb v w; reason = Equal }
 
 -- Prefer's tests
-unfoldable pub prefer_check : ℕ → Map → Map → Check
+unfoldable pub prefer_check : ℕ → Map → Map → Result ⊤ Refusal
 prefer_check n a b = lowest (size_test n ∷ map_test n a ∷ map_test n b ∷ [])
 
 -- what a call answers: the answer where the tests pass, else the refusal
-unfoldable pub answered {ℓ} : {A : Type ℓ} → (Refusal → A) → Check → A → A
-answered refused Passed answer = answer
-answered refused (Failed r) answer = refused r
+unfoldable pub answered {ℓ} : {A : Type ℓ} → (Refusal → A) → Result ⊤ Refusal → A → A
+answered refused (Ok x) answer = answer
+answered refused (Err r) answer = refused r
 
 -- a call that writes: the answer and the lent bytes afterwards, by its tests
-unfoldable pub serve {ℓ} : {A : Type ℓ} → (Refusal → A) → List Test → A → List ℕ → List ℕ → A × List ℕ
-serve refused tests answer new lent = (answered refused (lowest tests) answer, lent_after (lowest tests) new lent)
+unfoldable pub serve : {A : Type 0} → List Test → A → List ℕ → List ℕ → Result A Refusal × List ℕ
+serve tests answer new lent = (answered Err (lowest tests) (Ok answer), lent_after (lowest tests) new lent)

@@ -5,6 +5,7 @@ ghost use Rattle.kernel.specs.InnerKernel.{Canonical, Filled, Merged, United, re
 ghost use Rattle.kernel.specs.InnerLargest.{Larger};
 
 // v, or `new` where v is `old`.
+#[tactic(auto, unfolding(kernel::specs::InnerKernel::relabel))]
 fn relabelled(v: u8, old: u8, new: u8) -> u8
     ensures { result ≡ relabel old new v }
 {
@@ -16,10 +17,8 @@ pub fn relabel_all(n: usize, old: u8, new: u8, m: &mut [u8])
     requires { n ≤ length m.old }
     ensures { Filled n (λ x. relabel old new (byte m.old x)) (byte m.old) (byte m.new) }
 {
-    let mut i = 0;
-    while i < n {
-        m[i] = relabelled(m[i], old, new);
-        i += 1;
+    for v in &mut m[..n] {
+        *v = relabelled(*v, old, new);
     }
 }
 
@@ -27,14 +26,14 @@ pub fn relabel_all(n: usize, old: u8, new: u8, m: &mut [u8])
 pub fn smaller(p: u8, q: u8) -> u8
     ensures { result ≡ min p q }
 {
-    if p < q { p } else { q }
+    p.min(q)
 }
 
 // The larger of two bytes.
 pub fn larger(p: u8, q: u8) -> u8
     ensures { Larger p q result }
 {
-    if p < q { q } else { p }
+    p.max(q)
 }
 
 // Puts the blocks of a and b, which are two, under the smaller name. Which name that is cannot be foreseen, so it is chosen without a branch.
@@ -73,10 +72,8 @@ pub fn identity(n: usize, m: &mut [u8])
     requires n_bound { n ≤ 64 }
     ensures { Filled n (λ x. x) (byte m.old) (byte m.new) }
 {
-    let mut i = 0;
-    while i < n {
-        m[i] = i as u8;
-        i += 1;
+    for (x, name) in m[..n].iter_mut().enumerate() {
+        *name = x as u8;
     }
 }
 
@@ -86,9 +83,5 @@ pub fn copy(n: usize, from: &[u8], to: &mut [u8])
     requires n_in_bounds_2 { n ≤ length to.old }
     ensures { Filled n (byte from.now) (byte to.old) (byte to.new) }
 {
-    let mut i = 0;
-    while i < n {
-        to[i] = from[i];
-        i += 1;
-    }
+    to[..n].copy_from_slice(&from[..n]);
 }

@@ -6,7 +6,7 @@ pub mod checks;
 pub mod map;
 
 // The reasons to decline, by their numbers. Reason 11 carries two elements: it is a case of `Decomposed`.
-#[derive(Clone, Copy)]
+#[derive(Debug, Clone, Copy, PartialEq, Eq)]
 pub enum Refusal {
     Size,
     Operations,
@@ -25,26 +25,12 @@ pub enum Refusal {
     PointsFull,
 }
 
-// What the tests of a call found.
-#[derive(Clone, Copy)]
-pub enum Check {
-    Passed,
-    Failed(Refusal),
-}
-
 // An element of an algebra.
-#[derive(Clone, Copy)]
+#[derive(Debug, Clone, Copy, PartialEq, Eq)]
 pub struct Element(pub u8);
 
-// What a service answers that only writes a map.
-#[derive(Clone, Copy)]
-pub enum Written {
-    Done,
-    Refused(Refusal),
-}
-
 // Two elements.
-#[derive(Clone, Copy)]
+#[derive(Debug, Clone, Copy, PartialEq, Eq)]
 pub struct Pair {
     pub x: usize,
     pub y: usize,

@@ -10,34 +10,21 @@ fn is_named(m: &[u8], x: usize) -> bool
 {
     let name = m[x];
     let first = name as usize;
-    if x < first {
-        return false;
-    }
-    m[first] == name
+    first <= x && m[first] == name
 }
 
 // Whether m is a map over n: its length is tested first, so any n will do.
 pub fn is_map(n: usize, m: &[u8]) -> bool
     ensures { result ≡ is_map n m.now }
 {
-    if m.len() != n {
-        return false;
-    }
-    let mut x = 0;
-    while x < n {
-        if !is_named(m, x) {
-            return false;
-        }
-        x += 1;
-    }
-    true
+    m.len() == n && (0..n).all(|x| is_named(m, x))
 }
 
 // 1 where x is its own name, and so the smallest member of its block, 0 where it is not.
 pub fn self_named(name: u8, x: usize) -> usize
     ensures { result ≡ bit (eqb name x) }
 {
-    if name as usize == x { 1 } else { 0 }
+    usize::from(name as usize == x)
 }
 
 // How many of the first n bytes name their own element: the number of blocks.
@@ -46,10 +33,8 @@ pub fn block_count(n: usize, m: &[u8]) -> usize
     ensures { result ≡ names n (byte m.now) }
 {
     let mut count = 0;
-    let mut x = 0;
-    while x < n {
+    for x in 0..n {
         count += self_named(m[x], x);
-        x += 1;
     }
     count
 }
@@ -61,15 +46,7 @@ pub fn is_inside(n: usize, a: &[u8], b: &[u8]) -> bool
     requires canonical { Canonical n (byte a.now) }
     ensures { result ≡ inside n a.now b.now }
 {
-    let mut x = 0;
-    while x < n {
-        let first = a[x] as usize;
-        if b[x] != b[first] {
-            return false;
-        }
-        x += 1;
-    }
-    true
+    (0..n).all(|x| b[x] == b[a[x] as usize])
 }
 
 // Whether every element is alone in its block.
@@ -78,12 +55,5 @@ pub fn is_identity(n: usize, m: &[u8]) -> bool
     requires canonical { Canonical n (byte m.now) }
     ensures { result ≡ is_identity n m.now }
 {
-    let mut x = 0;
-    while x < n {
-        if m[x] as usize != x {
-            return false;
-        }
-        x += 1;
-    }
-    true
+    (0..n).all(|x| m[x] as usize == x)
 }

@@ -1,8 +1,12 @@
 // Decompose on cases that a reader can check by hand: each line is a call on the bytes n, arities and cells, its lent bytes before it all 9, and what came
 // of it. Then the calls of demand 3's claim together: the first answer, how many of the last calls answered 11, and the two lent slices.
+// Answers are printed by hand: a Result has no Display, none can be given to it here, and `io` takes no formatter.
 #![tactic(auto)]
 
+ghost use Rattle.std.specs.Prelude.{◌≤◌};
+
 use congruence::Decomposed;
+use equivalence::Refusal;
 
 // The call's name and the algebra.
 fn print_algebra(name: &[u8], n: usize, arities: &[u8], cells: &[u8]) {
@@ -10,48 +14,47 @@ fn print_algebra(name: &[u8], n: usize, arities: &[u8], cells: &[u8]) {
     io::write_all(1, b" | ->");
 }
 
-fn print_decomposed(answer: Decomposed) {
+fn print_decomposed(answer: Result<Decomposed, Refusal>) {
     match answer {
-        Decomposed::Factors(count) => {
+        Ok(Decomposed::Factors(count)) => {
             printing::print_bytes(&[count]);
         }
-        Decomposed::Irreducible(x, y) => {
+        Ok(Decomposed::Irreducible(x, y)) => {
             io::write_all(1, b" refused");
             printing::print_bytes(&[11, x.0, y.0]);
         }
-        Decomposed::Refused(reason) => {
-            printing::print_refused(equivalence::checks::number(reason));
+        Err(reason) => {
+            printing::print_refused(u8::from(reason));
         }
     }
 }
 
-fn decompose_into(n: usize, arities: &[u8], cells: &[u8], lent: &mut [u8]) {
+fn decompose_lent<const LENT: usize>(n: usize, arities: &[u8], cells: &[u8])
+    requires { LENT ≤ 64 }
+{
+    let mut lent = [9u8; LENT];
     print_algebra(b"decompose", n, arities, cells);
-    print_decomposed(congruence::decompose(n, arities, cells, lent));
-    printing::print_lent(lent);
+    print_decomposed(congruence::decompose(n, arities, cells, &mut lent));
+    printing::print_lent(&lent);
 }
 
 fn decompose(n: usize, arities: &[u8], cells: &[u8]) {
-    let mut lent = [9u8; 13];
-    decompose_into(n, arities, cells, &mut lent);
+    decompose_lent::<13>(n, arities, cells);
 }
 
 // Just the room that two factors over four elements want.
 fn decompose_exact(n: usize, arities: &[u8], cells: &[u8]) {
-    let mut lent = [9u8; 8];
-    decompose_into(n, arities, cells, &mut lent);
+    decompose_lent::<8>(n, arities, cells);
 }
 
 // One byte less.
 fn decompose_short(n: usize, arities: &[u8], cells: &[u8]) {
-    let mut lent = [9u8; 7];
-    decompose_into(n, arities, cells, &mut lent);
+    decompose_lent::<7>(n, arities, cells);
 }
 
 // No room at all.
 fn decompose_unlent(n: usize, arities: &[u8], cells: &[u8]) {
-    let mut lent = [9u8; 0];
-    decompose_into(n, arities, cells, &mut lent);
+    decompose_lent::<0>(n, arities, cells);
 }
 
 // The two lent slices end the line.
@@ -66,8 +69,7 @@ fn print_lent(list: &[u8], tables: &[u8]) {
 fn claim_into(n: usize, arities: &[u8], cells: &[u8], list: &mut [u8], tables: &mut [u8]) {
     print_algebra(b"claim", n, arities, cells);
     let made = claim::decompose_factors(n, arities, cells, list, tables);
-    let first = made.first;
-    print_decomposed(first);
+    print_decomposed(made.first);
     io::write_all(1, b" irreducible ");
     io::print_decimal(1, made.irreducible as u64);
     print_lent(list, tables);

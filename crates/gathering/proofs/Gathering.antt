@@ -1,13 +1,11 @@
 -- Decompose's first loop: the laws that start `Gathering`, hand it over from one loop to the other, keep it and end it; why gathering may stop as soon as Separate gives
 -- the identity: the algebra is irreducible, and the pair is the one that 11 carries; and the laws of a step's two calls.
 use Prim.Native.Nat.{ℕ, suc, ◌+◌, ◌-◌, ◌*◌, ◌≤◌, ◌<◌}
-use mathlib.Core.Bool.{Bool, true, false, not}
+use mathlib.Core.Bool.{Bool, true, false}
 use mathlib.Core.List.Memᴰ.{eq_of_singleton}
-use mathlib.Core.List.Memᴰ.{head as here}
 use mathlib.Core.List.Memᴰ.{not-nil}
 use mathlib.Core.List.{List, [], ◌∷◌, ◌++◌, Memᴰ as Member}
 use mathlib.Core.List.Memᴰ.{append_cases}
-use mathlib.Core.List.Memᴰ.{append_right}
 use mathlib.Core.List.{append_assoc, append-nil}
 use mathlib.Core.Logic.{inl, inr, ◌≢◌}
 use mathlib.Core.Path.{◌≡◌, refl, sym, ap, subst, ◌∙◌}
@@ -17,7 +15,6 @@ use native.Mathlib.Omega.{arith}
 use lib.Dec.{T}
 use lib.ListN.{length, take, drop, length-append, length-drop}
 use lib.Seq.{take_at, drop_at, drop-drop, length-take-le}
-use borrow.Author.Tests.{not-true, not-false}
 use borrow.Rule.Slice.PartMut.{put_mid, mid_of}
 use Rattle.kernel.specs.InnerKernel.{Canonical}
 use Rattle.equivalence.specs.Equivalence.{Map, byte, blocks, whole, is_identity, meet, meet_all}
@@ -42,7 +39,7 @@ use Rattle.theory.specs.Extremal.{separated}
 use Rattle.theory.proofs.CommonPair.{Common, common_pair_law, refuse_when, unsplit_when, reducible_when}
 use Rattle.theory.proofs.Factors.{added_law, split, gathered_end, gathered_step}
 use Rattle.theory.proofs.Separation.{separated_law, lex_asym}
-use Rattle.maplist.proofs.MapLists.{Begins, begins_is, begins_sym, begins_take, begins_refl, begins_written, begins_canonical, begins_meet, begins_is_identity, begins_first_held}
+use Rattle.maplist.proofs.MapLists.{Begins, begins_is, begins_sym, begins_take, begins_written, begins_canonical, begins_meet, begins_is_identity, begins_first_held}
 use Rattle.maplist.proofs.MapLists.{meet_all_snoc, onwards, onwards_canonical, laid_snoc, concat_length}
 use Rattle.gathering.specs.InnerGathering.{Gathering, Unmet, Wanted, Separated, Meetable, Met, pair_found, GatheredRight}
 use Rattle.gathering.specs.declared.gather.Collected.{Collected}
@@ -106,7 +103,7 @@ unfolding added
 begins_added a g = ap (λ (q : Pair). separated a q.0 q.1) (begins_first_held g)
 
 pub gathering_start : {a : Algebra} → Accepted a → 2 ≤ a.size → (lent met : List ℕ) {met' : List ℕ} → most_factor_space a.size ≤ length lent → a.size ≤ length met
-    → met' ≡ written (whole a.size) met → Gathering a lent 0 0 met' lent
+    → met' ≡ written (whole a.size) met → Gathering a lent 0 met' lent
 unfolding written concat meet_all
 gathering_start {a} accepted two lent met room enough e =
     let n : ℕ = a.size in
@@ -121,7 +118,6 @@ gathering_start {a} accepted two lent met room enough e =
       number = refl;
       few = omega arith;
       most = (accepted_well_formed a accepted).most;
-      place = omega arith;
       small = omega arith;
       each = λ m i. absurd (not-nil i);
       meets = rw e (take_at (whole n) (drop (length (whole n)) met) n (whole_map n).long);
@@ -141,7 +137,11 @@ written_over one two lent =
     ∙ drop-drop (length two) (length one) lent in
     rw (length-append one two, behind)
 
-module _ {a : Algebra} {lent : List ℕ} {k at : ℕ} {met bytes : List ℕ} (g : Gathering a lent k at met bytes) where
+module _ {a : Algebra} {lent : List ℕ} {k : ℕ} {met bytes : List ℕ} (g : Gathering a lent k met bytes) where
+  -- where the next one goes
+  abbrev at : ℕ
+  at = k * a.size
+
   c : WellFormed a
   c = accepted_well_formed a g.accepted
 
@@ -168,7 +168,7 @@ module _ {a : Algebra} {lent : List ℕ} {k at : ℕ} {met bytes : List ℕ} (g 
   fits = let h : k ≤ a.size - 1 = omega (arith, g.few) in omega (arith, g.room, mul-le-mul_right a.size h)
 
   -- handed over: what is gathered might as well have been laid over itself, and what is then found is right for the bytes that were lent first
-  pub gathering_here : Gathering a bytes k at met bytes
+  pub gathering_here : Gathering a bytes k met bytes
   gathering_here =
       record {
         accepted = g.accepted;
@@ -179,7 +179,6 @@ module _ {a : Algebra} {lent : List ℕ} {k at : ℕ} {met bytes : List ℕ} (g 
         number = g.number;
         few = g.few;
         most = g.most;
-        place = g.place;
         small = g.small;
         each = g.each;
         meets = g.meets;
@@ -199,9 +198,9 @@ module _ {a : Algebra} {lent : List ℕ} {k at : ℕ} {met bytes : List ℕ} (g 
   gathered_on (Joined x y) after h = h
 
   -- the meet is the identity: all are gathered
-  pub gathering_all : {b : Bool} → b ≡ is_identity a.size met → not b ≡ false → GatheredRight a (All k) lent bytes
+  pub gathering_all : {b : Bool} → b ≡ is_identity a.size met → b ≡ true → GatheredRight a (All k) lent bytes
   gathering_all {b} same t =
-      let f : Discrete a.size d = of_is_identity a.size d (rw (begins_is_identity begins) at (T_of (sym same ∙ not-false b t))) in
+      let f : Discrete a.size d = of_is_identity a.size d (rw (begins_is_identity begins) at (T_of (sym same ∙ t))) in
       let e : g.found ≡ gathered a.size a (whole a.size) =
       sym (g.more ∙ ap (λ (l : List Map). g.found ++ l) (gathered_end (a.size - k) a d f) ∙ append-nil g.found) in (
         reducible_when a c g.two (λ m i. (proper m (subst (λ (l : List Map). Member m l) (sym e) i)).1),
@@ -247,9 +246,9 @@ module _ {a : Algebra} {lent : List ℕ} {k at : ℕ} {met bytes : List ℕ} (g 
         ]
 
   -- the meet is not the identity yet
-  module _ {b : Bool} (same : b ≡ is_identity a.size met) (t : not b ≡ true) where
+  module _ {b : Bool} (same : b ≡ is_identity a.size met) (t : b ≡ false) where
     going : is_identity a.size met ≡ false
-    going = sym same ∙ not-true b t
+    going = sym same ∙ t
 
     discrete : ¬ Discrete a.size d
     discrete f = not_T_of going (rw (begins_is_identity begins) (is_identity_of a.size d f))
@@ -266,12 +265,12 @@ module _ {a : Algebra} {lent : List ℕ} {k at : ℕ} {met bytes : List ℕ} (g 
     short = omega (arith, g.fuel, blocks_le a.size (meet a.size d (added a d)), finer)
 
     behind : at + a.size ≤ length bytes
-    behind = omega (arith, g.place, g.room, g.long, mul-le-mul_right a.size short, suc-mul k a.size, ap (λ (z : ℕ). z * a.size) (add-one k))
+    behind = omega (arith, g.room, g.long, mul-le-mul_right a.size short, suc-mul k a.size, ap (λ (z : ℕ). z * a.size) (add-one k))
 
     next_small : at + a.size ≤ 4032
     next_small =
         let h : k + 1 ≤ 63 = omega (arith, short, g.most) in
-        omega (arith, g.place, mul-le-mul_right a.size h, suc-mul k a.size, ap (λ (z : ℕ). z * a.size) (add-one k), g.most)
+        omega (arith, mul-le-mul_right a.size h, suc-mul k a.size, ap (λ (z : ℕ). z * a.size) (add-one k), g.most)
 
     unmet : Unmet a.size met
     unmet = record { some = c.some; most = g.most; enough = g.enough; canonical = gathering_canonical.1; going = going }
@@ -311,7 +310,7 @@ module _ {a : Algebra} {lent : List ℕ} {k at : ℕ} {met bytes : List ℕ} (g 
         is_identity_lem = p.identity ∙ begins_is_identity new_begins ∙ ap (is_identity a.size) (begins_added a begins)
 
         -- one congruence more
-        pub gathering_more : stop ≡ false → Gathering a lent (k + 1) (at + a.size) met' bytes'
+        pub gathering_more : stop ≡ false → Gathering a lent (k + 1) met' bytes'
         unfolding written
         gathering_more e =
             let n : ℕ = a.size in
@@ -330,8 +329,7 @@ module _ {a : Algebra} {lent : List ℕ} {k at : ℕ} {met bytes : List ℕ} (g 
               number = rw (length-append g.found (added a d ∷ []), g.number) refl;
               few = omega (arith, short);
               most = g.most;
-              place = omega (arith, g.place, suc-mul k n, ap (λ (z : ℕ). z * n) (add-one k));
-              small = next_small;
+              small = omega (arith, next_small, suc-mul k n, ap (λ (z : ℕ). z * n) (add-one k));
               each = λ s j. elim (append_cases g.found j) [
                 | inl h ↦ g.each s h
                 | inr h ↦ rw (eq_of_singleton h) (congruence_of a (added a d) (added_law a c d discrete).5.cong, i)
@@ -341,7 +339,7 @@ module _ {a : Algebra} {lent : List ℕ} {k at : ℕ} {met bytes : List ℕ} (g 
                   ∙ sym (append_assoc g.found (added a d ∷ []) (gathered (n - (k + 1)) a (meet n d (added a d))))
                   ∙ ap (λ (z : Map). (g.found ++ (added a d ∷ [])) ++ gathered (n - (k + 1)) a z) (sym met_all);
               fuel = rw met_all (omega (arith, g.fuel, finer));
-              laid = s ∙ ap (laid bytes at) new ∙ ap (λ (z : List ℕ). laid z at (added a d)) g.laid ∙ laid_snoc g.found (added a d) lent at (g.place ∙ end) (omega (arith, end, fits));
+              laid = s ∙ ap (laid bytes at) new ∙ ap (λ (z : List ℕ). laid z at (added a d)) g.laid ∙ laid_snoc g.found (added a d) lent at end (omega (arith, end, fits));
               long = long ∙ g.long;
             }
 

@@ -13,9 +13,9 @@ use Rattle.theory.specs.Decompose.{added, gathered, most_factor_space, reducible
 use Rattle.gathering.specs.declared.gather.Collected.{Collected}
 use Rattle.gathering.specs.declared.gather.Collected.TheVariants.{All, Joined}
 
--- k congruences are gathered, none of them the identity: they are laid over `lent` one after the other, up to byte `at`, `met` begins with their meet, and what Decompose
+-- k congruences are gathered, none of them the identity: they are laid over `lent` one after the other, `met` begins with their meet, and what Decompose
 -- gathers in all are they and what it gathers from that meet on
-pub record Gathering (a : Algebra) (lent : List ℕ) (k at : ℕ) (met bytes : List ℕ) : Type 0 where
+pub record Gathering (a : Algebra) (lent : List ℕ) (k : ℕ) (met bytes : List ℕ) : Type 0 where
   pub accepted : Accepted a
   pub two : 2 ≤ a.size
   pub room : most_factor_space a.size ≤ length lent
@@ -24,8 +24,7 @@ pub record Gathering (a : Algebra) (lent : List ℕ) (k at : ℕ) (met bytes : L
   pub number : length found ≡ k
   pub few : k < a.size
   pub most : a.size ≤ 64
-  pub place : at ≡ k * a.size
-  pub small : at ≤ 4032
+  pub small : k * a.size ≤ 4032
   pub each : (m : Map) → Member m found → Congruence a m × ¬ T (is_identity a.size m)
   pub meets : take a.size met ≡ meet_all a.size found
   pub more : gathered a.size a (whole a.size) ≡ found ++ gathered (a.size - k) a (meet_all a.size found)
@@ -65,10 +64,6 @@ pub record Met (n at : ℕ) (bytes met : List ℕ) (stop : Bool) (met' : List �
   pub identity : stop ≡ is_identity n (drop at bytes)
   pub stays : stop ≡ true → met' ≡ met
   pub meets : stop ≡ false → met' ≡ written (meet n met (drop at bytes)) met
-
--- nothing is kept for any pair
-abbrev pub Unmarked : List ℕ → Type 0
-Unmarked marks = (p : ℕ) → p < 2016 → byte marks p ≡ 0
 
 -- the pair, as elements
 abbrev pub pair_found : Pair → Collected

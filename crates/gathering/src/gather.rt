@@ -6,7 +6,7 @@ ghost use Rattle.theory.specs.Decompose.{most_factor_space};
 ghost use Rattle.gathering.specs.InnerGathering.{Wanted, Separated, GatheredRight};
 
 use crate::gather_kept::gather_kept;
-use crate::pace::{few_trials, is_dear, is_slow};
+use crate::pace::{few_trials, is_slow};
 use crate::step::{common, meet_next};
 use equivalence::Element;
 use equivalence::map::is_identity;
@@ -15,6 +15,7 @@ use maplist::whole_into;
 use pairorder::order::first_held;
 
 // What gathering found: so many congruences, none of them the identity, that meet in it; or a pair that all but the identity join.
+// No Result: both are answers, and neither is a failure.
 #[derive(Clone, Copy)]
 pub enum Collected {
     All(usize),
@@ -58,21 +59,18 @@ pub fn gather(
     let few = few_trials(n, arities);
     whole_into(n, met);
     let mut count = 0;
-    let mut at = 0;
     let mut trials = 0;
+    // A `while`: it ends where the meet is the identity, not by the count.
     while !is_identity(n, met) {
-        if is_dear(n, few, count, met) {
-            return gather_kept(n, arities, cells, count, at, table, met, maps);
-        }
         if is_slow(n, few, count, trials, met) {
-            return gather_kept(n, arities, cells, count, at, table, met, maps);
+            return gather_kept(n, arities, cells, count, table, met, maps);
         }
+        let at = count * n;
         trials += separate_next(n, arities, cells, at, met, maps);
         if meet_next(n, at, maps, table, met) {
             return common(n, met);
         }
         count += 1;
-        at += n;
     }
     Collected::All(count)
 }

@@ -1,8 +1,8 @@
-// Decompose's first loop, gone on with once it is slow: what pairs give is kept from one Separate to the next. The storage for it, 128 KiB, is lent to this loop alone.
-ghost use Rattle.std.specs.Prelude.{◌≡◌, ◌≤◌, length};
+// Decompose's first loop, gone on with once it is slow: what pairs give is kept from one Separate to the next. The storage for it, 128 KiB, is this loop's alone.
+ghost use Rattle.std.specs.Prelude.{◌≤◌, length};
 ghost use Rattle.algebra.specs.Algebra.{algebra_in};
 ghost use Rattle.keeping.specs.InnerKeeping.{Keeping};
-ghost use Rattle.gathering.specs.InnerGathering.{Gathering, Wanted, Separated, Unmarked, GatheredRight};
+ghost use Rattle.gathering.specs.InnerGathering.{Gathering, Wanted, Separated, GatheredRight};
 
 use crate::gather::Collected;
 use crate::step::{common, meet_next};
@@ -40,76 +40,35 @@ fn separate_next(
     );
 }
 
-// `gather_kept` on lent storage.
-fn gather_on(
-    kept: &mut [u8],
-    marks: &mut [u8],
-    n: usize,
-    arities: &[u8],
-    cells: &[u8],
-    from: usize,
-    start: usize,
-    table: &mut [u8],
-    met: &mut [u8],
-    maps: &mut [u8],
-) -> Collected
-    requires keeping { Keeping (algebra_in n arities cells) kept.old marks.old }
-    requires gathering { Gathering (algebra_in n arities cells) maps.old from start met.old maps.old }
-    requires in_bounds { 4096 ≤ length table.old }
-    ensures { GatheredRight (algebra_in n arities.entry cells.entry) result maps.old maps.new }
-{
-    let mut count = from;
-    let mut at = start;
-    while !is_identity(n, met) {
-        separate_next(kept, marks, n, arities, cells, at, met, maps);
-        if meet_next(n, at, maps, table, met) {
-            return common(n, met);
-        }
-        count += 1;
-        at += n;
-    }
-    Collected::All(count)
-}
-
-// The same, on arrays, whose lengths are known from their types, with all marks 0: nothing is kept yet.
-fn gather_in(
-    kept: &mut [u8; MAP_BYTES],
-    marks: &mut [u8; PLACES],
-    n: usize,
-    arities: &[u8],
-    cells: &[u8],
-    count: usize,
-    at: usize,
-    table: &mut [u8],
-    met: &mut [u8],
-    maps: &mut [u8],
-) -> Collected
-    requires unmarked { Unmarked marks.old }
-    requires gathering { Gathering (algebra_in n arities cells) maps.old count at met.old maps.old }
-    requires in_bounds { 4096 ≤ length table.old }
-    ensures { GatheredRight (algebra_in n arities.entry cells.entry) result maps.old maps.new }
-{
-    gather_on(kept, marks, n, arities, cells, count, at, table, met, maps)
-}
-
-// Goes on where `count` congruences are gathered, up to byte `at` of `maps`, and `met` is their meet.
+// Goes on where `from` congruences are gathered in `maps` and `met` is their meet. `table` is working storage. It is kept apart: else the compiler makes its storage a
+// part of its callers', up to a run of the desk program, which want little where nothing is kept.
+#[inline(never)]
 pub fn gather_kept(
     n: usize,
     arities: &[u8],
     cells: &[u8],
-    count: usize,
-    at: usize,
+    from: usize,
     table: &mut [u8],
     met: &mut [u8],
     maps: &mut [u8],
 ) -> Collected
-    requires gathering { Gathering (algebra_in n arities cells) maps.old count at met.old maps.old }
+    requires gathering { Gathering (algebra_in n arities cells) maps.old from met.old maps.old }
     requires in_bounds { 4096 ≤ length table.old }
     ensures { GatheredRight (algebra_in n arities.entry cells.entry) result maps.old maps.new }
 {
+    // Nothing is kept yet.
     let mut kept = [0u8; MAP_BYTES];
     let mut marks = [0u8; PLACES];
-    gather_in(
-        &mut kept, &mut marks, n, arities, cells, count, at, table, met, maps,
-    )
+    let mut count = from;
+    // A `while`: it ends where the meet is the identity, not by the count. The loop of `gather` without its test of slowness: one loop over both Separates, which
+    // says besides when to begin to keep, is no plainer.
+    while !is_identity(n, met) {
+        let at = count * n;
+        separate_next(&mut kept, &mut marks, n, arities, cells, at, met, maps);
+        if meet_next(n, at, maps, table, met) {
+            return common(n, met);
+        }
+        count += 1;
+    }
+    Collected::All(count)
 }

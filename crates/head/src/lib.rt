@@ -1,13 +1,13 @@
 // The answers of the writer and the reader of algebras as numbers, and the reader's as bytes: what the tests see of them.
 #![tactic(auto)]
 
-ghost use Rattle.std.specs.Prelude.{◌≡◌, ◌≤◌, length};
+ghost use Rattle.std.specs.Prelude.{◌≡◌, IfOk, length};
 ghost use Rattle.equivalence.specs.Refusal.{number_of};
 ghost use Rattle.algebratext.specs.Bounds.{TextBounded, ReadBounded};
-ghost use Rattle.head.specs.Head.{text_number, check_number, read_number, head_of};
+ghost use Rattle.head.specs.Head.{text_number, read_number, head_of};
 
-use algebratext::{AlgebraRead, TextWritten};
-use equivalence::{Check, Refusal};
+use algebratext::AlgebraRead;
+use equivalence::Refusal;
 use writer::{write_byte, write_word};
 
 // How many bytes a head has: the size, the number of operations, 16 arities.
@@ -17,50 +17,45 @@ pub const HEAD_LENGTH: usize = 18;
 fn wide_number(reason: Refusal) -> u64
     ensures { result ≡ number_of reason }
 {
-    equivalence::checks::number(reason) as u64
+    u64::from(u8::from(reason))
 }
 
 // The writer's answer.
-pub fn text_number(answer: TextWritten) -> u64
+#[tactic(auto, unfolding(crate::specs::Head::text_number))]
+pub fn text_number(answer: Result<usize, Refusal>) -> u64
     requires { TextBounded answer }
     ensures { result ≡ text_number answer }
 {
     match answer {
-        TextWritten::Length(length) => 256 * (length as u64),
-        TextWritten::Refused(reason) => wide_number(reason),
-    }
-}
-
-// A check.
-fn check_number(check: Check) -> u64
-    ensures value { result ≡ check_number check }
-    ensures small { result ≤ 255 }
-{
-    match check {
-        Check::Passed => 0,
-        Check::Failed(reason) => wide_number(reason),
+        Ok(length) => 256 * (length as u64),
+        Err(reason) => wide_number(reason),
     }
 }
 
 // The reader's answer.
-pub fn reader_number(answer: AlgebraRead) -> u64
-    requires { ReadBounded answer }
+#[tactic(auto, unfolding(crate::specs::Head::read_number))]
+pub fn reader_number(answer: Result<AlgebraRead, Refusal>) -> u64
+    requires { IfOk answer ReadBounded }
     ensures { result ≡ read_number answer }
 {
-    let check = answer.check;
-    let cells = answer.cells as u64;
-    let reason = check_number(check);
-    reason + 256 * cells
+    match answer {
+        Ok(read) => 256 * (read.cells as u64),
+        Err(reason) => wide_number(reason),
+    }
 }
 
 // The head of the reader's answer.
-pub fn write_head(answer: AlgebraRead, head: &mut [u8])
-    requires read_bounded { ReadBounded answer }
+pub fn write_head(answer: Result<AlgebraRead, Refusal>, head: &mut [u8])
+    requires read_bounded { IfOk answer ReadBounded }
     requires head_len { length head.old ≡ 18 }
     ensures { head.new ≡ head_of answer }
 {
-    let arities = answer.arities;
-    let second = write_byte(answer.size, head, 0);
-    let third = write_byte(answer.operations as u8, head, second);
-    write_word(&arities, head, third);
+    match answer {
+        Ok(read) => {
+            let second = write_byte(read.size, head, 0);
+            let third = write_byte(read.operations as u8, head, second);
+            write_word(&read.arities, head, third);
+        }
+        Err(_) => head.fill(0),
+    }
 }

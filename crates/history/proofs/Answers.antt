@@ -4,6 +4,7 @@ use Prim.Native.Nat.{ℕ}
 use mathlib.Core.List.{List}
 use mathlib.Core.Path.{refl, sym, ap}
 use lib.Dec.{T}
+use Rattle.std.specs.Prelude.{Ok, Err}
 use Rattle.equivalence.specs.Outcome.{Injective}
 use Rattle.equivalence.specs.Ranks.{rank, rises, ReasonRight}
 use Rattle.equivalence.specs.Refusal.{Test, number_of, lowest, answered, size_test, elements_test}
@@ -15,14 +16,11 @@ use Rattle.benchtests.specs.Tests.{sheet_test, bench_test, unknown_test, full_te
 use Rattle.bench.specs.Calls.{tally_test, benched, start_call, add_tests, add_call}
 use Rattle.benchtests.specs.Tests.{clear_tests, set_tests, known_tests}
 use Rattle.bench.specs.Calls.{clear_call, set_call, return_call, forget_call}
-use Rattle.oldbenches.specs.OldKinds.{maps_test, convert_tests}
+use Rattle.oldbenches.specs.OldKinds.{maps_test, convert_tests, convert_v1_call, convert_v2_call}
 use Rattle.conversion.specs.Conversion.{faults_test, convert_v3_tests, convert_v3_call}
 use Rattle.bench.specs.Outcome.{answer_outcome}
 use Rattle.history.specs.Reasons.{BenchReasons}
-use Rattle.oldbenches.proofs.OldConversions.{first_answer, second_answer}
-use Rattle.bench.proofs.Giving.{done_never}
 use Rattle.bench.proofs.Calling.{benched_answer}
-use Rattle.bench.specs.declared.Answer.TheVariants.{Done, Refused}
 use Rattle.benchsheets.specs.declared.Bench.{Bench}
 use Rattle.oldbenches.specs.declared.SheetV1.{SheetV1}
 use Rattle.oldbenches.specs.declared.SheetV3.{SheetV3}
@@ -59,17 +57,11 @@ rises_convert_v3 n sheets = tt
 
 -- ---- a call is refused with the lowest reason
 
-refused_apart : Injective Refused
-refused_apart r s e = cc
-
-answer_reason : (tests : List Test) → T (rises tests) → ReasonRight Refused (answered Refused (lowest tests) Done) tests
-answer_reason tests up = answered_reason Refused Done refused_apart done_never tests up
-
-benched_reason : (tests : List Test) (new other : Bench) → T (rises tests) → ReasonRight Refused (benched tests new other).answer tests
-benched_reason tests new other up = rw (benched_answer tests new other) (answer_reason tests up)
+benched_reason : {B : Type 0} (tests : List Test) (new other : B) → T (rises tests) → ReasonRight (benched tests new other).answer tests
+benched_reason tests new other up = rw (benched_answer tests new other) (answered_reason tt tests up)
 
 pub bench_reasons : BenchReasons
-unfolding start_call add_call clear_call set_call return_call forget_call convert_v3_call
+unfolding start_call add_call clear_call set_call return_call forget_call convert_v1_call convert_v2_call convert_v3_call
 bench_reasons =
     record {
       start = λ n. benched_reason (start_tests n) _ _ (rises_start n);
@@ -78,8 +70,8 @@ bench_reasons =
       set_point = λ b k name. benched_reason (set_tests b k name) _ _ (rises_set b k name);
       return_to = λ b k name. benched_reason (known_tests b k name) _ _ (rises_known b k name);
       forget = λ b k name. benched_reason (known_tests b k name) _ _ (rises_known b k name);
-      first = λ old. rw (first_answer old) (answer_reason (convert_tests old.n old.sheets) (rises_convert old.n old.sheets));
-      second = λ old. rw (second_answer old) (answer_reason (convert_tests old.n old.sheets) (rises_convert old.n old.sheets));
+      first = λ old. benched_reason (convert_tests old.n old.sheets) _ _ (rises_convert old.n old.sheets);
+      second = λ old. benched_reason (convert_tests old.n old.sheets) _ _ (rises_convert old.n old.sheets);
       third = λ old. benched_reason (convert_v3_tests old.n old.sheets) _ _ (rises_convert_v3 old.n old.sheets);
     }
 
@@ -87,7 +79,7 @@ bench_reasons =
 
 pub answer_outcome_injective : Injective answer_outcome
 unfolding answer_outcome
-answer_outcome_injective Done Done e = refl
-answer_outcome_injective Done (Refused r) e = absurd (success_apart 0 r e)
-answer_outcome_injective (Refused r) Done e = absurd (success_apart 0 r (sym e))
-answer_outcome_injective (Refused r) (Refused s) e = ap Refused (refusal_injective r s e)
+answer_outcome_injective (Ok x) (Ok y) e = refl
+answer_outcome_injective (Ok x) (Err r) e = absurd (success_apart 0 r e)
+answer_outcome_injective (Err r) (Ok x) e = absurd (success_apart 0 r (sym e))
+answer_outcome_injective (Err r) (Err s) e = ap Err (refusal_injective r s e)

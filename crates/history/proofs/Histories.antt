@@ -11,13 +11,13 @@ use native.Mathlib.Decide.{ℕ_discrete}
 use native.Mathlib.Omega.{arith}
 use lib.Dec.{T, eqb, eqb→eq, eqb_refl}
 use lib.ListN.{length, take}
+use Rattle.std.specs.Prelude.{Ok}
 use Rattle.equivalence.specs.Equivalence.{Map, identity}
 use Rattle.equivalence.specs.Refusal.{lowest}
 use Rattle.equivalence.proofs.Maps.{identity_map}
 use Rattle.equivalence.specs.Lent.{written}
 use Rattle.equivalence.specs.Lists.{up_to, any}
 use Rattle.equivalence.proofs.Tests.{T?, right, or_cases, pick, pick_yes, pick_no}
-use Rattle.equivalence.specs.declared.Check.TheVariants.{Passed}
 use Rattle.equivalence.specs.declared.Refusal.{Refusal}
 use Rattle.algebra.specs.Algebra.{Algebra}
 use Rattle.theory.specs.Extremal.{extended}
@@ -46,10 +46,10 @@ abbrev made : Call → Bool → Made
 made c accepted = record { call = c; accepted = accepted }
 
 -- the history after a call that gave r
-abbrev gave : History → Call → Benched → History
+abbrev gave : History → Call → Benched Bench → History
 gave h c r = record { made = made c (is_done r.answer) ∷ h.made; bench = r.bench }
 
-next_gave : (h : History) (c : Call) (r : Benched) → called c h.bench ≡ r → next h c ≡ gave h c r
+next_gave : (h : History) (c : Call) (r : Benched Bench) → called c h.bench ≡ r → next h c ≡ gave h c r
 unfolding next
 next_gave h c r e = ap (gave h c) e
 
@@ -239,11 +239,11 @@ module _ (h : History) (p : Kept h) (k : ℕ) (l : k < 8) where
 
 -- ---- every call keeps it
 
-start_gave : (n : ℕ) → lowest (start_tests n) ≡ Passed → start_call n ≡ done_with (fresh_bench n)
+start_gave : (n : ℕ) → lowest (start_tests n) ≡ Ok tt → start_call n ≡ done_with (fresh_bench n)
 unfolding start_call
 start_gave n e = benched_passed (start_tests n) (fresh_bench n) _ e
 
-next_start : (h : History) (n : ℕ) → lowest (start_tests n) ≡ Passed → Kept (next h (Start n))
+next_start : (h : History) (n : ℕ) → lowest (start_tests n) ≡ Ok tt → Kept (next h (Start n))
 unfolding called
 next_start h n e = rw (next_gave h (Start n) _ (start_gave n e)) (start_kept h n)
 
@@ -256,7 +256,7 @@ module _ (h : History) (p : Kept h) (c : Call) {Left : Type 0} {after : Bench} w
         | inr q ↦ rw (next_gave h c _ q.1) (refused_kept h p c q.0)
       ]
 
-next_kept : (h : History) → Kept h → (c : Call) → ((n : ℕ) → c ≡ Start n → lowest (start_tests n) ≡ Passed) → Kept (next h c)
+next_kept : (h : History) → Kept h → (c : Call) → ((n : ℕ) → c ≡ Start n → lowest (start_tests n) ≡ Ok tt) → Kept (next h c)
 unfolding called
 next_kept h p (Start n) s = next_start h n (s n refl)
 next_kept h p (Add a k x y) s = by_cases h p (Add a k x y) (add_cases h.bench a k x y) k (λ q. add_changed h p k q.placed.sheet a x y q)

@@ -7,13 +7,12 @@ use native.Mathlib.Decide.{ℕ_discrete}
 use native.Mathlib.Omega.{arith}
 use lib.ListN.{length}
 use borrow.Author.Tests.{ne_eqb}
+use Rattle.std.specs.Prelude.{⊤, Result, Ok, Err}
 use Rattle.algebra.specs.Algebra.{Algebra}
 use Rattle.equivalence.specs.Lists.{every}
 use Rattle.equivalence.specs.Refusal.{Test, lowest, answered}
 use Rattle.equivalence.proofs.Refusals.{passed_append}
 use Rattle.equivalence.proofs.Tests.{true_is}
-use Rattle.equivalence.specs.declared.Check.{Check}
-use Rattle.equivalence.specs.declared.Check.TheVariants.{Passed, Failed}
 use Rattle.sheet.specs.Points.{is_faultless}
 use Rattle.benchtests.specs.Tests.{bench_test, place_tests, handed_tests}
 use Rattle.bench.specs.Calls.{add_tests, map_by_add, lost_by_add, sheet_by_add, add_call}
@@ -21,9 +20,9 @@ use Rattle.benchsheets.specs.State.{sheet_of, with_sheet}
 use Rattle.benchsheets.proofs.BenchSheets.{with_sheet_same}
 use Rattle.benchtests.proofs.Testing.{add_passed}
 use Rattle.bench.proofs.Calling.{benched_passed, benched_failed, benched_answer}
-use Rattle.bench.specs.declared.Answer.TheVariants.{Done, Refused}
 use Rattle.benchsheets.specs.declared.Bench.{Bench}
 use Rattle.history.specs.Independence.{AllFaultless, ShareSheet, IndependenceTheorem}
+use Rattle.equivalence.specs.declared.Refusal.{Refusal}
 
 faultless_over : (b : Bench) → AllFaultless b → {n : ℕ} → b.n ≡ n → every (is_faultless n) b.sheets ≡ true
 faultless_over b f e = ap (λ (n : ℕ). every (is_faultless n) b.sheets) (sym e) ∙ sym (true_is (every (is_faultless b.n) b.sheets) f.sheets)
@@ -51,12 +50,12 @@ module _ (k : ℕ) (b other : Bench) (shared : ShareSheet k b other) (f : AllFau
   unfolding add_call
   answer_same =
       benched_answer (add_tests b a k x y) _ b
-      ∙ ap (λ (ts : List Test). answered Refused (lowest ts) Done) tests_same
+      ∙ ap (λ (ts : List Test). answered Err (lowest ts) (Ok tt)) tests_same
       ∙ sym (benched_answer (add_tests other a k x y) _ other)
 
   -- sheet k after an accepted Add, and after a refused one
   module _ (c : Bench) (eight : length c.sheets ≡ 8) where
-    sheet_accepted : lowest (add_tests c a k x y) ≡ Passed → sheet_of (add_call c a k x y).bench k ≡ sheet_by_add c a k x y
+    sheet_accepted : lowest (add_tests c a k x y) ≡ Ok tt → sheet_of (add_call c a k x y).bench k ≡ sheet_by_add c a k x y
     unfolding add_call
     sheet_accepted e =
         let l : k < 8 = (add_passed c a k x y (passed_append (handed_tests c a k x y) _ e).0).placed.sheet in
@@ -66,9 +65,9 @@ module _ (k : ℕ) (b other : Bench) (shared : ShareSheet k b other) (f : AllFau
   unfolding add_call
   result_same = by (lowest (add_tests b a k x y)) refl
     where
-      by : (c : Check) → lowest (add_tests b a k x y) ≡ c → sheet_of (add_call b a k x y).bench k ≡ sheet_of (add_call other a k x y).bench k
-      by Passed e = sheet_accepted b f.eight e ∙ sheet_same ∙ sym (sheet_accepted other g.eight (rw tests_same at e))
-      by (Failed r) e =
+      by : (c : Result ⊤ Refusal) → lowest (add_tests b a k x y) ≡ c → sheet_of (add_call b a k x y).bench k ≡ sheet_of (add_call other a k x y).bench k
+      by (Ok x) e = sheet_accepted b f.eight e ∙ sheet_same ∙ sym (sheet_accepted other g.eight (rw tests_same at e))
+      by (Err r) e =
           rw (benched_failed (add_tests b a k x y) _ b r e, benched_failed (add_tests other a k x y) _ other r (rw tests_same at e)) shared.sheet
 
 pub independence_theorem : IndependenceTheorem

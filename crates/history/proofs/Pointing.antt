@@ -26,7 +26,7 @@ use Rattle.benchsheets.specs.declared.Bench.{Bench}
 use Rattle.bench.specs.declared.Benched.{Benched}
 
 -- a call gave `after`, with what its tests left, or was refused
-abbrev pub Cases : Type 0 → Benched → Bench → Bench → Type 0
+abbrev pub Cases : Type 0 → Benched Bench → Bench → Bench → Type 0
 Cases Left r after b = (Left × (r ≡ done_with after)) ⊎ ((reason : Refusal) × (r ≡ refused reason b))
 
 -- what Set's tests leave, and what Return's and Forget's do

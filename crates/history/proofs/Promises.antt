@@ -6,11 +6,11 @@ use mathlib.Core.Logic.{inl, inr}
 use mathlib.Core.Path.{◌≡◌, refl, sym, ap, ◌∙◌}
 use native.Mathlib.Omega.{arith}
 use lib.ListN.{length, drop, replicate, get_or-replicate}
+use Rattle.std.specs.Prelude.{⊤, Result, Ok, Err}
 use Rattle.equivalence.specs.Equivalence.{Map, byte, identity}
 use Rattle.equivalence.proofs.Maps.{identity_map}
 use Rattle.equivalence.proofs.Writing.{written_old}
 use Rattle.equivalence.specs.Refusal.{lowest, answered}
-use Rattle.equivalence.specs.declared.Check.{Check}
 use Rattle.equivalence.specs.declared.Refusal.{Refusal}
 use Rattle.algebra.specs.Algebra.{Algebra}
 use Rattle.sheet.specs.Points.{map_under, with_point, without_point}
@@ -26,7 +26,7 @@ use Rattle.history.specs.Promises.{OnlySheet, OnlyMap, OnlyPoints, Unaltered, St
 use Rattle.history.specs.Promises.{SetPromise, ReturnPromise, ForgetPromise, ConvertV1Promise, ConvertV2Promise, ConvertV3Promise}
 use Rattle.benchsheets.specs.State.{eight_of, zero_bench, fresh_bench, sheet_of, with_sheet, with_map}
 use Rattle.history.proofs.Adding.{after_add, add_cases, added_length, after_add_sheet, by_add_map, by_add_tally, added_least}
-use Rattle.bench.proofs.Giving.{done_never}
+use Rattle.equivalence.proofs.Refusals.{ok_never}
 use Rattle.benchsheets.proofs.BenchSheets.{with_sheet_other, with_sheet_count, with_sheet_keeps}
 use Rattle.oldbenches.proofs.OldConversions.{first_answer, first_done, first_refused, second_answer, second_done, second_refused}
 use Rattle.conversion.proofs.Conversions.{convert_clear, convert_v3_clear}
@@ -35,8 +35,6 @@ use Rattle.history.proofs.Pointing.{clear_cases, set_cases, return_cases, forget
 use Rattle.history.proofs.Pointing.{set_sheet, set_held, set_under, forget_sheet, forget_held, forget_under}
 use Rattle.benchtests.proofs.Testing.{start_passed, Addable}
 use Rattle.bench.proofs.Calling.{done_with, refused, benched_cases, benched_answer}
-use Rattle.bench.specs.declared.Answer.{Answer}
-use Rattle.bench.specs.declared.Answer.TheVariants.{Done, Refused}
 use Rattle.benchsheets.specs.declared.Bench.{Bench}
 use Rattle.bench.specs.declared.Benched.{Benched}
 use Rattle.oldbenches.specs.declared.BenchV1.{BenchV1}
@@ -94,17 +92,17 @@ add_only b a k x y =
 
 -- ---- the promises
 
-never_refused : (r : Benched) (b : Bench) → r ≡ done_with b → (reason : Refusal) → ¬ (r.answer ≡ Refused reason)
-never_refused r b e reason f = done_never reason (sym (ap (λ (s : Benched). s.answer) e) ∙ f)
+never_refused : (r : Benched Bench) (b : Bench) → r ≡ done_with b → (reason : Refusal) → ¬ (r.answer ≡ Err reason)
+never_refused r b e reason f = ok_never (sym (ap (λ (s : Benched Bench). s.answer) e) ∙ f)
 
-never_done : (r : Benched) (b : Bench) (reason : Refusal) → r ≡ refused reason b → ¬ (r.answer ≡ Done)
-never_done r b reason e f = done_never reason (sym f ∙ ap (λ (s : Benched). s.answer) e)
+never_done : (r : Benched Bench) (b : Bench) (reason : Refusal) → r ≡ refused reason b → ¬ (r.answer ≡ Ok tt)
+never_done r b reason e f = ok_never (sym f ∙ ap (λ (s : Benched Bench). s.answer) e)
 
-accepted_unaltered : (r : Benched) (after b : Bench) → r ≡ done_with after → Unaltered b r
+accepted_unaltered : (r : Benched Bench) (after b : Bench) → r ≡ done_with after → Unaltered b r
 accepted_unaltered r after b e reason f = absurd (never_refused r after e reason f)
 
-refused_unaltered : (r : Benched) (b : Bench) (reason : Refusal) → r ≡ refused reason b → Unaltered b r
-refused_unaltered r b reason e other f = ap (λ (s : Benched). s.bench) e
+refused_unaltered : (r : Benched Bench) (b : Bench) (reason : Refusal) → r ≡ refused reason b → Unaltered b r
+refused_unaltered r b reason e other f = ap (λ (s : Benched Bench). s.bench) e
 
 module _ (b : Bench) (a : Algebra) (k x y : ℕ) (eight : length b.sheets ≡ 8) where
   add_accepted : Addable b a k x y → add_call b a k x y ≡ done_with (after_add b a k x y) → AddPromise b a k x y
@@ -246,16 +244,16 @@ start_promise n =
         unpointed = λ k l. rw (p.1, equal_sheet 0 k _ l) (refl, refl);
         tallies = λ k l. rw (p.1, equal_sheet 0 k _ l) refl;
         earlier = rw p.1 (equal_rest 0 _).1;
-        refused = λ reason f. ap (λ (r : Benched). r.bench) p.1;
+        refused = λ reason f. ap (λ (r : Benched Bench). r.bench) p.1;
       }
     ]
 
 -- ---- the conversions
 
 -- what such a conversion answers is what Clear does, where their tests find the same
-clear_answer : (c : Check) (answer : Answer) → answer ≡ answered Refused c Done → (b : Bench) (k : ℕ) → c ≡ lowest (clear_tests b k) → answer ≡ (clear_call b k).answer
+clear_answer : (c : Result ⊤ Refusal) (answer : Result ⊤ Refusal) → answer ≡ answered Err c (Ok tt) → (b : Bench) (k : ℕ) → c ≡ lowest (clear_tests b k) → answer ≡ (clear_call b k).answer
 unfolding clear_call
-clear_answer c answer e b k f = e ∙ ap (λ (c : Check). answered Refused c Done) f ∙ sym (benched_answer (clear_tests b k) _ b)
+clear_answer c answer e b k f = e ∙ ap (λ (c : Result ⊤ Refusal). answered Err c (Ok tt)) f ∙ sym (benched_answer (clear_tests b k) _ b)
 
 pub first_promise : (old : BenchV1) → ConvertV1Promise old
 first_promise old =

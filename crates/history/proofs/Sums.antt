@@ -76,7 +76,7 @@ module _ (b : Bench) where
       }
 
   -- a call that gives such a sheet, or is refused
-  cases_stepped : {Left : Type 0} (r : Benched) (k : ℕ) (s : Sheet) → Cases Left r (with_sheet b k s) b → s.tally ≡ (sheet_of b k).tally → Stepped b r.bench 0
+  cases_stepped : {Left : Type 0} (r : Benched Bench) (k : ℕ) (s : Sheet) → Cases Left r (with_sheet b k s) b → s.tally ≡ (sheet_of b k).tally → Stepped b r.bench 0
   cases_stepped r k s cases e =
       elim cases [
         | inl q ↦ rw q.1 (with_sheet_stepped k s e)
@@ -85,7 +85,7 @@ module _ (b : Bench) where
 
   module _ (eight : length b.sheets ≡ 8) (a : Algebra) (k x y : ℕ) where
     -- the blocks that sheet k lost, where the Add gave r
-    abbrev lost_in : Benched → ℕ
+    abbrev lost_in : Benched Bench → ℕ
     lost_in r = elim (is_done r.answer) [ true ↦ blocks_lost b.n (map_on b.n (sheet_of b k)) (map_on b.n (sheet_of r.bench k)) | false ↦ 0 ]
 
     -- an accepted Add

@@ -1,10 +1,10 @@
 -- Histories: calls made one after the other, each on the bench that the call before it gave back; and what is on the bench after them, read off
 -- the calls and their answers alone.
-use Rattle.std.specs.Prelude.{ℕ, ◌+◌, ◌<◌, Bool, true, false, not, ◌&&◌, ◌||◌, List, [], ◌∷◌, ◌≡◌, T, eqb}
+use Rattle.std.specs.Prelude.{ℕ, ◌+◌, ◌<◌, Bool, true, false, not, ◌&&◌, ◌||◌, List, [], ◌∷◌, ◌≡◌, T, eqb, ⊤, Result, Ok, Err}
 use mathlib.Core.List.{Memᴰ as Member}
 use Rattle.equivalence.specs.Equivalence.{Map, identity}
 use Rattle.equivalence.specs.Refusal.{lowest}
-use Rattle.equivalence.specs.declared.Check.TheVariants.{Passed}
+use Rattle.equivalence.specs.declared.Refusal.{Refusal}
 use Rattle.algebra.specs.Algebra.{Algebra}
 use Rattle.theory.specs.Extremal.{extended}
 use Rattle.sheet.specs.Points.{same_name, is_held, map_under}
@@ -14,8 +14,6 @@ use Rattle.benchtests.specs.Tests.{start_tests}
 use Rattle.bench.specs.Calls.{start_call, add_call, clear_call, set_call, return_call, forget_call}
 use Rattle.history.specs.Promises.{LeastExtension}
 use Rattle.benchsheets.specs.State.{sheet_of, blocks_lost}
-use Rattle.bench.specs.declared.Answer.TheVariants.{Done, Refused}
-use Rattle.bench.specs.declared.Answer.{Answer}
 use Rattle.benchsheets.specs.declared.Bench.{Bench}
 use Rattle.bench.specs.declared.Benched.{Benched}
 
@@ -29,7 +27,7 @@ pub data Call : Type 0 where
   Forget : ℕ → List ℕ → Call
 
 -- what a call on a bench gives
-unfoldable pub called : Call → Bench → Benched
+unfoldable pub called : Call → Bench → Benched Bench
 called (Start n) b = start_call n
 called (Add a k x y) b = add_call b a k x y
 called (Clear k) b = clear_call b k
@@ -48,9 +46,9 @@ pub record History : Type 0 where
   pub bench : Bench
 
 -- the call was not refused
-unfoldable pub is_done : Answer → Bool
-is_done Done = true
-is_done (Refused r) = false
+unfoldable pub is_done : Result ⊤ Refusal → Bool
+is_done (Ok x) = true
+is_done (Err r) = false
 
 -- one call more, on the bench that the one before it gave back
 unfoldable pub next : History → Call → History
@@ -135,7 +133,7 @@ pub record BenchRight (h : History) : Type 0 where
 
 -- every Start in the list is accepted
 abbrev pub StartsAccepted : List Call → Type 0
-StartsAccepted calls = (n : ℕ) → Member (Start n) calls → lowest (start_tests n) ≡ Passed
+StartsAccepted calls = (n : ℕ) → Member (Start n) calls → lowest (start_tests n) ≡ Ok tt
 
 -- the theorem: after every list of calls that begins with a Start, on whatever bench, and in which every Start is accepted, the bench is right
 abbrev pub HistoryTheorem : Type 0

@@ -6,7 +6,6 @@ use Rattle.benchtests.specs.Tests.{start_tests, clear_tests, set_tests, known_te
 use Rattle.bench.specs.Calls.{start_call, add_tests, add_call, clear_call, set_call, return_call, forget_call}
 use Rattle.oldbenches.specs.OldKinds.{convert_tests, convert_v1_call, convert_v2_call}
 use Rattle.conversion.specs.Conversion.{convert_v3_tests, convert_v3_call}
-use Rattle.bench.specs.declared.Answer.TheVariants.{Refused}
 use Rattle.benchsheets.specs.declared.Bench.{Bench}
 use Rattle.oldbenches.specs.declared.BenchV1.{BenchV1}
 use Rattle.oldbenches.specs.declared.BenchV2.{BenchV2}
@@ -14,12 +13,12 @@ use Rattle.oldbenches.specs.declared.BenchV3.{BenchV3}
 
 -- every call, whatever it is handed
 pub record BenchReasons : Type 0 where
-  pub start : (n : ℕ) → ReasonRight Refused (start_call n).answer (start_tests n)
-  pub add : (b : Bench) (a : Algebra) (k x y : ℕ) → ReasonRight Refused (add_call b a k x y).answer (add_tests b a k x y)
-  pub clear : (b : Bench) (k : ℕ) → ReasonRight Refused (clear_call b k).answer (clear_tests b k)
-  pub set_point : (b : Bench) (k : ℕ) (name : List ℕ) → ReasonRight Refused (set_call b k name).answer (set_tests b k name)
-  pub return_to : (b : Bench) (k : ℕ) (name : List ℕ) → ReasonRight Refused (return_call b k name).answer (known_tests b k name)
-  pub forget : (b : Bench) (k : ℕ) (name : List ℕ) → ReasonRight Refused (forget_call b k name).answer (known_tests b k name)
-  pub first : (old : BenchV1) → ReasonRight Refused (convert_v1_call old).answer (convert_tests old.n old.sheets)
-  pub second : (old : BenchV2) → ReasonRight Refused (convert_v2_call old).answer (convert_tests old.n old.sheets)
-  pub third : (old : BenchV3) → ReasonRight Refused (convert_v3_call old).answer (convert_v3_tests old.n old.sheets)
+  pub start : (n : ℕ) → ReasonRight (start_call n).answer (start_tests n)
+  pub add : (b : Bench) (a : Algebra) (k x y : ℕ) → ReasonRight (add_call b a k x y).answer (add_tests b a k x y)
+  pub clear : (b : Bench) (k : ℕ) → ReasonRight (clear_call b k).answer (clear_tests b k)
+  pub set_point : (b : Bench) (k : ℕ) (name : List ℕ) → ReasonRight (set_call b k name).answer (set_tests b k name)
+  pub return_to : (b : Bench) (k : ℕ) (name : List ℕ) → ReasonRight (return_call b k name).answer (known_tests b k name)
+  pub forget : (b : Bench) (k : ℕ) (name : List ℕ) → ReasonRight (forget_call b k name).answer (known_tests b k name)
+  pub first : (old : BenchV1) → ReasonRight (convert_v1_call old).answer (convert_tests old.n old.sheets)
+  pub second : (old : BenchV2) → ReasonRight (convert_v2_call old).answer (convert_tests old.n old.sheets)
+  pub third : (old : BenchV3) → ReasonRight (convert_v3_call old).answer (convert_v3_tests old.n old.sheets)

@@ -1,10 +1,9 @@
 -- The nine numbers of a bench together: what was lost earlier, and the eight tallies. They are summed as unbounded numbers; no code forms the sum.
-use Rattle.std.specs.Prelude.{ℕ, zero, suc, ◌+◌, true, false, List, [], ◌∷◌, ◌≡◌, length}
+use Rattle.std.specs.Prelude.{ℕ, zero, suc, ◌+◌, true, false, List, [], ◌∷◌, ◌≡◌, length, Ok}
 use mathlib.Core.List.{Memᴰ as Member}
 use Rattle.sheet.specs.Sheet.{map_on}
 use Rattle.bench.specs.Calls.{add_call}
 use Rattle.benchsheets.specs.State.{sheet_of, blocks_lost}
-use Rattle.bench.specs.declared.Answer.TheVariants.{Done}
 use Rattle.benchsheets.specs.declared.Bench.{Bench}
 use Rattle.conversion.specs.Conversion.{convert_v3_call}
 use Rattle.oldbenches.specs.declared.BenchV3.{BenchV3}
@@ -52,4 +51,4 @@ pub record SumRight (old : BenchV3) (calls : List Call) : Type 0 where
 
 -- the theorem: so it is after every accepted conversion of an old bench of eight sheets, and every list of calls without a Start
 abbrev pub SumTheorem : Type 0
-SumTheorem = (old : BenchV3) → length old.sheets ≡ 8 → (convert_v3_call old).answer ≡ Done → (calls : List Call) → Startless calls → SumRight old calls
+SumTheorem = (old : BenchV3) → length old.sheets ≡ 8 → (convert_v3_call old).answer ≡ Ok tt → (calls : List Call) → Startless calls → SumRight old calls

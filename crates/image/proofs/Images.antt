@@ -27,10 +27,6 @@ use Rattle.image.specs.InnerSheets.{without_tally}
 
 -- ---- sheets without their tallies
 
-untold_maps : (sheets : List Sheet) → maps_v3_of (map without_tally sheets) ≡ maps_of sheets
-unfolding without_tally
-untold_maps sheets = map-map (λ s. s.map) without_tally sheets
-
 untold_points : (sheets : List Sheet) → points_v3_of (map without_tally sheets) ≡ points_of sheets
 unfolding without_tally
 untold_points sheets = ap concat (map-map (λ s. points_bytes s.count s.points) without_tally sheets)
@@ -38,11 +34,6 @@ untold_points sheets = ap concat (map-map (λ s. points_bytes s.count s.points) 
 untold_at : (sheets : List Sheet) (s : ℕ) → get_or (map without_tally sheets) s no_sheet_v3 ≡ without_tally (get_or sheets s no_sheet)
 unfolding without_tally
 untold_at sheets s = get_or-map without_tally sheets s no_sheet
-
-pub untold_table : (sheets : List Sheet) → length sheets ≡ 8 → map (λ i. without_tally (get_or sheets i no_sheet)) (up_to 8) ≡ map without_tally sheets
-untold_table sheets eight =
-    table_is (λ i. without_tally (get_or sheets i no_sheet)) (map without_tally sheets) no_sheet_v3 (length-map sheets without_tally ∙ eight)
-    (λ i l. sym (untold_at sheets i))
 
 -- ---- the image written
 
@@ -56,13 +47,13 @@ unfolding layout
 front_written k maps n tally old begun sized after h l e f =
     laid_then 513 k 0 (concat maps ++ little 1 n) (little k tally) old sized after (begun_written maps n old begun sized (omega arith) l e) f (omega arith)
 
-pub image_written : (b : Bench) (untold : List SheetV3) (old begun sized told ended after : List ℕ) → untold ≡ map without_tally b.sheets → length old ≡ 5201
-    → Laid 512 (concat (maps_v3_of untold)) 0 old begun → Laid 1 (little 1 b.n) 512 begun sized → Laid 64 (tallies_of b.sheets) 513 sized told
+pub image_written : (b : Bench) (written : List Map) (untold : List SheetV3) (old begun sized told ended after : List ℕ) → written ≡ maps_of b.sheets
+    → untold ≡ map without_tally b.sheets → length old ≡ 5201 → Laid 512 (concat written) 0 old begun → Laid 1 (little 1 b.n) 512 begun sized → Laid 64 (tallies_of b.sheets) 513 sized told
     → Laid 8 (little 8 b.earlier) 577 told ended → Laid 4616 (points_v3_of untold) 585 ended after → after ≡ image_of b
 unfolding image_of
-image_written b untold old begun sized told ended after e long l m t f p =
+image_written b written untold old begun sized told ended after d e long l m t f p =
     let sheets : List Sheet = b.sheets in
-    let maps : Laid 512 (concat (maps_of sheets)) 0 old begun = rw (e, untold_maps sheets) at l in
+    let maps : Laid 512 (concat (maps_of sheets)) 0 old begun = rw d at l in
     let points : Laid 4616 (points_of sheets) 585 ended after = rw (e, untold_points sheets) at p in
     let front : List ℕ = concat (maps_of sheets) ++ little 1 b.n in
     let one = begun_written (maps_of sheets) b.n old begun sized (omega arith) maps m in
@@ -71,21 +62,21 @@ image_written b untold old begun sized told ended after e long l m t f p =
     let four = laid_then 585 4616 0 (front ++ tallies_of sheets ++ little 8 b.earlier) (points_of sheets) old ended after three points (omega arith) in
     laid_whole 5201 (front ++ tallies_of sheets ++ little 8 b.earlier ++ points_of sheets) old after four long
 
-pub image_v3_written : (b : BenchV3) (old begun sized told after : List ℕ) → length old ≡ 5137 → Laid 512 (concat (maps_v3_of b.sheets)) 0 old begun
+pub image_v3_written : (b : BenchV3) (maps : List Map) (old begun sized told after : List ℕ) → maps ≡ maps_v3_of b.sheets → length old ≡ 5137 → Laid 512 (concat maps) 0 old begun
     → Laid 1 (little 1 b.n) 512 begun sized → Laid 8 (little 8 b.tally) 513 sized told → Laid 4616 (points_v3_of b.sheets) 521 told after
     → after ≡ image_v3_of b
 unfolding image_v3_of
-image_v3_written b old begun sized told after long l e f g =
+image_v3_written b maps old begun sized told after d long l e f g =
     let front : List ℕ = layout 8 (maps_v3_of b.sheets) b.n b.tally in
     let points : List ℕ = points_v3_of b.sheets in
-    let h = front_written 8 (maps_v3_of b.sheets) b.n b.tally old begun sized told (omega arith) l e f in
+    let h = front_written 8 (maps_v3_of b.sheets) b.n b.tally old begun sized told (omega arith) (rw d at l) e f in
     laid_whole 5137 (front ++ points) old after (laid_then 521 4616 0 front points old told after h g (omega arith)) long
 
-pub image_v2_written : (b : BenchV2) (old begun sized after : List ℕ) → length old ≡ 521 → Laid 512 (concat (maps_v1_of b.sheets)) 0 old begun
+pub image_v2_written : (b : BenchV2) (maps : List Map) (old begun sized after : List ℕ) → maps ≡ maps_v1_of b.sheets → length old ≡ 521 → Laid 512 (concat maps) 0 old begun
     → Laid 1 (little 1 b.n) 512 begun sized → Laid 8 (little 8 b.tally) 513 sized after → after ≡ image_v2_of b
 unfolding image_v2_of
-image_v2_written b old begun sized after long l e f =
-    laid_whole 521 (image_v2_of b) old after (front_written 8 (maps_v1_of b.sheets) b.n b.tally old begun sized after (omega arith) l e f) long
+image_v2_written b maps old begun sized after d long l e f =
+    laid_whole 521 (image_v2_of b) old after (front_written 8 (maps_v1_of b.sheets) b.n b.tally old begun sized after (omega arith) (rw d at l) e f) long
 
 -- ---- maps and n, which begin every image
 

@@ -3,16 +3,16 @@
 // has 5,137 bytes; one of the second, which has no points, 521; one of the first, whose tally is shorter, 517.
 #![tactic(auto)]
 
-ghost use Rattle.std.specs.Prelude.{◌≡◌, map, ◌+◌, ◌≤◌, ◌<◌, length};
-ghost use Rattle.equivalence.specs.Lists.{up_to, concat};
+ghost use Rattle.std.specs.Prelude.{◌≡◌, ◌+◌, ◌≤◌, ◌<◌, length};
+ghost use Rattle.equivalence.specs.Lists.{concat};
 ghost use Rattle.imagepart.specs.InnerSteps.{Laid};
-ghost use Rattle.image.specs.Image.{maps_v3_of, maps_v1_of, tallies_of, points_v3_of, image_of, image_v3_of, image_v2_of};
+ghost use Rattle.image.specs.Image.{tallies_of, points_v3_of, image_of, image_v3_of, image_v2_of};
 ghost use Rattle.image.specs.Image.{sheet_v3_in, tallied, sheet_in, sheet_v1_in, bench_in, bench_v3_in, bench_v2_in, bench_v1_in};
-ghost use Rattle.image.specs.InnerSheets.{without_tally};
 
 use benchsheets::{Bench, SHEETS};
 use oldbenches::{BenchV1, BenchV2, BenchV3, SheetV1, SheetV3};
 use sheet::{MAP_BYTES, Sheet};
+use std::array;
 
 pub const LENGTH: usize = 5201;
 
@@ -41,29 +41,15 @@ const POINTS_AT_V3: usize = 521;
 
 const POINTS_BYTES: usize = 577;
 
-// A sheet without its tally.
-fn without_tally(sheet: Sheet) -> SheetV3
-    ensures { result ≡ without_tally sheet }
-{
-    let map = sheet.map;
-    let points = sheet.points;
-    SheetV3 {
-        map,
-        count: sheet.count,
-        points,
-    }
-}
-
-// A sheet of the third kind with a tally.
+// A sheet of the third kind with a tally. No From: it takes the tally besides.
 fn tallied(tally: u64, sheet: SheetV3) -> Sheet
     ensures { result ≡ tallied tally sheet }
 {
-    let map = sheet.map;
-    let points = sheet.points;
+    let SheetV3 { map, count, points } = sheet;
     Sheet {
         map,
         tally,
-        count: sheet.count,
+        count,
         points,
     }
 }
@@ -82,21 +68,6 @@ fn read_sheet_v3(bytes: &[u8], from: usize, s: usize) -> SheetV3
     SheetV3 { map, count, points }
 }
 
-// The eight sheets of the third kind.
-fn read_sheets_v3(bytes: &[u8]) -> [SheetV3; SHEETS]
-    requires { length bytes.now ≡ 5137 }
-    ensures { result ≡ map (sheet_v3_in 521 bytes.now) (up_to 8) }
-{
-    let zero = sheet::zeros();
-    let mut sheets = [without_tally(zero); SHEETS];
-    let mut s = 0;
-    while s < SHEETS {
-        sheets[s] = read_sheet_v3(bytes, POINTS_AT_V3, s);
-        s += 1;
-    }
-    sheets
-}
-
 // Sheet s.
 fn read_sheet(bytes: &[u8], s: usize) -> Sheet
     requires bytes_len { length bytes.now ≡ 5201 }
@@ -108,35 +79,14 @@ fn read_sheet(bytes: &[u8], s: usize) -> Sheet
     tallied(tally, sheet)
 }
 
-// The eight sheets.
-fn read_sheets(bytes: &[u8]) -> [Sheet; SHEETS]
-    requires { length bytes.now ≡ 5201 }
-    ensures { result ≡ map (sheet_in bytes.now) (up_to 8) }
+// Sheet s of the first two kinds.
+fn read_sheet_v1(bytes: &[u8], s: usize) -> SheetV1
+    requires bytes_len { 512 ≤ length bytes.now }
+    requires s_bound { s < 8 }
+    ensures { result ≡ sheet_v1_in bytes.now s }
 {
-    let mut sheets = [sheet::zeros(); SHEETS];
-    let mut s = 0;
-    while s < SHEETS {
-        sheets[s] = read_sheet(bytes, s);
-        s += 1;
-    }
-    sheets
-}
-
-// The eight sheets of the first two kinds.
-fn read_sheets_v1(bytes: &[u8]) -> [SheetV1; SHEETS]
-    requires { 512 ≤ length bytes.now }
-    ensures { result ≡ map (sheet_v1_in bytes.now) (up_to 8) }
-{
-    let mut sheets = [SheetV1 {
-        map: [0u8; MAP_BYTES],
-    }; SHEETS];
-    let mut s = 0;
-    while s < SHEETS {
-        let map = imagepart::read_map_of(bytes, s);
-        sheets[s] = SheetV1 { map };
-        s += 1;
-    }
-    sheets
+    let map = imagepart::read_map_of(bytes, s);
+    SheetV1 { map }
 }
 
 // The bench that the image shows.
@@ -144,7 +94,7 @@ pub fn read(bytes: &[u8]) -> Bench
     requires { length bytes.now ≡ 5201 }
     ensures { result ≡ bench_in bytes.now }
 {
-    let sheets = read_sheets(bytes);
+    let sheets = array::from_fn(|s| read_sheet(bytes, s));
     let n = imagepart::read_little(bytes, SIZE_AT, 1) as usize;
     let earlier = imagepart::read_little(bytes, EARLIER_AT, TALLY_BYTES);
     Bench { n, earlier, sheets }
@@ -155,7 +105,7 @@ pub fn read_v3(bytes: &[u8]) -> BenchV3
     requires { length bytes.now ≡ 5137 }
     ensures { result ≡ bench_v3_in bytes.now }
 {
-    let sheets = read_sheets_v3(bytes);
+    let sheets = array::from_fn(|s| read_sheet_v3(bytes, POINTS_AT_V3, s));
     let n = imagepart::read_little(bytes, SIZE_AT, 1) as usize;
     let tally = imagepart::read_little(bytes, TALLY_AT, TALLY_BYTES);
     BenchV3 { n, tally, sheets }
@@ -166,7 +116,7 @@ pub fn read_v2(bytes: &[u8]) -> BenchV2
     requires { length bytes.now ≡ 521 }
     ensures { result ≡ bench_v2_in bytes.now }
 {
-    let sheets = read_sheets_v1(bytes);
+    let sheets = array::from_fn(|s| read_sheet_v1(bytes, s));
     let n = imagepart::read_little(bytes, SIZE_AT, 1) as usize;
     let tally = imagepart::read_little(bytes, TALLY_AT, TALLY_BYTES);
     BenchV2 { n, tally, sheets }
@@ -177,25 +127,20 @@ pub fn read_v1(bytes: &[u8]) -> BenchV1
     requires { length bytes.now ≡ 517 }
     ensures { result ≡ bench_v1_in bytes.now }
 {
-    let sheets = read_sheets_v1(bytes);
+    let sheets = array::from_fn(|s| read_sheet_v1(bytes, s));
     let n = imagepart::read_little(bytes, SIZE_AT, 1) as usize;
     let tally = imagepart::read_little(bytes, TALLY_AT, TALLY_BYTES_V1) as u32;
     BenchV1 { n, tally, sheets }
 }
 
-// The sheets without their tallies.
-fn without_tallies(sheets: [Sheet; SHEETS]) -> [SheetV3; SHEETS]
-    ensures { result ≡ map without_tally sheets }
+// Writes the maps of eight sheets.
+fn write_maps(maps: [[u8; MAP_BYTES]; SHEETS], bytes: &mut [u8])
+    requires { 512 ≤ length bytes.old }
+    ensures { Laid 512 (concat maps) 0 bytes.old bytes.new }
 {
-    let zero = sheet::zeros();
-    let mut made = [without_tally(zero); SHEETS];
-    let mut k: usize = 0;
-    while k < SHEETS {
-        let sheet = sheets[k];
-        made[k] = without_tally(sheet);
-        k += 1;
+    for (s, map) in maps.iter().enumerate() {
+        imagepart::lay_map_of(map, bytes, s);
     }
-    made
 }
 
 // Writes the tallies of eight sheets.
@@ -203,11 +148,8 @@ fn write_tallies(sheets: [Sheet; SHEETS], bytes: &mut [u8])
     requires { 577 ≤ length bytes.old }
     ensures { Laid 64 (tallies_of sheets) 513 bytes.old bytes.new }
 {
-    let mut s = 0;
-    while s < SHEETS {
-        let sheet = sheets[s];
+    for (s, sheet) in sheets.iter().enumerate() {
         imagepart::write_little(sheet.tally, TALLY_BYTES, bytes, TALLY_AT + s * TALLY_BYTES);
-        s += 1;
     }
 }
 
@@ -216,40 +158,8 @@ fn write_points(sheets: [SheetV3; SHEETS], bytes: &mut [u8], from: usize)
     requires { from + 4616 ≤ length bytes.old }
     ensures { Laid 4616 (points_v3_of sheets) from bytes.old bytes.new }
 {
-    let mut s = 0;
-    while s < SHEETS {
-        let sheet = sheets[s];
-        let places = sheet.points;
-        imagepart::lay_points(sheet.count, places, bytes, from + s * POINTS_BYTES);
-        s += 1;
-    }
-}
-
-// Writes the maps of eight sheets.
-fn write_maps_v3(sheets: [SheetV3; SHEETS], bytes: &mut [u8])
-    requires { 512 ≤ length bytes.old }
-    ensures { Laid 512 (concat (maps_v3_of sheets)) 0 bytes.old bytes.new }
-{
-    let mut s = 0;
-    while s < SHEETS {
-        let sheet = sheets[s];
-        let map = sheet.map;
-        imagepart::lay_map_of(&map, bytes, s);
-        s += 1;
-    }
-}
-
-// Writes the maps of eight sheets of the first two kinds.
-fn write_maps_v1(sheets: [SheetV1; SHEETS], bytes: &mut [u8])
-    requires { 512 ≤ length bytes.old }
-    ensures { Laid 512 (concat (maps_v1_of sheets)) 0 bytes.old bytes.new }
-{
-    let mut s = 0;
-    while s < SHEETS {
-        let sheet = sheets[s];
-        let map = sheet.map;
-        imagepart::lay_map_of(&map, bytes, s);
-        s += 1;
+    for (s, sheet) in sheets.iter().enumerate() {
+        imagepart::lay_points(sheet.count, sheet.points, bytes, from + s * POINTS_BYTES);
     }
 }
 
@@ -259,12 +169,16 @@ pub fn write(bench: Bench, bytes: &mut [u8])
     ensures { bytes.new ≡ image_of bench }
 {
     let sheets = bench.sheets;
-    let untold = without_tallies(sheets);
-    write_maps_v3(untold, bytes);
+    let maps = sheets.map(
+        |sheet: Sheet| -> [u8; MAP_BYTES]
+            ensures { result ≡ sheet.map }
+        { sheet.map },
+    );
+    write_maps(maps, bytes);
     imagepart::write_little(bench.n as u64, 1, bytes, SIZE_AT);
     write_tallies(sheets, bytes);
     imagepart::write_little(bench.earlier, TALLY_BYTES, bytes, EARLIER_AT);
-    write_points(untold, bytes, POINTS_AT);
+    write_points(sheets.map(SheetV3::from), bytes, POINTS_AT);
 }
 
 // Writes the image of a bench of the third kind.
@@ -273,7 +187,12 @@ pub fn write_v3(bench: BenchV3, bytes: &mut [u8])
     ensures { bytes.new ≡ image_v3_of bench }
 {
     let sheets = bench.sheets;
-    write_maps_v3(sheets, bytes);
+    let maps = sheets.map(
+        |sheet: SheetV3| -> [u8; MAP_BYTES]
+            ensures { result ≡ sheet.map }
+        { sheet.map },
+    );
+    write_maps(maps, bytes);
     imagepart::write_little(bench.n as u64, 1, bytes, SIZE_AT);
     imagepart::write_little(bench.tally, TALLY_BYTES, bytes, TALLY_AT);
     write_points(sheets, bytes, POINTS_AT_V3);
@@ -285,7 +204,12 @@ pub fn write_v2(bench: BenchV2, bytes: &mut [u8])
     ensures { bytes.new ≡ image_v2_of bench }
 {
     let sheets = bench.sheets;
-    write_maps_v1(sheets, bytes);
+    let maps = sheets.map(
+        |sheet: SheetV1| -> [u8; MAP_BYTES]
+            ensures { result ≡ sheet.map }
+        { sheet.map },
+    );
+    write_maps(maps, bytes);
     imagepart::write_little(bench.n as u64, 1, bytes, SIZE_AT);
     imagepart::write_little(bench.tally, TALLY_BYTES, bytes, TALLY_AT);
 }

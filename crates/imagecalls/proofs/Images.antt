@@ -2,10 +2,8 @@
 use Prim.Native.Nat.{ℕ}
 use mathlib.Core.List.{List}
 use mathlib.Core.Path.{◌≡◌, refl, sym, ap, ◌∙◌}
-use native.Mathlib.Omega.{arith}
 use lib.Dec.{eqb, eqb→eq}
 use lib.ListN.{length}
-use lib.Seq.{take_all}
 use Rattle.bench.specs.Outcome.{answer_outcome}
 use Rattle.benchsheets.specs.declared.Bench.{Bench}
 use Rattle.bench.specs.declared.Benched.{Benched}
@@ -14,11 +12,8 @@ use Rattle.conversion.specs.Conversion.{convert_v3_call}
 use Rattle.oldbenches.specs.declared.BenchV1.{BenchV1}
 use Rattle.oldbenches.specs.declared.BenchV2.{BenchV2}
 use Rattle.oldbenches.specs.declared.BenchV3.{BenchV3}
-use Rattle.oldbenches.specs.declared.BenchedV2.{BenchedV2}
-use Rattle.oldbenches.specs.declared.BenchedV3.{BenchedV3}
 use Rattle.equivalence.specs.Outcome.{packed}
 use Rattle.equivalence.proofs.Tests.{eq→eqb, pick_yes, pick_no}
-use Rattle.imagepart.specs.Parts.{part}
 use Rattle.image.specs.Image.{image_of, image_v3_of, image_v2_of, bench_in, bench_v3_in, bench_v2_in, bench_v1_in}
 use Rattle.imagecalls.specs.Calls.{of_length, bench_shown, image_call, named_call}
 use Rattle.imagecalls.specs.Calls.{bench_v2_shown, bench_v3_shown, first_image_call, second_image_call, third_image_call, old_image_call}
@@ -42,55 +37,44 @@ steps_called k image call shown given before r after e f g h =
 
 -- ---- a call over an image
 
-pub bench_shown_lem : (r : Benched) (number : ℕ) (after : List ℕ) → after ≡ image_of r.bench → number ≡ packed (answer_outcome r.answer)
+pub bench_shown_lem : (r : Benched Bench) (number : ℕ) (after : List ℕ) → after ≡ image_of r.bench → number ≡ packed (answer_outcome r.answer)
     → (number, after) ≡ bench_shown r
 unfolding bench_shown
 bench_shown_lem r number after e f = rw (e, f)
 
-module _ (call : Bench → Benched) (image : List ℕ) where
+module _ (call : Bench → Benched Bench) (image : List ℕ) where
   pub image_other : ¬ (length image ≡ 5201) → (255, image) ≡ image_call call image
   unfolding image_call
   image_other h = sym (other_length 5201 image _ _ h)
 
-  pub image_called : length image ≡ 5201 → (before : Bench) → before ≡ bench_in image → (r : Benched) → r ≡ call before → (after : ℕ × List ℕ)
+  pub image_called : length image ≡ 5201 → (before : Bench) → before ≡ bench_in image → (r : Benched Bench) → r ≡ call before → (after : ℕ × List ℕ)
       → after ≡ bench_shown r → after ≡ image_call call image
   unfolding image_call
   image_called e before f r g after h = steps_called 5201 image call bench_shown (bench_in image) before r after e f g h
 
 -- a call that looks at no bench
-pub image_given : (given : Benched) (image : List ℕ) → length image ≡ 5201 → (r : Benched) → r ≡ given → (after : ℕ × List ℕ) → after ≡ bench_shown r
+pub image_given : (given : Benched Bench) (image : List ℕ) → length image ≡ 5201 → (r : Benched Bench) → r ≡ given → (after : ℕ × List ℕ) → after ≡ bench_shown r
     → after ≡ image_call (λ b. given) image
 image_given given image e r f after g = image_called (λ b. given) image e (bench_in image) refl r f after g
 
 -- a call of a point, over an image and a name
-module _ (call : Bench → List ℕ → Benched) (image name : List ℕ) where
+module _ (call : Bench → List ℕ → Benched Bench) (image name : List ℕ) where
   pub name_other : ¬ (length name ≡ 8) → (255, image) ≡ named_call call image name
   unfolding named_call
   name_other h = sym (other_length 8 name _ _ h)
 
-  module _ (e : length name ≡ 8) where
-    named_read : image_call (λ b. call b name) image ≡ named_call call image name
-    unfolding named_call
-    named_read = sym (right_length 8 name _ _ e)
-
-    pub named_other : ¬ (length image ≡ 5201) → (255, image) ≡ named_call call image name
-    named_other h = image_other _ image h ∙ named_read
-
-    pub named_called : length image ≡ 5201 → (before : Bench) → before ≡ bench_in image → (point : List ℕ) → point ≡ part 0 8 name → (r : Benched) → r ≡ call before point
-        → (after : ℕ × List ℕ) → after ≡ bench_shown r → after ≡ named_call call image name
-    unfolding part
-    named_called f before g point i r h after k =
-        let whole : point ≡ name = i ∙ take_all 8 name (omega arith) in
-        image_called (λ b. call b name) image f before g r (h ∙ ap (call before) whole) after k ∙ named_read
+  pub named_called : length name ≡ 8 → {after : ℕ × List ℕ} → after ≡ image_call (λ b. call b name) image → after ≡ named_call call image name
+  unfolding named_call
+  named_called e f = f ∙ sym (right_length 8 name _ _ e)
 
 -- ---- a conversion, over two images
 
-pub second_shown : (r : BenchedV2) (number : ℕ) (after : List ℕ) → after ≡ image_v2_of r.bench → number ≡ packed (answer_outcome r.answer)
+pub second_shown : (r : Benched BenchV2) (number : ℕ) (after : List ℕ) → after ≡ image_v2_of r.bench → number ≡ packed (answer_outcome r.answer)
     → (number, after) ≡ bench_v2_shown r
 unfolding bench_v2_shown
 second_shown r number after e f = rw (e, f)
 
-pub third_shown : (r : BenchedV3) (number : ℕ) (after : List ℕ) → after ≡ image_v3_of r.bench → number ≡ packed (answer_outcome r.answer)
+pub third_shown : (r : Benched BenchV3) (number : ℕ) (after : List ℕ) → after ≡ image_v3_of r.bench → number ≡ packed (answer_outcome r.answer)
     → (number, after) ≡ bench_v3_shown r
 unfolding bench_v3_shown
 third_shown r number after e f = rw (e, f)
@@ -100,7 +84,7 @@ module _ (old image : List ℕ) where
   unfolding first_image_call
   first_other h = sym (other_length 521 image _ _ h)
 
-  pub first_called : length image ≡ 521 → (before : BenchV1) → before ≡ bench_v1_in old → (r : BenchedV2) → r ≡ convert_v1_call before → (after : ℕ × List ℕ)
+  pub first_called : length image ≡ 521 → (before : BenchV1) → before ≡ bench_v1_in old → (r : Benched BenchV2) → r ≡ convert_v1_call before → (after : ℕ × List ℕ)
       → after ≡ bench_v2_shown r → after ≡ first_image_call old image
   unfolding first_image_call
   first_called e before f r g after h = steps_called 521 image convert_v1_call bench_v2_shown (bench_v1_in old) before r after e f g h
@@ -109,7 +93,7 @@ module _ (old image : List ℕ) where
   unfolding second_image_call
   second_other h = sym (other_length 5137 image _ _ h)
 
-  pub second_called : length image ≡ 5137 → (before : BenchV2) → before ≡ bench_v2_in old → (r : BenchedV3) → r ≡ convert_v2_call before → (after : ℕ × List ℕ)
+  pub second_called : length image ≡ 5137 → (before : BenchV2) → before ≡ bench_v2_in old → (r : Benched BenchV3) → r ≡ convert_v2_call before → (after : ℕ × List ℕ)
       → after ≡ bench_v3_shown r → after ≡ second_image_call old image
   unfolding second_image_call
   second_called e before f r g after h = steps_called 5137 image convert_v2_call bench_v3_shown (bench_v2_in old) before r after e f g h
@@ -136,6 +120,6 @@ module _ (old image : List ℕ) where
         pub new_other : ¬ (length image ≡ 5201) → (255, image) ≡ old_image_call old image
         new_other j = image_other _ image j ∙ old_third
 
-        pub old_called : length image ≡ 5201 → (before : BenchV3) → before ≡ bench_v3_in old → (r : Benched) → r ≡ convert_v3_call before → (after : ℕ × List ℕ)
+        pub old_called : length image ≡ 5201 → (before : BenchV3) → before ≡ bench_v3_in old → (r : Benched Bench) → r ≡ convert_v3_call before → (after : ℕ × List ℕ)
             → after ≡ bench_shown r → after ≡ old_image_call old image
         old_called f before g r j after k = image_given _ image f r (j ∙ ap convert_v3_call g) after k ∙ old_third

@@ -5,8 +5,8 @@ use Rattle.benchsheets.specs.declared.Bench.{Bench}
 use Rattle.bench.specs.declared.Benched.{Benched}
 use Rattle.oldbenches.specs.OldKinds.{convert_v1_call, convert_v2_call}
 use Rattle.conversion.specs.Conversion.{convert_v3_call}
-use Rattle.oldbenches.specs.declared.BenchedV2.{BenchedV2}
-use Rattle.oldbenches.specs.declared.BenchedV3.{BenchedV3}
+use Rattle.oldbenches.specs.declared.BenchV2.{BenchV2}
+use Rattle.oldbenches.specs.declared.BenchV3.{BenchV3}
 use Rattle.equivalence.specs.Outcome.{packed}
 use Rattle.image.specs.Image.{image_of, image_v3_of, image_v2_of, bench_in, bench_v3_in, bench_v2_in, bench_v1_in}
 
@@ -15,23 +15,23 @@ unfoldable pub of_length : {A : Type 0} → ℕ → List ℕ → A → A → A
 of_length k bytes right other = elim (eqb (length bytes) k) [ true ↦ right | false ↦ other ]
 
 -- what a call of the bench gave, as the number of its answer and the image of the bench after it
-unfoldable pub bench_shown : Benched → ℕ × List ℕ
+unfoldable pub bench_shown : Benched Bench → ℕ × List ℕ
 bench_shown r = (packed (answer_outcome r.answer), image_of r.bench)
 
 -- a call of the bench over an image: its number, and the image after it; an image of another length gives 255 and stays
-unfoldable pub image_call : (Bench → Benched) → List ℕ → ℕ × List ℕ
+unfoldable pub image_call : (Bench → Benched Bench) → List ℕ → ℕ × List ℕ
 image_call call image = of_length 5201 image (bench_shown (call (bench_in image))) (255, image)
 
 -- a call of a point over an image and a name: the same; a name of another length than eight gives 255, and the image stays
-unfoldable pub named_call : (Bench → List ℕ → Benched) → List ℕ → List ℕ → ℕ × List ℕ
+unfoldable pub named_call : (Bench → List ℕ → Benched Bench) → List ℕ → List ℕ → ℕ × List ℕ
 named_call call image name = of_length 8 name (image_call (λ b. call b name) image) (255, image)
 
 -- what the conversion into the second kind gave, in the same way
-unfoldable pub bench_v2_shown : BenchedV2 → ℕ × List ℕ
+unfoldable pub bench_v2_shown : Benched BenchV2 → ℕ × List ℕ
 bench_v2_shown r = (packed (answer_outcome r.answer), image_v2_of r.bench)
 
 -- what the conversion into the third kind gave, in the same way
-unfoldable pub bench_v3_shown : BenchedV3 → ℕ × List ℕ
+unfoldable pub bench_v3_shown : Benched BenchV3 → ℕ × List ℕ
 bench_v3_shown r = (packed (answer_outcome r.answer), image_v3_of r.bench)
 
 -- the conversion of a bench of the first kind over its image and one of the second: its number, and the new image after it; where that has another

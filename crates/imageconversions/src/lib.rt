@@ -4,33 +4,31 @@
 ghost use Rattle.std.specs.Prelude.{◌≡◌, length};
 ghost use Rattle.imagecalls.specs.Calls.{bench_v2_shown, bench_v3_shown, first_image_call, second_image_call, old_image_call};
 
+use bench::Benched;
 use image::{
     LENGTH as IMAGE_LENGTH, LENGTH_V1 as IMAGE_V1_LENGTH, LENGTH_V2 as IMAGE_V2_LENGTH,
     LENGTH_V3 as IMAGE_V3_LENGTH,
 };
 use imagecalls::OTHER_LENGTH;
-use oldbenches::{BenchedV2, BenchedV3};
+use oldbenches::{BenchV2, BenchV3};
 
 // Writes the image of the bench that the conversion into the second kind gave, and gives the number of its answer.
-fn show_v2(done: BenchedV2, bytes: &mut [u8]) -> u32
+fn show_v2(done: Benched<BenchV2>, bytes: &mut [u8]) -> u32
     requires { length bytes.old ≡ 521 }
     ensures { (result, bytes.new) ≡ bench_v2_shown done }
 {
-    let after = done.bench;
-    image::write_v2(after, bytes);
-    let answer = done.answer;
-    imagecalls::answer_number(answer)
+    image::write_v2(done.bench, bytes);
+    imagecalls::answer_number(done.answer)
 }
 
-// Writes the image of the bench that the conversion into the third kind gave, and gives the number of its answer.
-fn show_v3(done: BenchedV3, bytes: &mut [u8]) -> u32
+// Writes the image of the bench that the conversion into the third kind gave, and gives the number of its answer. It differs from `show_v2` in the function it calls: one that is
+// handed that function is no shorter.
+fn show_v3(done: Benched<BenchV3>, bytes: &mut [u8]) -> u32
     requires { length bytes.old ≡ 5137 }
     ensures { (result, bytes.new) ≡ bench_v3_shown done }
 {
-    let after = done.bench;
-    image::write_v3(after, bytes);
-    let answer = done.answer;
-    imagecalls::answer_number(answer)
+    image::write_v3(done.bench, bytes);
+    imagecalls::answer_number(done.answer)
 }
 
 // The conversion of a bench of the first kind.

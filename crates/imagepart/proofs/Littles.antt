@@ -6,7 +6,7 @@ use native.Mathlib.Nat.{pow-zero, pow-suc, pow-le-pow_right, div-lt_iff_lt-mul, 
 use native.Mathlib.Numerals.{add-one}
 use native.Mathlib.Omega.{arith}
 use lib.ListN.{length, get_or, take, drop, set}
-use lib.Seq.{take_all, drop-cons, drop-drop, paste, paste-zero, paste-suc}
+use lib.Seq.{take_all, drop-cons, drop-drop, paste, paste-suc}
 use Rattle.equivalence.specs.Lent.{written, laid}
 use Rattle.imagepart.specs.Parts.{little, little_in, part}
 use Rattle.imagepart.specs.InnerSteps.{Laid}
@@ -50,9 +50,6 @@ pub record Writing (old : List ℕ) (to k x i rest : ℕ) (new : List ℕ) : Typ
   pub bytes : new ≡ paste old to (little k x) i
 
 module _ (old : List ℕ) (to k x : ℕ) where
-  pub writing_none : Writing old to k x 0 x old
-  writing_none = record { within = omega arith; remainder = refl; bytes = paste-zero old to (little k x) }
-
   pub writing_more : (i rest : ℕ) (new : List ℕ) → Writing old to k x i rest new → to + k ≤ length old → i < k
       → Writing old to k x (i + 1) (rest / 256) (set new (to + i) (rest % 256))
   writing_more i rest new w fits h =

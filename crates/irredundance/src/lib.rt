@@ -30,55 +30,13 @@ fn none_superfluous(
     ensures { result ≡ every (λ i. not (is_identity n (meet_all n (without i (map_list n count maps.now))))) (up_to (length (map_list n count maps.now))) }
 {
     whole_into(n, met);
-    let mut i = 0;
-    let mut at = 0;
-    while i < count {
-        let next = at + n;
-        if meets_in_identity(n, met, &suffixes[next..], table) {
+    for i in 0..count {
+        if meets_in_identity(n, met, &suffixes[(i + 1) * n..], table) {
             return false;
         }
-        meet_with(n, &maps[at..], table, met);
-        at = next;
-        i += 1;
+        meet_with(n, &maps[i * n..], table, met);
     }
     true
-}
-
-// `is_irredundant` on lent storage.
-fn irredundant_in(
-    n: usize,
-    count: usize,
-    maps: &[u8],
-    suffixes: &mut [u8],
-    table: &mut [u8],
-    met: &mut [u8],
-) -> bool
-    requires maps_listed { MapsListed n count maps.now }
-    requires suffixes_len { length suffixes.old ≡ 4096 }
-    requires table_len { length table.old ≡ 4096 }
-    requires met_len { length met.old ≡ 64 }
-    ensures { result ≡ irredundant n (map_list n count maps.now) }
-{
-    suffix_meets(n, count, maps, table, met, suffixes);
-    if !is_identity(n, suffixes) {
-        return false;
-    }
-    none_superfluous(n, count, maps, suffixes, table, met)
-}
-
-// The same, on arrays, whose lengths are known from their types.
-fn irredundant_on(
-    n: usize,
-    count: usize,
-    maps: &[u8],
-    suffixes: &mut [u8; 4096],
-    table: &mut [u8; 4096],
-    met: &mut [u8; 64],
-) -> bool
-    requires { MapsListed n count maps.now }
-    ensures { result ≡ irredundant n (map_list n count maps.now) }
-{
-    irredundant_in(n, count, maps, suffixes, table, met)
 }
 
 // Whether the first `count` maps meet in the identity, and no longer do where any one is left out.
@@ -89,5 +47,6 @@ pub fn is_irredundant(n: usize, count: usize, maps: &[u8]) -> bool
     let mut suffixes = [0u8; 4096];
     let mut table = [0u8; 4096];
     let mut met = [0u8; 64];
-    irredundant_on(n, count, maps, &mut suffixes, &mut table, &mut met)
+    suffix_meets(n, count, maps, &mut table, &mut met, &mut suffixes);
+    is_identity(n, &suffixes) && none_superfluous(n, count, maps, &suffixes, &mut table, &mut met)
 }

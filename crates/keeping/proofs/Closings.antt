@@ -9,13 +9,13 @@ use lib.Dec.{eqb}
 use lib.ListN.{length}
 use borrow.Author.Tests.{eqb-true, eq-eqb}
 use Rattle.equivalence.specs.Equivalence.{byte}
-use Rattle.kernel.specs.InnerKernel.{Canonical, Within, names}
-use Rattle.kernel.proofs.Kernels.{identity_canonical, identity_within}
+use Rattle.kernel.specs.InnerKernel.{Canonical, Within}
+use Rattle.kernel.proofs.Kernels.{identity_within}
 use Rattle.algebra.specs.Accepted.{Accepted}
 use Rattle.algebra.specs.Algebra.{Algebra}
 use Rattle.algebra.proofs.Accepted.{WellFormed, accepted_well_formed}
 use Rattle.translation.specs.InnerTranslations.{result, Compatible, Closed}
-use Rattle.translation.proofs.Translations.{result_below, identity_compatible}
+use Rattle.translation.proofs.Translations.{result_below}
 use Rattle.sweep.specs.InnerQueue.{QueueState, InQueue, Ready, Grown}
 use Rattle.sweep.proofs.Images.{below_all, compatible_images}
 use Rattle.sweep.proofs.Queues.{grown_none, grown_more, in_queue_kept}
@@ -23,16 +23,12 @@ use Rattle.sweep.proofs.Sweeps.{each_more}
 use Rattle.keeping.specs.InnerKeeping.{ImagesJoined, Fresh, PairKept, kept_at, mark_of, Stored, KeptHere}
 use Rattle.keeping.specs.InnerPrincipal.{JoinsNames, JoinedTo, Linked, Raised, Closing, FullMap, Sure, Trusted, popped, Taking, Taken, Absorbing, Absorbed, Working, ClosedUnless, Worked, Rebuilding, Rebuilt, Growing, PairGrown, PrincipalHere}
 use Rattle.keeping.proofs.Storing.{from, from_long, from_byte, kept_canonical}
-use Rattle.keeping.proofs.Keepings.{empty_ready, joined_images, alike_compatible, alike_kept, kept_from, keeping_stored, stored_kept, mark_whole, keeping_at, keeping_whole}
+use Rattle.keeping.proofs.Keepings.{empty_ready, joined_images, alike_compatible, alike_kept, kept_from, keeping_stored, stored_kept, mark_whole, keeping_whole}
 
 -- ---- a kept map joined
 
 pub joined_none : {n : ℕ} {f : ℕ → ℕ} {s : QueueState} → Ready n s → JoinedTo n 0 f s s
 joined_none {n} {f} r = record { grown = grown_none (JoinsNames n f) r; joined = record { each = λ z l. absurd (omega arith) } }
-
--- an element that is its own name is joined with it
-pub name_skipped : {n z name : ℕ} {s : QueueState} → name ≡ z → Ready n s → Grown n (λ g. g z ≡ g name) s s × (s.map z ≡ s.map name)
-name_skipped {z = z} {name} {s} e r = (grown_none (λ g. g z ≡ g name) r, ap s.map (sym e))
 
 pub name_small : {n z : ℕ} {f : ℕ → ℕ} → Canonical n f → z < n → f z < n
 name_small {z = z} c l = omega (arith, c.below z l)
@@ -160,19 +156,6 @@ module _ {a : Algebra} (accepted : Accepted a) where
   ok : WellFormed a
   ok = accepted_well_formed a accepted
 
-  -- a kept map with its queue
-  closing_start : {f : ℕ → ℕ} {s : QueueState} → Rebuilt a.size f s → Closing a s.map s
-  closing_start d = record {
-    ready = d.ready;
-    raised = record {
-      canonical = d.ready.queued.canonical;
-      within = λ x y lx ly p. p;
-      inside = λ g c w. w;
-      padded = d.ready.padded;
-    };
-    linked = λ b l lost. inl (d.queued b l lost);
-  }
-
   -- that map is kept for the same pair
   start_kept : {x y : ℕ} {f : ℕ → ℕ} {s : QueueState} → x < a.size → y < a.size → PairKept a x y f → Rebuilt a.size f s → PairKept a x y s.map
   start_kept {x} {y} lx ly k d = record {
@@ -273,22 +256,6 @@ module _ {a : Algebra} (accepted : Accepted a) where
   closed_all : {v w : ℕ} {f : ℕ → ℕ} {s : QueueState} → Closing a f s → s.size ≤ 0 → ClosedUnless a v w f s.map s.size
   closed_all c none = record { raised = c.raised; whole = λ e. closing_whole c e; stopped = λ l. absurd (omega arith) }
 
-  -- at first only equal elements are sure
-  start_sure : {k : ℕ} {f g : ℕ → ℕ} → Fresh k g → Sure a k g f
-  start_sure {f = f} {g} i = record {
-    map = record {
-      most = ok.most;
-      room = i.room;
-      canonical = identity_canonical a.size g (λ x l. i.own x (omega (arith, ok.most)));
-      padded = λ x l h. i.own x h;
-    };
-    compatible = identity_compatible a g (λ x l. i.own x (omega (arith, ok.most)));
-    within = identity_within a.size g f (λ x l. i.own x (omega (arith, ok.most)));
-  }
-
-closed_stopped : {a : Algebra} {v w : ℕ} {f : ℕ → ℕ} {s : QueueState} → Closing a f s → 0 < s.size → s.map v ≡ s.map w → ClosedUnless a v w f s.map s.size
-closed_stopped c l e = record { raised = c.raised; whole = λ z. absurd (omega arith); stopped = λ z. e }
-
 -- ---- the queue is taken
 
 -- what is kept for x and y was joined
@@ -303,11 +270,6 @@ taken {a} {p = p} {maps = maps} {marks} i h trusted d = record {
   trusted = trusted;
   joined = d;
 }
-
--- what is kept for the last of the queue and its name is asked for
-pub absorb_takes : {a : Algebra} {maps marks : List ℕ} {mb qb r k : ℕ} {f q g : ℕ → ℕ} → Absorbing a maps marks (record { map = f; map_bytes = mb; queue = q; queue_bytes = qb; size = r }) k g
-    → Taking a (f (q (r - 1))) (q (r - 1)) maps marks (record { map = f; map_bytes = mb; queue = q; queue_bytes = qb; size = r - 1 }) k g
-absorb_takes h = record { keeping = h.keeping; accepted = h.accepted; ready = popped_ready h.ready; map = h.sure.map; less = h.less; below = h.last }
 
 -- the last of the queue was taken, and it was sure
 pub absorbed_sure : {a : Algebra} {maps marks : List ℕ} {s : QueueState} {k : ℕ} {g : ℕ → ℕ} → Absorbing a maps marks s k g → g (s.map (s.queue (s.size - 1))) ≡ g (s.queue (s.size - 1))
@@ -325,17 +287,6 @@ absorbed_joined h d = record {
 }
 
 module _ {a : Algebra} {f : ℕ → ℕ} {maps marks : List ℕ} {s : QueueState} {k : ℕ} {g : ℕ → ℕ} (h : Working a f maps marks s k g) where
-  pub absorbing : 0 < s.size → Absorbing a maps marks s k g
-  absorbing some = record {
-    keeping = h.keeping;
-    accepted = h.accepted;
-    ready = h.closing.ready;
-    some = some;
-    sure = h.sure;
-    last = last_small h.closing.ready some;
-    less = last_pair h.closing.ready some;
-  }
-
   pub working_more : {maps' marks' : List ℕ} {t : QueueState} {k' : ℕ} {g' : ℕ → ℕ} → Absorbed a s t maps' marks' k' g' → Working a f maps' marks' t k' g'
   working_more d = record { keeping = d.keeping; accepted = h.accepted; closing = d.closing f h.closing; sure = d.sure }
 
@@ -344,16 +295,13 @@ module _ {a : Algebra} {f : ℕ → ℕ} {maps marks : List ℕ} {v w k r mb qb 
   pub worked_all : r ≤ 0 → Worked a v w f maps marks mb f' r k
   worked_all none = record { keeping = h.keeping; map_room = h.closing.ready.map_room; sure_room = h.sure.map.room; closed = closed_all h.accepted h.closing none }
 
-  pub worked_stopped : f' v ≡ f' w → 0 < r → Worked a v w f maps marks mb f' r k
-  worked_stopped e some = record { keeping = h.keeping; map_room = h.closing.ready.map_room; sure_room = h.sure.map.room; closed = closed_stopped h.closing some e }
-
 -- ---- a kept map grown
 
 -- made up by a join with bytes that name themselves
-pub rebuilding_joinable : {n p mb qb : ℕ} {maps : List ℕ} → Rebuilding n p maps mb qb → (n ≤ length (from (p * 64) maps)) × Canonical n (byte (from (p * 64) maps))
+pub rebuilding_joinable : {n p : ℕ} {maps : List ℕ} → Rebuilding n p maps → (n ≤ length (from (p * 64) maps)) × Canonical n (byte (from (p * 64) maps))
 rebuilding_joinable {p = p} {maps = maps} i = (omega (arith, from_long (p * 64) maps, i.most, i.maps_room, i.small), kept_canonical p maps i.canonical)
 
-pub rebuilt : {n p k q mb qb : ℕ} {f g : ℕ → ℕ} {maps : List ℕ} {t : QueueState} → Rebuilding n p maps mb qb → Fresh k f
+pub rebuilt : {n p k q : ℕ} {f g : ℕ → ℕ} {maps : List ℕ} {t : QueueState} → Rebuilding n p maps → Fresh k f
     → JoinedTo n n (byte (from (p * 64) maps)) (record { map = f; map_bytes = k; queue = g; queue_bytes = q; size = 0 }) t → Rebuilt n (kept_at maps p) t
 rebuilt {n} {p} {f = f} {maps = maps} {t} i e d = record {
   ready = d.grown.ready;
@@ -367,10 +315,6 @@ rebuilt {n} {p} {f = f} {maps = maps} {t} i e d = record {
 }
 
 module _ {a : Algebra} {x y p v w : ℕ} {maps marks : List ℕ} (h : Growing a x y p v w maps marks) where
-  pub growing_works : {mb' qb' r k : ℕ} {f q g : ℕ → ℕ} → Rebuilt a.size (kept_at maps p) (record { map = f; map_bytes = mb'; queue = q; queue_bytes = qb'; size = r }) → Fresh k g
-      → Working a f maps marks (record { map = f; map_bytes = mb'; queue = q; queue_bytes = qb'; size = r }) k g
-  growing_works d e = record { keeping = h.keeping; accepted = h.accepted; closing = closing_start h.accepted d; sure = start_sure h.accepted e }
-
   -- the kept map is grown
   pub pair_grown : {r mb sb mb' qb' size' : ℕ} {f q f' : ℕ → ℕ} {maps' marks' : List ℕ} → Rebuilt a.size (kept_at maps p) (record { map = f; map_bytes = mb'; queue = q; queue_bytes = qb'; size = size' })
       → Worked a v w f maps' marks' mb f' r sb → PairGrown a x y v w maps' marks' mb f' r
@@ -404,23 +348,6 @@ module _ {a : Algebra} {x y p v w : ℕ} {maps marks : List ℕ} (h : Growing a 
       }
 
 -- ---- the kept map will do
-
-module _ {a : Algebra} {x y p v w : ℕ} {old maps marks : List ℕ} (h : KeptHere a x y old maps marks p) (l : x < y) (k : y < a.size) where
-  pub principal_whole : byte marks p ≡ 2 → PrincipalHere a x y v w maps marks p
-  principal_whole e = record {
-    keeping = h.keeping;
-    place = h.place;
-    pair = keeping_at h.keeping l k h.place h.some;
-    closed = inl e;
-  }
-
-  pub principal_joined : kept_at maps p v ≡ kept_at maps p w → PrincipalHere a x y v w maps marks p
-  principal_joined e = record {
-    keeping = h.keeping;
-    place = h.place;
-    pair = keeping_at h.keeping l k h.place h.some;
-    closed = inr e;
-  }
 
 -- where the map holds v and w apart it is the least congruence that joins x and y
 pub principal_closed : {a : Algebra} {x y v w p : ℕ} {maps marks : List ℕ} → x < y → y < a.size → PrincipalHere a x y v w maps marks p → (kept_at maps p v ≡ kept_at maps p w → ⊥)

@@ -1,11 +1,11 @@
 -- The laws of the test by kept pairs: a map that lies above a congruence f is one where it joins the images of neighbours among elements that meet every block of f.
 use Prim.Native.Nat.{ℕ, ◌+◌, ◌*◌, ◌≤◌, ◌<◌}
-use mathlib.Core.Bool.{Bool, true, false}
+use mathlib.Core.Bool.{Bool, true}
 use mathlib.Core.List.{List}
 use mathlib.Core.Path.{◌≡◌, refl, sym, ap, subst, ◌∙◌}
 use native.Mathlib.Decide.{ℕ_discrete}
 use native.Mathlib.Omega.{arith}
-use lib.ListN.{length, set, length-set, replicate, length-replicate}
+use lib.ListN.{set, length-set}
 use lib.Seq.{get_or-set_same, get_or-set_other}
 use Rattle.equivalence.specs.Equivalence.{byte}
 use Rattle.kernel.specs.InnerKernel.{Canonical, Within, Listed}
@@ -13,9 +13,9 @@ use Rattle.algebra.specs.Algebra.{Algebra}
 use Rattle.algebra.proofs.Accepted.{WellFormed, accepted_well_formed}
 use Rattle.translation.specs.InnerTranslations.{Compatible}
 use Rattle.sweep.proofs.Images.{below_all, compatible_images}
-use Rattle.keeping.specs.InnerKeeping.{ImagesJoined, KeptHere, Keeping}
+use Rattle.keeping.specs.InnerKeeping.{ImagesJoined, KeptHere}
 use Rattle.keeping.specs.InnerPrincipal.{JoinsNames}
-use Rattle.keeping.specs.InnerInside.{NamesInside, PairAsked, PairInside, NextInside, LastAsked, LastInside, AllAsked, Meets, Chained, Testing, Proved}
+use Rattle.keeping.specs.InnerInside.{NamesInside, PairAsked, PairInside, NextInside, AllAsked, Meets, Chained, Testing, Proved}
 use Rattle.keeping.proofs.Storing.{from}
 use Rattle.keeping.proofs.Keepings.{joined_images, kept_from}
 use Rattle.keeping.proofs.Closings.{images_same, images_swap, images_chain, names_within}
@@ -30,18 +30,6 @@ names_more {i} {f} {g} h e = record {
 pub names_none : {f g : ℕ → ℕ} → JoinsNames 0 f g
 names_none = record { each = λ z l. absurd (omega arith) }
 
-pub name_room : {n z k : ℕ} {f : ℕ → ℕ} → Canonical n f → z < n → n ≤ k → f z < k
-name_room {z = z} c l h = omega (arith, c.below z l)
-
-pub inside_yes : {n i : ℕ} {f g : ℕ → ℕ} → JoinsNames i f g → n ≤ i → NamesInside n f g true
-inside_yes h l = record { says = λ t. record { each = λ z lz. h.each z (omega arith) } }
-
-no_yes : {P : Type 0} → false ≡ true → P
-no_yes e = let i : ◌≡◌ {A = ℕ} 0 1 = cc in absurd (omega arith)
-
-pub inside_no : {n : ℕ} {f g : ℕ → ℕ} → NamesInside n f g false
-inside_no = record { says = λ t. no_yes t }
-
 -- ---- two elements
 
 pub pair_inside : {a : Algebra} {x y p k : ℕ} {g : ℕ → ℕ} {maps₀ marks₀ old maps marks : List ℕ} {r : Bool} → PairAsked a x y maps₀ marks₀ k → KeptHere a x y old maps marks p
@@ -51,19 +39,7 @@ pair_inside {a} i h d = record {
   says = λ t. joined_images (accepted_well_formed a i.accepted) (names_within (d.says t)) (kept_from i.accepted i.less i.below h).images;
 }
 
-pub next_same : {a : Algebra} {x y : ℕ} {g : ℕ → ℕ} {maps marks : List ℕ} → Keeping a maps marks → x ≡ y → NextInside a x y g maps marks true
-next_same {a} {x} {g = g} k e = record { keeping = k; says = λ t h. subst (λ (z : ℕ). ImagesJoined a x z g) e images_same }
-
-pub next_rising : {a : Algebra} {x y : ℕ} {g : ℕ → ℕ} {maps marks : List ℕ} {r : Bool} → PairInside a x y g maps marks r → NextInside a x y g maps marks r
-next_rising d = record { keeping = d.keeping; says = λ t h. d.says t }
-
-pub next_falling : {a : Algebra} {x y : ℕ} {g : ℕ → ℕ} {maps marks : List ℕ} {r : Bool} → PairInside a y x g maps marks r → NextInside a x y g maps marks r
-next_falling d = record { keeping = d.keeping; says = λ t h. images_swap (d.says t) }
-
 -- ---- all listed elements
-
-pub testing_none : {a : Algebra} {list maps marks : List ℕ} {g : ℕ → ℕ} → Keeping a maps marks → Testing a list 0 g maps marks (replicate 64 64)
-testing_none k = record { keeping = k; room = length-replicate {A = ℕ} 64 64; chained = λ k l. absurd (omega arith) }
 
 module _ {a : Algebra} {list maps marks last : List ℕ} {i count k : ℕ} {g : ℕ → ℕ} (t : Testing a list i g maps marks last) (asked : AllAsked a list count k g) (less : i < count) where
   element : byte list i < a.size
@@ -71,16 +47,6 @@ module _ {a : Algebra} {list maps marks last : List ℕ} {i count k : ℕ} {g : 
 
   block_small : g (byte list i) < 64
   block_small = omega (arith, element, asked.elements.canonical.below (byte list i) element, t.keeping.most)
-
-  pub last_asked : LastAsked a (byte list i) k g maps marks (length last)
-  last_asked = record {
-    keeping = t.keeping;
-    accepted = asked.accepted;
-    below = element;
-    room = asked.elements.room;
-    block = block_small;
-    last_room = t.room;
-  }
 
   -- one more element, joined with the last of its block
   seen_more : {maps' marks' : List ℕ} → NextInside a (byte last (g (byte list i))) (byte list i) g maps' marks' true → Testing a list (i + 1) g maps' marks' (set last (g (byte list i)) (byte list i))
@@ -117,11 +83,6 @@ module _ {a : Algebra} {list maps marks last : List ℕ} {i count k : ℕ} {g : 
             record { some = omega (arith, o, c.some); images = subst (λ (v : ℕ). ImagesJoined a v u g) (sym o) c.images }
       ]
 
-  pub testing_more : {maps' marks' last' : List ℕ} {r : Bool} → LastInside a (byte list i) g last last' maps' marks' r → r ≡ true → Testing a list (i + 1) g maps' marks' last'
-  testing_more {maps'} {marks'} {r = r} d e =
-      subst (λ (l : List ℕ). Testing a list (i + 1) g maps' marks' l) (sym d.now_last)
-      (seen_more (subst (λ (b : Bool). NextInside a (byte last (g (byte list i))) (byte list i) g maps' marks' b) e d.next))
-
 -- an element and a listed one of its block in f
 listed_images : {a : Algebra} {f g : ℕ → ℕ} → WellFormed a → Compatible a f → Within a.size f g → (x y : ℕ) → x < a.size → y < a.size → f x ≡ f y → ImagesJoined a x y g
 listed_images {a} {f} ok c w x y lx ly e = joined_images ok w (compatible_images a (λ z l. l) f c x y lx ly e)
@@ -146,9 +107,6 @@ proved_yes {a} {list} {last = last} {g = g} t asked l = record {
       (images_chain (images_swap (listed_images ok c w u x lu lx mx.1.1)) (images_chain middle (listed_images ok c w v y lv ly my.1.1))
       ).each j lj pre post s (below_all a.size pre p) (below_all a.size post q);
 }
-
-pub proved_no : {a : Algebra} {y count : ℕ} {list last last' maps marks : List ℕ} {g : ℕ → ℕ} {r : Bool} → LastInside a y g last last' maps marks r → Proved a list count g maps marks false
-proved_no d = record { keeping = d.next.keeping; compatible = λ t. no_yes t }
 
 -- where the names of a canonical f are listed they meet every block
 pub names_meet : {n count : ℕ} {f : ℕ → ℕ} (list : List ℕ) → Canonical n f → ((x : ℕ) → x < n → Listed list count (f x)) → Meets n f list count

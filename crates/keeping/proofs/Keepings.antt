@@ -1,12 +1,14 @@
 -- The laws of what is kept: maps that are alike are kept alike, what a pass makes is kept, and the invariant of the two slices is started, kept and read.
-use Prim.Native.Nat.{ℕ, ◌+◌, ◌*◌, ◌-◌, ◌≤◌, ◌<◌}
+use Prim.Native.Nat.{ℕ, ◌+◌, ◌*◌, ◌≤◌, ◌<◌}
 use mathlib.Core.Bool.{Bool, true, false}
 use mathlib.Core.List.{List, ◌∷◌, ◌++◌}
 use mathlib.Core.Path.{◌≡◌, refl, sym, ap, subst, ◌∙◌}
 use native.Mathlib.Decide.{ℕ_discrete}
 use native.Mathlib.Omega.{arith}
 use lib.Dec.{eqb}
-use lib.ListN.{length}
+use lib.ListN.{length, take}
+use Rattle.std.proofs.lemmas.List.{get_or-take}
+use Rattle.std.proofs.lemmas.Grind.{common_steps}
 use borrow.Author.Tests.{eqb-true}
 use Rattle.equivalence.specs.Equivalence.{byte}
 use Rattle.kernel.specs.InnerKernel.{Canonical, Within, Listed}
@@ -19,10 +21,10 @@ use Rattle.translation.specs.InnerTranslations.{result, Compatible}
 use Rattle.translation.proofs.Translations.{result_below}
 use Rattle.sweep.specs.InnerContexts.{OperationsIn, Contexts}
 use Rattle.sweep.specs.InnerQueue.{QueueState, Padded, Ready, Grown}
-use Rattle.sweep.specs.InnerSweeps.{Sweeping, Swept}
+use Rattle.sweep.specs.InnerSweeps.{Swept}
 use Rattle.sweep.proofs.Images.{images_kept, compatible_whole, compatible_images, all_map}
 use Rattle.sweep.proofs.Sweeps.{one_block}
-use Rattle.keeping.specs.InnerKeeping.{pair_place, ImagesJoined, Fresh, PassLent, PassStarted, PairKept, PairMade, kept_at, Keeping, mark_of, PlaceOf, Stored, KeptHere}
+use Rattle.keeping.specs.InnerKeeping.{pair_place, ImagesJoined, Fresh, PassStarted, PairKept, PairMade, kept_at, Keeping, mark_of, PlaceOf, Stored, KeptHere}
 use Rattle.keeping.proofs.PairPlaces.{place_small, place_once}
 use Rattle.keeping.proofs.Storing.{from, from_long, from_byte}
 
@@ -79,63 +81,63 @@ pub fresh_ready : {n k q : ℕ} {f g : ℕ → ℕ} → n ≤ 64 → q ≡ 64 �
 fresh_ready {n} {f = f} most room e = empty_ready most e.room room refl (identity_canonical n f (λ x l. e.own x (omega arith))) (λ x l h. e.own x h)
 
 -- x and y joined, above bytes that name themselves
-pub pass_started : {n x y k q : ℕ} {f g : ℕ → ℕ} {live : List ℕ} {t : QueueState} → Grown n (λ h. h x ≡ h y) (record { map = f; map_bytes = k; queue = g; queue_bytes = q; size = 0 }) t
-    → t.map x ≡ t.map y → Fresh k f → Fresh (length live) (byte live) → n ≤ 64 → PassStarted n x y t live
-pass_started {n} {f = f} d e i all most = record {
+pub pass_started : {n x y k q : ℕ} {f g : ℕ → ℕ} {t : QueueState} → Grown n (λ h. h x ≡ h y) (record { map = f; map_bytes = k; queue = g; queue_bytes = q; size = 0 }) t
+    → t.map x ≡ t.map y → Fresh k f → n ≤ 64 → PassStarted n x y t
+pass_started {n} {f = f} d e i most = record {
   ready = d.ready;
   joined = e;
   inside = λ h z. d.sound h z (identity_within n f h (λ x l. i.own x (omega arith)));
   lost = omega (arith, d.blocks, names_identity n f (λ x l. i.own x (omega arith)));
-  contexts = all;
 }
 
+-- the first n of bytes that name themselves
+module _ {n : ℕ} (most : n ≤ 64) (live : List ℕ) (e : Fresh (length live) (byte live)) where
+  first_long : length (take n live) ≡ n
+  first_long = let l : n ≤ length live = omega (arith, e.room) in grind (arith, common_steps)
+
+  first_own : (i : ℕ) → i < n → byte (take n live) i ≡ i
+  first_own i l = get_or-take n live i 0 l ∙ e.own i (omega arith)
+
+  first_listed : (c : ℕ) → c < n → Listed (take n live) (length (take n live)) c
+  first_listed c l = (c, (omega (arith, first_long), first_own c l))
+
+  first_below : (c : ℕ) → Listed (take n live) (length (take n live)) c → c < n
+  first_below c k = omega (arith, first_long, k.1.0, k.1.1, first_own k.0 (omega (arith, first_long, k.1.0)))
+
 -- all elements listed
-pub all_contexts : {n x y mb qb lb : ℕ} {arities cells live : List ℕ} {t : QueueState} → PassStarted n x y t live → PassLent (algebra_of n arities cells) mb qb lb x y → Contexts n cells live n
-all_contexts {n} {arities = arities} {cells} p h =
-    let ok = accepted_well_formed (algebra_of n arities cells) h.accepted in
-    let e = p.contexts in
+pub all_contexts : {n : ℕ} (arities : List ℕ) {cells : List ℕ} (live : List ℕ) → Accepted (algebra_of n arities cells) → Fresh (length live) (byte live) → Contexts n cells (take n live) (length (take n live))
+all_contexts {n} arities {cells} live h e =
+    let ok = accepted_well_formed (algebra_of n arities cells) h in
     record {
       cells_most = omega (arith, ok.filled, ok.room);
       cells_below = ok.below;
-      live_room = omega (arith, ok.most, e.room);
-      live_below = λ i l. omega (arith, e.own i (omega (arith, ok.most)));
+      live_room = omega arith;
+      live_below = λ i l. omega (arith, first_long ok.most live e, first_own ok.most live e i (omega (arith, first_long ok.most live e)));
     }
 
--- a pass whose end is one block, with no v and w
-pub start_sweeping : {n x y : ℕ} {live : List ℕ} {t : QueueState} → PassStarted n x y t live → x < y → y < n → Sweeping n (record { limit = n - 1; v = 0; w = 0 }) t
-start_sweeping p l h = record { ready = p.ready; left = omega arith; right = omega arith; blocks = omega (arith, p.lost) }
-
 -- what a pass with all elements as contexts leaves of x and y joined
-pub pass_made : {a : Algebra} {x y l mb qb mb' qb' lb r : ℕ} {f q : ℕ → ℕ} {live refused : List ℕ} {t : QueueState}
-    → Swept a.size refused (record { limit = l; v = 0; w = 0 }) (OperationsIn a (length a.arities) (Listed live a.size) x y) t (record { map = f; map_bytes = mb; queue = q; queue_bytes = qb; size = r })
-    → PassStarted a.size x y t live → PassLent a mb' qb' lb x y → PairMade a x y f r
-pass_made {a} {x} {y} {live = live} p i h = record {
+pub pass_made : {a : Algebra} {x y l mb qb r : ℕ} {f q : ℕ → ℕ} (live : List ℕ) {refused : List ℕ} {t : QueueState}
+    → Swept a.size refused (record { limit = l; v = 0; w = 0 }) (OperationsIn a (length a.arities) (Listed (take a.size live) (length (take a.size live))) x y) t
+    (record { map = f; map_bytes = mb; queue = q; queue_bytes = qb; size = r })
+    → PassStarted a.size x y t → Fresh (length live) (byte live) → Accepted a → x < y → y < a.size → PairMade a x y f r
+pass_made {a} {x} {y} live p i fresh accepted less ly = record {
   kept = record {
     canonical = p.sweeping.ready.queued.canonical;
     joined = p.grown.within x y lx ly i.joined;
     images = record {
-      each = λ j lj pre post z u v. (p.done (λ j. j.two refl)).each j lj pre post z (all_map listed pre u) (all_map listed post v);
+      each = λ j lj pre post z u v. (p.done (λ j. j.two refl)).each j lj pre post z (all_map (first_listed ok.most live fresh) pre u) (all_map (first_listed ok.most live fresh) post v);
     };
-    inside = λ g c e. p.grown.sound g (compatible_images a below g c x y lx ly e, λ p q lp lq k i. refl) (i.inside g e);
+    inside = λ g c e. p.grown.sound g (compatible_images a (first_below ok.most live fresh) g c x y lx ly e, λ p q lp lq k i. refl) (i.inside g e);
     padded = p.sweeping.ready.padded;
   };
   lost = omega (arith, p.grown.blocks, i.lost);
 }
   where
-    ly : y < a.size
-    ly = h.below
-
     lx : x < a.size
-    lx = omega (arith, h.less, h.below)
+    lx = omega arith
 
     ok : WellFormed a
-    ok = accepted_well_formed a h.accepted
-
-    listed : (c : ℕ) → c < a.size → Listed live a.size c
-    listed c lc = (c, (lc, i.contexts.own c (omega (arith, ok.most))))
-
-    below : (c : ℕ) → Listed live a.size c → c < a.size
-    below c k = omega (arith, k.1.0, k.1.1, i.contexts.own k.0 (omega (arith, k.1.0, ok.most)))
+    ok = accepted_well_formed a accepted
 
 -- ---- marks
 
@@ -225,8 +227,3 @@ kept_room {p = p} {maps} k e = omega (arith, from_long (p * 64) maps, k.most, k.
 pub kept_from : {a : Algebra} {x y p : ℕ} {old maps marks : List ℕ} → Accepted a → x < y → y < a.size → KeptHere a x y old maps marks p → PairKept a x y (byte (from (p * 64) maps))
 kept_from {a} {p = p} {maps = maps} ok l h k =
     alike_kept (accepted_well_formed a ok) (λ z lz. from_byte (p * 64) maps z) (omega arith) h (keeping_at k.keeping l h k.place k.some)
-
--- both, as a join asks them
-pub kept_joinable : {a : Algebra} {x y p : ℕ} {old maps marks : List ℕ} → KeptHere a x y old maps marks p → Accepted a → x < y → y < a.size
-    → (a.size ≤ length (from (p * 64) maps)) × Canonical a.size (byte (from (p * 64) maps))
-kept_joinable k ok l h = (kept_room k.keeping k.place, (kept_from ok l h k).canonical)

@@ -4,7 +4,6 @@ use Rattle.equivalence.specs.Equivalence.{byte}
 use Rattle.pairorder.specs.Order.{row_start}
 use Rattle.kernel.specs.InnerKernel.{Canonical, Within, names}
 use Rattle.algebra.specs.Algebra.{Algebra}
-use Rattle.algebra.specs.Accepted.{Accepted}
 use Rattle.translation.specs.InnerTranslations.{Compatible}
 use Rattle.sweep.specs.InnerQueue.{QueueState, Padded, Ready}
 use Rattle.sweep.specs.InnerContexts.{OperationsIn}
@@ -22,23 +21,12 @@ pub record Fresh (k : ℕ) (f : ℕ → ℕ) : Type 0 where
   pub room : k ≡ 64
   pub own : (x : ℕ) → x < 64 → f x ≡ x
 
--- what a pass over the images of x and y is lent: a map, a queue and contexts of 64 bytes each
-pub record PassLent (a : Algebra) (map_bytes queue_bytes live-bytes x y : ℕ) : Type 0 where
-  pub accepted : Accepted a
-  pub most : a.size ≤ 64
-  pub map_room : map_bytes ≡ 64
-  pub queue_room : queue_bytes ≡ 64
-  pub live_room : live-bytes ≡ 64
-  pub less : x < y
-  pub below : y < a.size
-
--- where the pass begins: x and y are joined and nothing else, and the contexts are all elements
-pub record PassStarted (n x y : ℕ) (s : QueueState) (live : List ℕ) : Type 0 where
+-- where the pass begins: x and y are joined and nothing else
+pub record PassStarted (n x y : ℕ) (s : QueueState) : Type 0 where
   pub ready : Ready n s
   pub joined : s.map x ≡ s.map y
   pub inside : (g : ℕ → ℕ) → g x ≡ g y → Within n s.map g
   pub lost : s.size + names n s.map ≡ n
-  pub contexts : Fresh (length live) (byte live)
 
 -- f joins x and y and their images under every translation, and lies inside every congruence that joins x and y; past n its 64 bytes name themselves
 pub record PairKept (a : Algebra) (x y : ℕ) (f : ℕ → ℕ) : Type 0 where

@@ -118,13 +118,11 @@ pub record Worked (a : Algebra) (v w : ℕ) (f : ℕ → ℕ) (maps marks : List
   pub sure_room : sure-bytes ≡ 64
   pub closed : ClosedUnless a v w f f' r
 
--- what it takes to make up a kept map with its queue, of 64 bytes each
-pub record Rebuilding (n p : ℕ) (maps : List ℕ) (map_bytes queue_bytes : ℕ) : Type 0 where
+-- what it takes to make up a kept map with its queue
+pub record Rebuilding (n p : ℕ) (maps : List ℕ) : Type 0 where
   pub most : n ≤ 64
   pub small : p < 2016
   pub maps_room : length maps ≡ 129024
-  pub map_room : map_bytes ≡ 64
-  pub queue_room : queue_bytes ≡ 64
   pub canonical : Canonical n (kept_at maps p)
 
 -- the map joins what f joins and nothing else; whatever is no name in it is queued

@@ -20,15 +20,7 @@ fn is_inside(n: usize, kept: &[u8], up: &[u8]) -> bool
     requires n_in_bounds_2 { n ≤ length up.now }
     ensures { NamesInside n (byte kept.now) (byte up.now) result }
 {
-    let mut z = 0;
-    while z < n {
-        let name = kept[z] as usize;
-        if up[z] != up[name] {
-            return false;
-        }
-        z += 1;
-    }
-    true
+    (0..n).all(|z| up[z] == up[kept[z] as usize])
 }
 
 // Whether what is kept for x < y lies inside `up`.
@@ -117,12 +109,10 @@ fn all_inside(
     requires testing { Testing (algebra_in n arities cells) names.now 0 (byte up.now) maps.old marks.old last.old }
     ensures { Proved (algebra_in n arities.entry cells.entry) names.now count (byte up.now) maps.new marks.new result }
 {
-    let mut i = 0;
-    while i < count {
+    for i in 0..count {
         if !last_inside(maps, marks, n, arities, cells, names[i], up, last) {
             return false;
         }
-        i += 1;
     }
     true
 }

@@ -2,35 +2,33 @@
 ghost use Rattle.std.specs.Prelude.{◌≡◌, ◌<◌, ◌≤◌, length};
 ghost use Rattle.equivalence.specs.Equivalence.{byte};
 ghost use Rattle.kernel.specs.InnerKernel.{Canonical};
-ghost use Rattle.sweep.specs.InnerQueue.{state, Ready, Grown};
+ghost use Rattle.sweep.specs.InnerQueue.{state_of, Ready, Grown};
 ghost use Rattle.keeping.specs.InnerPrincipal.{JoinedTo};
 
-// Joins z with its name. How many elements are queued then.
-fn join_name(m: &mut [u8], n: usize, queue: &mut [u8], len: usize, z: usize, name: u8) -> usize
-    requires ready { Ready n (state m.old queue.old len) }
+use sweep::queue::Merging;
+
+// Joins z with its name.
+fn join_name(merging: &mut Merging, n: usize, z: usize, name: u8)
+    requires ready { Ready n (state_of merging.old) }
     requires z_lt_n { z < n }
     requires name_lt_n { name < n }
-    ensures grown { Grown n (λ g. g z ≡ g name) (state m.old queue.old len) (state m.new queue.new result) }
-    ensures z_after { byte m.new z ≡ byte m.new name }
+    ensures grown { Grown n (λ g. g z ≡ g name) (state_of merging.old) (state_of merging.new) }
+    ensures z_after { byte merging.new.map z ≡ byte merging.new.map name }
 {
     if name as usize == z {
-        return len;
+        return;
     }
-    sweep::queue::merge_queued(m, n, queue, len, z as u8, name)
+    merging.merge(n, z as u8, name);
 }
 
-// Joins each element with its name in `kept`. How many elements are queued then.
-pub fn join_kept(m: &mut [u8], n: usize, queue: &mut [u8], start: usize, kept: &[u8]) -> usize
-    requires ready { Ready n (state m.old queue.old start) }
+// Joins each element with its name in `kept`.
+pub fn join_kept(merging: &mut Merging, n: usize, kept: &[u8])
+    requires ready { Ready n (state_of merging.old) }
     requires n_in_bounds { n ≤ length kept.now }
     requires canonical { Canonical n (byte kept.now) }
-    ensures { JoinedTo n n (byte kept.now) (state m.old queue.old start) (state m.new queue.new result) }
+    ensures { JoinedTo n n (byte kept.now) (state_of merging.old) (state_of merging.new) }
 {
-    let mut len = start;
-    let mut z = 0;
-    while z < n {
-        len = join_name(m, n, queue, len, z, kept[z]);
-        z += 1;
+    for z in 0..n {
+        join_name(merging, n, z, kept[z]);
     }
-    len
 }

@@ -5,16 +5,17 @@ ghost use Rattle.equivalence.specs.Equivalence.{byte};
 ghost use Rattle.kernel.specs.InnerKernel.{Canonical};
 ghost use Rattle.algebra.specs.Algebra.{algebra_in};
 ghost use Rattle.algebra.specs.Accepted.{Accepted};
-ghost use Rattle.sweep.specs.InnerQueue.{state};
+ghost use Rattle.sweep.specs.InnerQueue.{state_of};
 ghost use Rattle.keeping.specs.InnerKeeping.{kept_at, Keeping};
 ghost use Rattle.keeping.specs.InnerPrincipal.{FullMap, Trusted, Taking, Taken, Absorbing, Absorbed, Working, Worked, Rebuilding, Rebuilt, Growing, PairGrown, PrincipalHere};
 
 use crate::WHOLE;
 use crate::join::join_kept;
 use crate::pairs::{fresh, keep_pair, mark_of, store};
+use sweep::queue::Merging;
 
 // Where the map `kept` is whole, `sure` is joined with it.
-fn trust(sure: &mut [u8], n: usize, kept: &[u8], mark: u8)
+fn trust(sure: &mut [u8; 64], n: usize, kept: &[u8], mark: u8)
     requires full_map { FullMap n (length sure.old) (byte sure.old) }
     requires n_in_bounds { n ≤ length kept.now }
     requires canonical { Canonical n (byte kept.now) }
@@ -23,102 +24,104 @@ fn trust(sure: &mut [u8], n: usize, kept: &[u8], mark: u8)
     if mark != WHOLE {
         return;
     }
-    let mut spare = [0u8; 64];
-    let lost = join_kept(sure, n, &mut spare, 0, kept);
+    let mut merging = Merging {
+        map: *sure,
+        queue: [0u8; 64],
+        len: 0,
+    };
+    join_kept(&mut merging, n, kept);
+    *sure = merging.map;
 }
 
-// What is kept for x and y is joined with m, and with `sure` where it is whole. How many elements are queued then.
+// What is kept for x and y is joined, and with `sure` too where it is whole.
 fn take(
     maps: &mut [u8],
     marks: &mut [u8],
-    m: &mut [u8],
+    merging: &mut Merging,
+    sure: &mut [u8; 64],
     n: usize,
-    queue: &mut [u8],
-    len: usize,
-    sure: &mut [u8],
     arities: &[u8],
     cells: &[u8],
     x: usize,
     y: usize,
-) -> usize
-    requires { Taking (algebra_in n arities cells) x y maps.old marks.old (state m.old queue.old len) (length sure.old) (byte sure.old) }
-    ensures { Taken (algebra_in n arities.entry cells.entry) x y (state m.old queue.old len) (state m.new queue.new result) (byte sure.old) (length sure.new) (byte sure.new) maps.new marks.new }
+)
+    requires { Taking (algebra_in n arities cells) x y maps.old marks.old (state_of merging.old) (length sure.old) (byte sure.old) }
+    ensures { Taken (algebra_in n arities.entry cells.entry) x y (state_of merging.old) (state_of merging.new) (byte sure.old) (length sure.new) (byte sure.new) maps.new marks.new }
 {
     let p = keep_pair(maps, marks, n, arities, cells, x, y);
     let at = p * 64;
     trust(sure, n, &maps[at..], marks[p]);
-    join_kept(m, n, queue, len, &maps[at..])
+    join_kept(merging, n, &maps[at..]);
 }
 
-// Takes the last element of the queue. Where `sure`, a congruence inside m, joins it with its name, so does m with all their images; else what is kept for the two is
-// joined. How many elements are queued then.
+// Takes the last element of the queue. Where `sure`, a congruence inside the map, joins it with its name, so does the map with all their images; else what is kept for
+// the two is joined.
 fn absorb(
     maps: &mut [u8],
     marks: &mut [u8],
-    m: &mut [u8],
+    merging: &mut Merging,
+    sure: &mut [u8; 64],
     n: usize,
-    queue: &mut [u8],
-    len: usize,
-    sure: &mut [u8],
     arities: &[u8],
     cells: &[u8],
-) -> usize
-    requires { Absorbing (algebra_in n arities cells) maps.old marks.old (state m.old queue.old len) (length sure.old) (byte sure.old) }
-    ensures { Absorbed (algebra_in n arities.entry cells.entry) (state m.old queue.old len) (state m.new queue.new result) maps.new marks.new (length sure.new) (byte sure.new) }
+)
+    requires { Absorbing (algebra_in n arities cells) maps.old marks.old (state_of merging.old) (length sure.old) (byte sure.old) }
+    ensures { Absorbed (algebra_in n arities.entry cells.entry) (state_of merging.old) (state_of merging.new) maps.new marks.new (length sure.new) (byte sure.new) }
 {
-    let last = len - 1;
-    let b = queue[last] as usize;
-    let a = m[b] as usize;
+    merging.len -= 1;
+    let b = merging.queue[merging.len] as usize;
+    let a = merging.map[b] as usize;
     if sure[a] == sure[b] {
-        return last;
+        return;
     }
-    take(maps, marks, m, n, queue, last, sure, arities, cells, a, b)
+    take(maps, marks, merging, sure, n, arities, cells, a, b);
 }
 
-// Takes queued elements until none is left or v and w are joined. How many are queued then.
+// Takes queued elements until none is left or v and w are joined.
 fn absorb_all(
     maps: &mut [u8],
     marks: &mut [u8],
-    m: &mut [u8],
+    merging: &mut Merging,
+    sure: &mut [u8; 64],
     n: usize,
-    queue: &mut [u8],
-    start: usize,
-    sure: &mut [u8],
     arities: &[u8],
     cells: &[u8],
     v: usize,
     w: usize,
-) -> usize
-    requires working { Working (algebra_in n arities cells) (byte m.old) maps.old marks.old (state m.old queue.old start) (length sure.old) (byte sure.old) }
+)
+    requires working { Working (algebra_in n arities cells) (byte merging.old.map) maps.old marks.old (state_of merging.old) (length sure.old) (byte sure.old) }
     requires v_lt_n { v < n }
     requires w_lt_n { w < n }
-    ensures { Worked (algebra_in n arities.entry cells.entry) v w (byte m.old) maps.new marks.new (length m.new) (byte m.new) result (length sure.new) }
+    ensures { Worked (algebra_in n arities.entry cells.entry) v w (byte merging.old.map) maps.new marks.new (length merging.new.map) (byte merging.new.map) merging.new.len (length sure.new) }
 {
-    let mut len = start;
-    while len > 0 {
-        if m[v] == m[w] {
-            return len;
+    // A `while`: the queue grows in it.
+    while merging.len > 0 {
+        if merging.map[v] == merging.map[w] {
+            return;
         }
-        len = absorb(maps, marks, m, n, queue, len, sure, arities, cells);
+        absorb(maps, marks, merging, sure, n, arities, cells);
     }
-    len
 }
 
-// The map kept at p goes to m, and what is no name in it to the queue. How many elements are queued.
-fn rebuild(maps: &[u8], m: &mut [u8], n: usize, queue: &mut [u8], p: usize) -> usize
-    requires { Rebuilding n p maps.now (length m.old) (length queue.old) }
-    ensures { Rebuilt n (kept_at maps.now p) (state m.new queue.new result) }
+// The map kept at p, with what is no name in it queued.
+fn rebuild(maps: &[u8], n: usize, p: usize) -> Merging
+    requires { Rebuilding n p maps.now }
+    ensures { Rebuilt n (kept_at maps.now p) (state_of result) }
 {
-    fresh(m);
+    let mut merging = Merging {
+        map: fresh(),
+        queue: [0u8; 64],
+        len: 0,
+    };
     let at = p * 64;
-    join_kept(m, n, queue, 0, &maps[at..])
+    join_kept(&mut merging, n, &maps[at..]);
+    merging
 }
 
-// The map kept for x and y at p, grown in m until it is a congruence or joins v and w. How many elements are queued then: none where it is a congruence.
+// The map kept for x and y at p, grown until it is a congruence or joins v and w. Nothing is queued then where it is a congruence.
 fn close(
     maps: &mut [u8],
     marks: &mut [u8],
-    m: &mut [u8],
     n: usize,
     arities: &[u8],
     cells: &[u8],
@@ -127,18 +130,24 @@ fn close(
     p: usize,
     v: usize,
     w: usize,
-) -> usize
-    requires growing { Growing (algebra_in n arities cells) x y p v w maps.old marks.old }
-    requires m_len { length m.old ≡ 64 }
-    ensures { PairGrown (algebra_in n arities.entry cells.entry) x y v w maps.new marks.new (length m.new) (byte m.new) result }
+) -> Merging
+    requires { Growing (algebra_in n arities cells) x y p v w maps.old marks.old }
+    ensures { PairGrown (algebra_in n arities.entry cells.entry) x y v w maps.new marks.new (length result.map) (byte result.map) result.len }
 {
-    let mut queue = [0u8; 64];
-    let mut sure = [0u8; 64];
-    fresh(&mut sure);
-    let len = rebuild(maps, m, n, &mut queue, p);
+    let mut merging = rebuild(maps, n, p);
+    let mut sure = fresh();
     absorb_all(
-        maps, marks, m, n, &mut queue, len, &mut sure, arities, cells, v, w,
-    )
+        maps,
+        marks,
+        &mut merging,
+        &mut sure,
+        n,
+        arities,
+        cells,
+        v,
+        w,
+    );
+    merging
 }
 
 // A map of x and y is kept that is a congruence, or joins v and w: the one at p, grown.
@@ -157,9 +166,8 @@ fn grow(
     requires { Growing (algebra_in n arities cells) x y p v w maps.old marks.old }
     ensures { PrincipalHere (algebra_in n arities.entry cells.entry) x y v w maps.new marks.new p }
 {
-    let mut m = [0u8; 64];
-    let left = close(maps, marks, &mut m, n, arities, cells, x, y, p, v, w);
-    store(maps, marks, p, &m, mark_of(left == 0));
+    let grown = close(maps, marks, n, arities, cells, x, y, p, v, w);
+    store(maps, marks, p, &grown.map, mark_of(grown.len == 0));
 }
 
 // At the place of x and y, which is the answer, is then a map that is the least congruence that joins them, or one inside it that joins v and w.

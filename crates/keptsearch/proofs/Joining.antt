@@ -7,30 +7,20 @@ use native.Mathlib.Omega.{arith}
 use lib.ListN.{length}
 use Rattle.equivalence.specs.Equivalence.{byte}
 use Rattle.equivalence.specs.declared.Pair.{Pair}
-use Rattle.kernel.specs.InnerKernel.{Canonical, Within}
+use Rattle.kernel.specs.InnerKernel.{Within}
 use Rattle.algebra.specs.Accepted.{Accepted}
 use Rattle.algebra.specs.Algebra.{algebra_of}
 use Rattle.algebra.proofs.Accepted.{WellFormed, accepted_well_formed}
-use Rattle.translation.specs.InnerTranslations.{Compatible, Closed}
-use Rattle.sweep.specs.InnerQueue.{QueueState}
+use Rattle.translation.specs.InnerTranslations.{Closed}
 use Rattle.keeping.specs.InnerKeeping.{PairKept, kept_at, Keeping, PlaceOf}
-use Rattle.keeping.specs.InnerPrincipal.{JoinedTo, FullMap, PrincipalHere}
+use Rattle.keeping.specs.InnerPrincipal.{PrincipalHere}
 use Rattle.keeping.proofs.Storing.{from, from_byte}
 use Rattle.keeping.proofs.Keepings.{alike_compatible, alike_kept, keeping_at, keeping_whole, kept_room}
 use Rattle.keeping.proofs.Closings.{names_within, principal_from}
 use Rattle.bounding.specs.InnerSettled.{Settled}
 use Rattle.bounding.proofs.Settling.{settled_pass, settled_take, settled_skip, settled_row, settled_skip_row}
-use Rattle.keptsearch.specs.InnerRows.{AlwaysJoins, RowJoined, KeptStanding, RowLent, WithKept, Generating}
-use Rattle.keptsearch.proofs.Rowing.{with_closed, joined_start, joined_grow, joined_next, joined_stop, joined_settled}
-
--- a join with a queue that is not used
-pub joined_with : {n : ℕ} {f : ℕ → ℕ} {s t : QueueState} → JoinedTo n n f s t → WithKept n t.map_bytes f s.map t.map
-joined_with d = record {
-  full = record { most = d.grown.ready.most; room = d.grown.ready.map_room; canonical = d.grown.ready.queued.canonical; padded = d.grown.ready.padded };
-  within = d.grown.within;
-  joined = d.joined;
-  least = d.grown.sound;
-}
+use Rattle.keptsearch.specs.InnerRows.{AlwaysJoins, KeptStanding, RowLent, WithKept, Generating}
+use Rattle.keptsearch.proofs.Rowing.{with_closed, joined_start, joined_grow, joined_next, joined_settled}
 
 -- ---- what is kept for a pair
 
@@ -80,22 +70,11 @@ module _ {n : ℕ} {arities cells m : List ℕ} {marked : Pair} {x : ℕ} where
     row_next : (byte m y ≡ y → (byte all x ≡ byte all y) ⊎ AlwaysJoins (algebra_of n arities cells) marked.x marked.y x y) → RowLent n arities cells m all marked x (y + 1)
     row_next t = record { standing = r.standing; below = r.below; named = r.named; full = r.full; joined = joined_next (algebra_of n arities cells) _ _ x r.joined t }
 
-    -- y is no name, or joined, or joins the marked elements
-    pub row_unnamed : (byte m y ≡ y → ⊥) → RowLent n arities cells m all marked x (y + 1)
-    row_unnamed d = row_next (λ e. absurd (d e))
-
     pub row_held : byte all x ≡ byte all y → RowLent n arities cells m all marked x (y + 1)
     row_held e = row_next (λ i. inl e)
 
     pub row_joins : AlwaysJoins (algebra_of n arities cells) marked.x marked.y x y → RowLent n arities cells m all marked x (y + 1)
     row_joins j = row_next (λ i. inr j)
-
-    -- the marked elements are joined
-    pub row_stop : byte all marked.x ≡ byte all marked.y → RowLent n arities cells m all marked x n
-    row_stop e = record { standing = r.standing; below = r.below; named = r.named; full = r.full; joined = joined_stop (algebra_of n arities cells) _ _ x r.joined n e }
-
-    pub row_end : y ≤ n → n ≤ y → RowLent n arities cells m all marked x n
-    row_end l h = let e : y ≡ n = omega arith in subst (λ (z : ℕ). RowLent n arities cells m all marked x z) e r
 
   -- the row is taken whole
   pub row_taken : {all m' : List ℕ} → RowLent n arities cells m all marked x n → (byte all marked.x ≡ byte all marked.y → ⊥) → m' ≡ all → KeptStanding n arities cells m' marked (x + 1) (x + 2)
@@ -119,10 +98,6 @@ row_widened {x = x} {y} all' r l h g j = row_held (row_grow r all' (omega arith)
 module _ {n : ℕ} {arities cells m : List ℕ} {marked : Pair} where
   standing_as : {x y x' y' : ℕ} → KeptStanding n arities cells m marked x y → Settled (algebra_of n arities cells) marked.x marked.y x' y' (byte m) → KeptStanding n arities cells m marked x' y'
   standing_as s t = record { accepted = s.accepted; size = s.size; map_room = s.map_room; padded = s.padded; left = s.left; right = s.right; settled = t }
-
-  -- a copy of the map that stands
-  pub standing_full : {all : List ℕ} {x y : ℕ} → KeptStanding n arities cells m marked x y → all ≡ m → FullMap n (length all) (byte all)
-  standing_full s e = rw e (record { most = s.size; room = s.map_room; canonical = s.settled.canonical; padded = s.padded })
 
   module _ {x y : ℕ} (s : KeptStanding n arities cells m marked x y) (l : x < y) (h : y < n) where
     pub pair_skipped : (byte m y ≡ y → ⊥) → KeptStanding n arities cells m marked x (y + 1)

@@ -18,7 +18,7 @@ use Rattle.algebra.proofs.Accepted.{accepted_well_formed}
 use Rattle.translation.specs.InnerTranslations.{Refined}
 use Rattle.translation.proofs.Translations.{identity_compatible}
 use Rattle.refinement.specs.InnerSplitting.{Represented}
-use Rattle.keeping.specs.InnerInside.{ListedElements, Proved}
+use Rattle.keeping.specs.InnerInside.{Proved}
 use Rattle.keeping.proofs.Insides.{names_meet}
 use Rattle.bounding.specs.InnerSettled.{Earliest}
 use Rattle.bounding.specs.InnerBounds.{NamesAmong, RowSettled, BoundLent, Tightened}
@@ -114,9 +114,6 @@ module _ {n : ℕ} {arities cells : List ℕ} {marked : Pair} where
 -- ---- a bound that kept pairs show to be a congruence
 
 module _ {a : Algebra} {names : List ℕ} {count : ℕ} {e : ℕ → ℕ} (h : Represented a names count e) (c : Canonical a.size e) where
-  pub represented_elements : {k : ℕ} → a.size ≤ k → ListedElements a.size names count k e
-  represented_elements room = record { most = h.elements.room; below = h.elements.below; room = room; canonical = c }
-
   -- it is then the greatest congruence inside itself
   pub proved_refined : {maps marks : List ℕ} {r : Bool} → Proved a names count e maps marks r → r ≡ true → Refined a e e
   proved_refined p said = record {

@@ -1,15 +1,15 @@
 -- A row joined from kept pairs: it begins at f, grows by a congruence of a pair of the row, tries pairs, and settles the row where it holds v and w apart.
 use Prim.Native.Nat.{ℕ, ◌+◌, ◌≤◌, ◌<◌}
 use mathlib.Core.Logic.{◌⊎◌, inl, inr}
-use mathlib.Core.Path.{◌≡◌, refl, sym, ap, ◌∙◌}
+use mathlib.Core.Path.{◌≡◌, sym, ap, ◌∙◌}
 use native.Mathlib.Decide.{dec_lt, ℕ_discrete}
 use native.Mathlib.Omega.{arith}
-use Rattle.kernel.specs.InnerKernel.{Canonical, Within}
+use Rattle.kernel.specs.InnerKernel.{Within}
 use Rattle.algebra.specs.Algebra.{Algebra}
 use Rattle.algebra.proofs.Accepted.{WellFormed}
 use Rattle.translation.specs.InnerTranslations.{Compatible, Closed}
 use Rattle.keeping.proofs.Closings.{names_within, within_names, least_compatible}
-use Rattle.bounding.specs.InnerSettled.{Before, KeepsBefore, Refused, Settled}
+use Rattle.bounding.specs.InnerSettled.{KeepsBefore, Settled}
 use Rattle.keptsearch.specs.InnerRows.{AlwaysJoins, RowJoined, WithKept}
 
 -- f joined with the least congruence that joins x and y is the least congruence above f that does
@@ -65,10 +65,6 @@ module _ (a : Algebra) (v w x : ℕ) where
         | no h ↦ let i : z ≡ y = omega arith in rw (sym i) at t name
       ];
     }
-
-    -- v and w are joined: no further pair matters
-    pub joined_stop : (y' : ℕ) → e v ≡ e w → RowJoined a v w x y' f e
-    joined_stop y' i = record { canonical = r.canonical; compatible = r.compatible; above = r.above; own = r.own; tried = λ apart. absurd (apart i) }
 
   -- the whole row holds v and w apart: it is what the pairs one by one give
   pub joined_settled : {f e : ℕ → ℕ} → x < a.size → f x ≡ x → Settled a v w x (x + 1) f → RowJoined a v w x a.size f e → ¬ (e v ≡ e w) → Settled a v w (x + 1) (x + 2) e

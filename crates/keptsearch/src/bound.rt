@@ -14,14 +14,6 @@ use bounding::blocks::two_blocks;
 use equivalence::Pair;
 use keeping::inside::is_proved;
 
-// 1 where a test holds, else 0.
-fn one_if(test: bool) -> usize
-    ensures value { result ≡ bit test }
-    ensures upper_bound { result ≤ 1 }
-{
-    if test { 1 } else { 0 }
-}
-
 // Lists the names of m. How many there are.
 fn list_names(m: &[u8], n: usize, names: &mut [u8]) -> usize
     requires n_bound { n ≤ 64 }
@@ -30,11 +22,9 @@ fn list_names(m: &[u8], n: usize, names: &mut [u8]) -> usize
     ensures { NamesAmong n (byte m.now) names.new result }
 {
     let mut len = 0;
-    let mut x = 0;
-    while x < n {
+    for x in 0..n {
         names[len] = x as u8;
-        len += one_if(m[x] == x as u8);
-        x += 1;
+        len += usize::from(m[x] as usize == x);
     }
     len
 }

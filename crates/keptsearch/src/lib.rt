@@ -10,43 +10,14 @@ ghost use Rattle.bounding.specs.InnerSettled.{Earliest};
 ghost use Rattle.keeping.specs.InnerKeeping.{Keeping};
 
 use equivalence::Pair;
-use equivalence::blocks::identity;
+use keeping::pairs::fresh;
 
 mod bound;
 mod pairs;
 mod row;
 mod search;
 
-// `earliest_apart` with room for a map and a table for meets. The search begins at the identity, and its bound, which becomes the answer, at the map with one block.
-fn earliest_apart_in(
-    maps: &mut [u8],
-    marks: &mut [u8],
-    m: &mut [u8],
-    table: &mut [u8],
-    n: usize,
-    arities: &[u8],
-    cells: &[u8],
-    marked: Pair,
-    out: &mut [u8],
-)
-    requires keeping { Keeping (algebra_in n arities cells) maps.old marks.old }
-    requires accepted { Accepted (algebra_in n arities cells) }
-    requires m_len { length m.old ≡ 64 }
-    requires table_len { length table.old ≡ 4096 }
-    requires x_lt_n { marked.x < n }
-    requires y_lt_n { marked.y < n }
-    requires n_in_bounds { n ≤ length out.old }
-    requires fact { marked.x ≡ marked.y → ⊥ }
-    ensures keeping_2 { Keeping (algebra_in n arities.entry cells.entry) maps.new marks.new }
-    ensures earliest { Earliest (algebra_in n arities.entry cells.entry) marked.x marked.y (byte out.new) }
-    ensures kept_past { KeptPast n (byte out.old) (byte out.new) }
-{
-    identity(64, m);
-    maplist::whole_into(n, out);
-    search::settle_rows(maps, marks, m, table, out, n, arities, cells, marked);
-}
-
-// The earliest congruence that holds v and w apart goes to the first n bytes of out; those past n keep their value. What is kept of pairs in `maps` and `marks` is used, and more is kept.
+// The earliest congruence that holds v and w apart goes to the first n bytes of out; those past n keep their value. What is kept of pairs in `maps` and `marks` is used, and more is kept. The search begins at the identity, and its bound, which becomes the answer, at the map with one block.
 pub fn earliest_apart(
     maps: &mut [u8],
     marks: &mut [u8],
@@ -67,17 +38,18 @@ pub fn earliest_apart(
     ensures earliest { Earliest (algebra_in n arities.entry cells.entry) v w (byte out.new) }
     ensures kept_past { KeptPast n (byte out.old) (byte out.new) }
 {
-    let mut m = [0u8; 64];
+    let mut m = fresh();
     let mut table = [0u8; 4096];
-    earliest_apart_in(
+    maplist::whole_into(n, out);
+    search::settle_rows(
         maps,
         marks,
         &mut m,
         &mut table,
+        out,
         n,
         arities,
         cells,
         Pair { x: v, y: w },
-        out,
     );
 }

@@ -6,12 +6,11 @@ ghost use Rattle.keptsearch.specs.InnerRows.{KeptStanding, Generating};
 
 use crate::row::unite;
 use equivalence::Pair;
-use equivalence::blocks::copy;
 use keeping::principal::principal;
 
 // m is joined with the map `kept`, the least congruence that joins x and y, where the marked elements stay apart.
 fn take_apart(
-    m: &mut [u8],
+    m: &mut [u8; 64],
     kept: &[u8],
     n: usize,
     arities: &[u8],
@@ -26,22 +25,21 @@ fn take_apart(
     requires generating { Generating (algebra_in n arities cells) x y kept.now }
     ensures { KeptStanding n arities.now cells.now m.new marked x (y + 1) }
 {
-    let mut all = [0u8; 64];
-    copy(64, m, &mut all);
+    let mut all = *m;
     unite(&mut all, n, kept);
     let v = marked.x;
     let w = marked.y;
     if all[v] == all[w] {
         return;
     }
-    copy(64, &all, m);
+    *m = all;
 }
 
 // Settles a pair: where its second element is no name, the pair of names stands for it; else it is taken where the marked elements stay apart.
 fn settle_pair(
     maps: &mut [u8],
     marks: &mut [u8],
-    m: &mut [u8],
+    m: &mut [u8; 64],
     n: usize,
     arities: &[u8],
     cells: &[u8],
@@ -73,7 +71,7 @@ fn settle_pair(
 pub fn settle_pairs(
     maps: &mut [u8],
     marks: &mut [u8],
-    m: &mut [u8],
+    m: &mut [u8; 64],
     n: usize,
     arities: &[u8],
     cells: &[u8],
@@ -86,9 +84,7 @@ pub fn settle_pairs(
     ensures keeping_2 { Keeping (algebra_in n arities.entry cells.entry) maps.new marks.new }
     ensures kept_standing_2 { KeptStanding n arities.now cells.now m.new marked (x + 1) (x + 2) }
 {
-    let mut y = x + 1;
-    while y < n {
+    for y in x + 1..n {
         settle_pair(maps, marks, m, n, arities, cells, marked, x, y);
-        y += 1;
     }
 }

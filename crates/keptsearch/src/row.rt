@@ -12,16 +12,22 @@ use keeping::WHOLE;
 use keeping::join::join_kept;
 use keeping::pairs::place;
 use keeping::principal::principal;
+use sweep::queue::Merging;
 
 // Joins each element with its name in `kept`.
-pub fn unite(all: &mut [u8], n: usize, kept: &[u8])
+pub fn unite(all: &mut [u8; 64], n: usize, kept: &[u8])
     requires full_map { FullMap n (length all.old) (byte all.old) }
     requires n_in_bounds { n ≤ length kept.now }
     requires canonical { Canonical n (byte kept.now) }
     ensures { WithKept n (length all.new) (byte kept.now) (byte all.old) (byte all.new) }
 {
-    let mut queue = [0u8; 64];
-    let lost = join_kept(all, n, &mut queue, 0, kept);
+    let mut merging = Merging {
+        map: *all,
+        queue: [0u8; 64],
+        len: 0,
+    };
+    join_kept(&mut merging, n, kept);
+    *all = merging.map;
 }
 
 // Joins what is kept for x and y, where that is a congruence that holds the marked elements apart, and does not give anything that is there already.
@@ -29,7 +35,7 @@ fn take_whole(
     maps: &[u8],
     marks: &[u8],
     m: &[u8],
-    all: &mut [u8],
+    all: &mut [u8; 64],
     n: usize,
     arities: &[u8],
     cells: &[u8],
@@ -67,7 +73,7 @@ fn take_all_whole(
     maps: &[u8],
     marks: &[u8],
     m: &[u8],
-    all: &mut [u8],
+    all: &mut [u8; 64],
     n: usize,
     arities: &[u8],
     cells: &[u8],
@@ -80,12 +86,10 @@ fn take_all_whole(
 {
     let v = marked.x;
     let w = marked.y;
-    let mut y = n;
-    while y > x + 1 {
+    for y in (x + 1..n).rev() {
         if all[v] == all[w] {
             return;
         }
-        y -= 1;
         take_whole(maps, marks, m, all, n, arities, cells, marked, x, y);
     }
 }
@@ -95,7 +99,7 @@ fn widen(
     maps: &mut [u8],
     marks: &mut [u8],
     m: &[u8],
-    all: &mut [u8],
+    all: &mut [u8; 64],
     n: usize,
     arities: &[u8],
     cells: &[u8],
@@ -131,7 +135,7 @@ pub fn join_row(
     maps: &mut [u8],
     marks: &mut [u8],
     m: &[u8],
-    all: &mut [u8],
+    all: &mut [u8; 64],
     n: usize,
     arities: &[u8],
     cells: &[u8],
@@ -146,12 +150,10 @@ pub fn join_row(
     take_all_whole(maps, marks, m, all, n, arities, cells, marked, x);
     let v = marked.x;
     let w = marked.y;
-    let mut y = x + 1;
-    while y < n {
+    for y in x + 1..n {
         if all[v] == all[w] {
             return;
         }
         widen(maps, marks, m, all, n, arities, cells, marked, x, y);
-        y += 1;
     }
 }

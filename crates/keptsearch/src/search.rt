@@ -13,13 +13,12 @@ use crate::pairs::settle_pairs;
 use crate::row::join_row;
 use bounding::bounds::is_due;
 use equivalence::Pair;
-use equivalence::blocks::copy;
 
 // Settles the pairs of row x: the row whole, or pair by pair where that joins the marked elements. Where x is no name, the pairs of names stand for them.
 fn settle_row(
     maps: &mut [u8],
     marks: &mut [u8],
-    m: &mut [u8],
+    m: &mut [u8; 64],
     n: usize,
     arities: &[u8],
     cells: &[u8],
@@ -35,8 +34,7 @@ fn settle_row(
     if m[x] != x as u8 {
         return;
     }
-    let mut all = [0u8; 64];
-    copy(64, m, &mut all);
+    let mut all = *m;
     join_row(maps, marks, m, &mut all, n, arities, cells, marked, x);
     let v = marked.x;
     let w = marked.y;
@@ -44,14 +42,14 @@ fn settle_row(
         settle_pairs(maps, marks, m, n, arities, cells, marked, x);
         return;
     }
-    copy(64, &all, m);
+    *m = all;
 }
 
 // Settles rows until the bound `up` holds the marked elements apart: after the row of one of them. `table` is working storage.
 pub fn settle_rows(
     maps: &mut [u8],
     marks: &mut [u8],
-    m: &mut [u8],
+    m: &mut [u8; 64],
     table: &mut [u8],
     up: &mut [u8],
     n: usize,
@@ -70,6 +68,7 @@ pub fn settle_rows(
     let v = marked.x;
     let w = marked.y;
     let mut x = 0;
+    // A `while`: the bound ends it, and not a count of rows.
     while up[v] == up[w] {
         settle_row(maps, marks, m, n, arities, cells, marked, x);
         let due = is_due(m, n, marked, x, 0, 1);

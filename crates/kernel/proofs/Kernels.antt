@@ -183,11 +183,6 @@ filled_more {i} {F} {f} m v l e r = record {
   rest = λ x h. get_or-set_other m i x v 0 (omega arith) ∙ r.rest x (omega arith);
 }
 
--- one more value is relabelled in place
-pub relabelled_more : {i : ℕ} {f : ℕ → ℕ} (old new : ℕ) (m : List ℕ) (v : ℕ) → i < length m → v ≡ relabel old new (get_or m i 0)
-    → Filled i (λ x. relabel old new (f x)) f (λ x. get_or m x 0) → Filled (i + 1) (λ x. relabel old new (f x)) f (λ x. get_or (set m i v) x 0)
-relabelled_more {i} old new m v l e r = filled_more m v l (e ∙ ap (relabel old new) (r.rest i (omega arith))) r
-
 -- the loop's end
 pub filled_all : {n i : ℕ} {F f f' : ℕ → ℕ} → i ≤ n → n ≤ i → Filled i F f f' → Filled n F f f'
 filled_all {n} {i} l k r = let e : i ≡ n = omega arith in rw e at r

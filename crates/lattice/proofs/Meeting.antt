@@ -1,6 +1,5 @@
--- The pass that finds a meet: a table keeps, at the place of an element's two names, the first element that has them (`Seen`). Laws of a row that
--- is cleared (`Cleared`, `Begun`), of the pass (`Entering`), where what is found is the byte of the meet, and of a map met in place (`Meeting`):
--- they start each, keep it and end it.
+-- The pass that finds a meet: a table keeps, at the place of an element's two names, the first element that has them (`Seen`). Laws of the
+-- pass (`Entering`), where what is found is the byte of the meet, and of a map met in place (`Meeting`): they start each, keep it and end it.
 use Prim.Native.Nat.{ℕ, ◌+◌, ◌*◌, ◌≤◌, ◌<◌}
 use mathlib.Core.List.{List}
 use mathlib.Core.Path.{◌≡◌, refl, sym, ap, ◌∙◌}
@@ -10,7 +9,7 @@ use lib.ListN.{length, set, length-set}
 use lib.Seq.{get_or-set_same, get_or-set_other}
 use borrow.Author.Tests.{lt-ltb, le-ltb}
 use Rattle.equivalence.specs.Equivalence.{Map, byte, meet}
-use Rattle.lattice.specs.InnerMeeting.{Cleared, Begun, Entered}
+use Rattle.lattice.specs.InnerMeeting.{Begun, Entered}
 use Rattle.equivalence.specs.Lent.{written}
 use Rattle.kernel.specs.InnerKernel.{Canonical, Filled, seen_or}
 use Rattle.kernel.proofs.Kernels.{filled_none, filled_more, filled_all}
@@ -25,33 +24,6 @@ seen_or_yes seen x l = rw (lt-ltb seen 64 l, seen_or)
 pub seen_or_no : (seen x : ℕ) → 64 ≤ seen → seen_or seen x ≡ x
 unfolding seen_or
 seen_or_no seen x l = rw (le-ltb seen 64 l, seen_or)
-
--- ---- a row is cleared
-
-pub cleared_none : (at : ℕ) (table : List ℕ) → Cleared at 0 table table
-cleared_none at table = record { none = λ i l. absurd (omega arith); kept = λ k l. refl }
-
--- one byte more
-pub cleared_more : {at i : ℕ} {table table' : List ℕ} → Cleared at i table table' → at + i < length table' → Cleared at (i + 1) table (set table' (at + i) 64)
-cleared_more {at} {i} {table} {table'} c l =
-    record {
-      none = λ j h. elim (ℕ_discrete j i) [
-        | yes e ↦ rw e (get_or-set_same table' (at + i) 64 0 l)
-        | no e ↦ get_or-set_other table' (at + i) (at + j) 64 0 (λ q. e (omega arith)) ∙ c.none j (omega arith)
-      ];
-      kept = λ k h. get_or-set_other table' (at + i) k 64 0 (λ q. absurd (omega arith)) ∙ c.kept k h;
-    }
-
--- the loop's end
-pub cleared_all : {at i : ℕ} {table table' : List ℕ} → i ≤ 64 → 64 ≤ i → Cleared at i table table' → Cleared at 64 table table'
-cleared_all {at} {i} l k c = let e : i ≡ 64 = omega arith in rw e at c
-
-pub begun_cleared : {x name : ℕ} {table table' : List ℕ} → Cleared (x * 64) 64 table table' → Begun x name table table'
-begun_cleared c = record { none = λ e. c.none; kept = c.kept }
-
--- an element that begins no block
-pub begun_not : {x name : ℕ} {table : List ℕ} → (name ≡ x → ⊥) → Begun x name table table
-begun_not h = record { none = λ e. absurd (h e); kept = λ k l. refl }
 
 -- ---- the elements seen
 
@@ -147,10 +119,6 @@ module _ (n : ℕ) (a b : Map) (small : n ≤ 64) (ca : Canonical n (byte a)) (c
               let m = meet_map n a b in
               let r = of_meet n a b (byte (meet n a b) i) i (omega (arith, m.low i l)) l (m.named i l) in
               omega (arith, r.0, r.1)
-
-pub entered_of : {x p q v : ℕ} {table begun : List ℕ} → Begun x q table begun → 4096 ≤ length begun → v ≡ seen_or (byte begun (q * 64 + p)) x
-    → Entered x p q table v (set begun (q * 64 + p) v)
-entered_of {begun = begun} g long e = record { begun = begun; row = g; long = long; is = e; after = refl }
 
 -- a pass over two maps that enters their elements: those below i are entered
 pub record Entering (n i : ℕ) (a b table : List ℕ) : Type 0 where

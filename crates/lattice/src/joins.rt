@@ -14,11 +14,8 @@ fn unite_all(n: usize, b: &[u8], m: &mut [u8])
     requires canonical_2 { Canonical n (byte b.now) }
     ensures { Joined n n (byte b.now) (byte m.old) (byte m.new) }
 {
-    let mut x = 0;
-    while x < n {
-        let first = b[x] as usize;
-        blocks::unite(n, x, first, m);
-        x += 1;
+    for (x, first) in b[..n].iter().enumerate() {
+        blocks::unite(n, x, *first as usize, m);
     }
 }
 

@@ -8,13 +8,15 @@ ghost use Rattle.equivalence.specs.Lent.{written};
 use equivalence::blocks;
 use equivalence::checks::MAX_SIZE;
 
-// No element: stands where a table keeps elements, which are below 64, and none was seen yet.
+// No element: stands where a table keeps elements, which are below 64, and none was seen yet. A byte, since the table has to stay one of bytes:
+// its memory is fixed, and a row is cleared by one fill.
 pub const NONE: u8 = 64;
 
 // How many pairs of names there are: the bytes of the table by which a meet is written, a row of 64 for each name.
 pub const NAME_PAIRS: usize = MAX_SIZE * MAX_SIZE;
 
 // The one seen, or x where none was.
+#[tactic(auto, unfolding(kernel::specs::InnerKernel::seen_or))]
 fn first_seen(seen: u8, x: usize) -> u8
     requires { x < 64 }
     ensures { result ≡ seen_or seen x }
@@ -27,11 +29,7 @@ fn clear_row(at: usize, table: &mut [u8])
     requires { at + 64 ≤ length table.old }
     ensures { Cleared at 64 table.old table.new }
 {
-    let mut i = 0;
-    while i < MAX_SIZE {
-        table[at + i] = NONE;
-        i += 1;
-    }
+    table[at..at + MAX_SIZE].fill(NONE);
 }
 
 // Row x is cleared where x begins a block, which it does where it is its own name.
@@ -40,10 +38,9 @@ fn begin_row(x: usize, name: usize, table: &mut [u8])
     requires in_bounds { 4096 ≤ length table.old }
     ensures { Begun x name table.old table.new }
 {
-    if name != x {
-        return;
+    if name == x {
+        clear_row(x * MAX_SIZE, table);
     }
-    clear_row(x * MAX_SIZE, table);
 }
 
 // The first element with x's two names, p and q. `table` keeps these first ones: that of p and q at place p of row q, once q has begun its row.
@@ -72,11 +69,9 @@ pub fn meet_with(n: usize, b: &[u8], table: &mut [u8], m: &mut [u8])
     requires canonical_2 { Canonical n (byte m.old) }
     ensures { m.new ≡ written (meet n m.old b.now) m.old }
 {
-    let mut x = 0;
-    while x < n {
+    for x in 0..n {
         let first = first_alike(x, m[x], b[x], table);
         m[x] = first;
-        x += 1;
     }
 }
 

@@ -1,9 +1,11 @@
 // Meet, Join, Prefer and pair places on cases that a reader can check by hand: each line is a call, its lent bytes before it all 9, and
 // what came of it. A map is written as its bytes.
+// Answers are printed by hand: a Result has no Display, none can be given to it here, and `io` takes no formatter.
 #![tactic(auto)]
 
-use equivalence::Written;
-use pairorder::Place;
+ghost use Rattle.std.specs.Prelude.{◌≤◌};
+
+use equivalence::Refusal;
 
 // The call's name and what it is handed.
 fn print_maps(name: &[u8], n: usize, a: &[u8], b: &[u8]) {
@@ -11,40 +13,30 @@ fn print_maps(name: &[u8], n: usize, a: &[u8], b: &[u8]) {
     io::write_all(1, b" ->");
 }
 
-// The answer and the lent bytes.
-fn print_written(answer: Written, lent: &[u8]) {
-    if let Written::Refused(reason) = answer {
-        printing::print_refused(equivalence::checks::number(reason));
+// A call, its answer, and the lent bytes after it.
+fn print_written<Call: Fn(usize, &[u8], &[u8], &mut [u8]) -> Result<(), Refusal>>(
+    name: &[u8],
+    call: Call,
+    n: usize,
+    a: &[u8],
+    b: &[u8],
+    lent: &mut [u8],
+)
+    requires { Call.IsAlwaysCallable call }
+{
+    print_maps(name, n, a, b);
+    if let Err(reason) = call(n, a, b, lent) {
+        printing::print_refused(u8::from(reason));
     }
     printing::print_lent(lent);
 }
 
-fn print_meet(n: usize, a: &[u8], b: &[u8], lent: &mut [u8]) {
-    print_maps(b"meet", n, a, b);
-    let answer = lattice::meet(n, a, b, lent);
-    print_written(answer, lent);
-}
-
-fn print_join(n: usize, a: &[u8], b: &[u8], lent: &mut [u8]) {
-    print_maps(b"join", n, a, b);
-    let answer = lattice::join(n, a, b, lent);
-    print_written(answer, lent);
-}
-
-// Meet and Join, each with five bytes lent.
-fn both(n: usize, a: &[u8], b: &[u8]) {
-    let mut met = [9u8; 5];
-    print_meet(n, a, b, &mut met);
-    let mut joined = [9u8; 5];
-    print_join(n, a, b, &mut joined);
-}
-
-// The same with three.
-fn both_short(n: usize, a: &[u8], b: &[u8]) {
-    let mut met = [9u8; 3];
-    print_meet(n, a, b, &mut met);
-    let mut joined = [9u8; 3];
-    print_join(n, a, b, &mut joined);
+// Meet and Join, each with LENT bytes lent.
+fn both<const LENT: usize>(n: usize, a: &[u8], b: &[u8])
+    requires { LENT ≤ 5 }
+{
+    print_written(b"meet", lattice::meet, n, a, b, &mut [9u8; LENT]);
+    print_written(b"join", lattice::join, n, a, b, &mut [9u8; LENT]);
 }
 
 fn prefer<'a>(n: usize, a: &'a [u8], b: &'a [u8]) {
@@ -57,8 +49,7 @@ fn place(x: u8, y: u8) {
     io::write_all(1, b"place");
     printing::print_bytes(&[x, y]);
     io::write_all(1, b" -> ");
-    let answer = pairorder::pair_place(x, y);
-    if let Place::At(k) = answer {
+    if let Some(k) = pairorder::pair_place(x, y) {
         io::print_decimal(1, k as u64);
     } else {
         io::write_all(1, b"nowhere");
@@ -67,24 +58,24 @@ fn place(x: u8, y: u8) {
 }
 
 fn accepted() {
-    both(4, b"\x00\x00\x02\x02", b"\x00\x01\x00\x01");
-    both(4, b"\x00\x00\x02\x02", b"\x00\x01\x01\x03");
-    both(5, b"\x00\x00\x02\x02\x04", b"\x00\x01\x02\x02\x01");
-    both(4, b"\x00\x00\x00\x00", b"\x00\x01\x02\x03");
-    both(1, b"\x00", b"\x00");
-    both_short(3, b"\x00\x01\x00", b"\x00\x01\x01");
+    both::<5>(4, b"\x00\x00\x02\x02", b"\x00\x01\x00\x01");
+    both::<5>(4, b"\x00\x00\x02\x02", b"\x00\x01\x01\x03");
+    both::<5>(5, b"\x00\x00\x02\x02\x04", b"\x00\x01\x02\x02\x01");
+    both::<5>(4, b"\x00\x00\x00\x00", b"\x00\x01\x02\x03");
+    both::<5>(1, b"\x00", b"\x00");
+    both::<3>(3, b"\x00\x01\x00", b"\x00\x01\x01");
 }
 
 fn refused() {
-    both(0, b"", b"");
-    both(65, b"\x00", b"\x00");
-    both(18446744073709551615, b"\x00", b"\x00");
-    both(3, b"\x00\x00", b"\x00\x01\x02");
-    both(3, b"\x00\x01\x02", b"\x00\x01\x02\x03");
-    both(3, b"\x00\x02\x02", b"\x00\x01\x02");
-    both(3, b"\x00\x00\x01", b"\x00\x01\x02");
-    both_short(4, b"\x00\x00\x02\x02", b"\x00\x01\x00\x01");
-    both_short(4, b"\x00\x00\x02\x02", b"\x00\x01\x00\xff");
+    both::<5>(0, b"", b"");
+    both::<5>(65, b"\x00", b"\x00");
+    both::<5>(18446744073709551615, b"\x00", b"\x00");
+    both::<5>(3, b"\x00\x00", b"\x00\x01\x02");
+    both::<5>(3, b"\x00\x01\x02", b"\x00\x01\x02\x03");
+    both::<5>(3, b"\x00\x02\x02", b"\x00\x01\x02");
+    both::<5>(3, b"\x00\x00\x01", b"\x00\x01\x02");
+    both::<3>(4, b"\x00\x00\x02\x02", b"\x00\x01\x00\x01");
+    both::<3>(4, b"\x00\x00\x02\x02", b"\x00\x01\x00\xff");
 }
 
 fn preferred() {

@@ -1,7 +1,7 @@
 -- The test whether a map is a congruence: a map is compatible just where it joins each result with that of the names of the arguments (`Named`), and
 -- that is what the walk over the parts of the tables looks at (`TableAlike`).
 use Prim.Native.Nat.{ℕ, zero, suc, ◌+◌, ◌*◌, ◌-◌, ◌^◌, ◌/◌, ◌%◌, ◌≤◌, ◌<◌}
-use mathlib.Core.Bool.{Bool, true, false, not}
+use mathlib.Core.Bool.{Bool, true, false}
 use mathlib.Core.List.{List, [], ◌∷◌, ◌++◌, map, map-append}
 use mathlib.Core.Path.{◌≡◌, refl, sym, ap, subst, ◌∙◌}
 use native.Mathlib.Decide.{ℕ_discrete, dec_lt}
@@ -9,9 +9,9 @@ use native.Mathlib.Nat.{suc-mul, mul_comm, mul-le-mul_right, pow-zero, pow-succ'
 use native.Mathlib.Omega.{arith}
 use borrow.Author.Count.{below_more}
 use lib.Dec.{T}
-use lib.ListN.{length, get_or, length-append, length-map}
-use lib.Seq.{append_snoc}
-use Rattle.equivalence.specs.Equivalence.{Map, byte, is_map}
+use lib.ListN.{length, get_or, take, replicate, length-append, length-map, length-replicate}
+use lib.Seq.{append_snoc, get_or-take, length-take-le}
+use Rattle.equivalence.specs.Equivalence.{byte, is_map}
 use Rattle.equivalence.proofs.Maps.{of_is_map}
 use Rattle.kernel.specs.InnerKernel.{Canonical, Filled}
 use Rattle.kernel.specs.InnerLargest.{Largest}
@@ -23,10 +23,10 @@ use Rattle.algebra.proofs.Congruences.{congruence_is, congruence_of}
 use Rattle.algebra.proofs.Tables.{start_first, start_next}
 use Rattle.translation.specs.InnerTranslations.{AllBelow, table_start, result, Compatible}
 use Rattle.translation.proofs.Translations.{congruence_compatible, compatible_congruence, identity_compatible, result_below}
-use Rattle.refinement.specs.InnerSplitting.{Sifted, MapLent}
+use Rattle.refinement.specs.InnerSplitting.{Elements, Sifted}
 use Rattle.refinement.proofs.Splits.{never}
 use Rattle.refinement.proofs.Compatibility.{result_cell, accepted_lent, TableThere, table_there}
-use Rattle.likeness.specs.InnerAlike.{Says, Others, WalkLent, Stretches, StretchAlike, PartsAlike, TableAlike, NamesAlike}
+use Rattle.likeness.specs.InnerAlike.{Says, Others, WalkLent, StretchAlike, PartsAlike, TableAlike, NamesAlike}
 
 -- ---- answers
 
@@ -35,21 +35,6 @@ says_true p = record { yes = λ e. p; no = λ q. refl }
 
 pub says_false : {P : Type 0} → (P → ⊥) → Says false P
 says_false h = record { yes = λ e. never e; no = λ p. absurd (h p) }
-
-not_yes : (r : Bool) → not r ≡ true → r ≡ true → ⊥
-not_yes true e p = never e
-not_yes false e p = never p
-
-not_no : (r : Bool) → not r ≡ false → r ≡ true
-not_no true e = refl
-not_no false e = never (sym e)
-
--- what holds only where G does, where it does
-pub says_under : {r : Bool} {G P : Type 0} → G → Says r P → Says r (G → P)
-says_under g s = record { yes = λ e h. s.yes e; no = λ p. s.no (p g) }
-
-pub says_never : {G P : Type 0} → (G → ⊥) → Says true (G → P)
-says_never h = says_true (λ g. absurd (h g))
 
 -- ---- names in the place of arguments
 
@@ -168,39 +153,7 @@ compatible_alike a f c k j l = alike_behind a f c j k l (get_or a.arities j 0) (
 
 -- ---- stretches of cells
 
--- what holds in a turn along two stretches: the next cells are there, and they are elements
-pub record Beside (n base first i size room image expected : ℕ) : Type 0 where
-  pub small : n ≤ 64
-  pub long : n ≤ room
-  pub here : base + i < size
-  pub there : first + i < size
-  pub image_below : image < n
-  pub expected_below : expected < n
-
-pub beside : {n : ℕ} {m cells : List ℕ} {base first count i : ℕ} → MapLent n m cells → Stretches (length cells) base first count → i < count
-    → Beside n base first i (length cells) (length m) (get_or cells (base + i) 0) (get_or cells (first + i) 0)
-beside {base = base} {first = first} {i = i} p s l = record {
-  small = p.small;
-  long = p.room;
-  here = omega (arith, s.here);
-  there = omega (arith, s.there);
-  image_below = p.below (base + i) (omega (arith, s.here));
-  expected_below = p.below (first + i) (omega (arith, s.there));
-}
-
 module _ {cells : List ℕ} {f : ℕ → ℕ} {base first : ℕ} where
-  pub stretch_none : StretchAlike 0 cells f base first
-  stretch_none = record { cell = λ i l. absurd (omega arith) }
-
-  pub stretch_more : {i : ℕ} → StretchAlike i cells f base first → f (get_or cells (base + i) 0) ≡ f (get_or cells (first + i) 0) → StretchAlike (i + 1) cells f base first
-  stretch_more {i} h e = record { cell = below_more (λ (z : ℕ). f (get_or cells (base + z) 0) ≡ f (get_or cells (first + z) 0)) i h.cell e }
-
-  pub stretch_all : {count i : ℕ} → i ≤ count → count ≤ i → StretchAlike i cells f base first → Says true (StretchAlike count cells f base first)
-  stretch_all l k h = says_true (record { cell = λ z lz. h.cell z (omega arith) })
-
-  pub stretch_apart : {count i : ℕ} → i < count → (f (get_or cells (base + i) 0) ≡ f (get_or cells (first + i) 0) → ⊥) → Says false (StretchAlike count cells f base first)
-  stretch_apart {i = i} l k = says_false (λ h. k (h.cell i l))
-
   -- the next `more` cells of a stretch are a stretch themselves
   stretch_part : {more : ℕ} (i count : ℕ) → i + more ≤ count → StretchAlike count cells f base first → StretchAlike more cells f (base + i) (first + i)
   stretch_part i count l h = record { cell = λ z lz. let p : (b : ℕ) → b + i + z ≡ b + (i + z) = λ b. omega arith in rw (p base, p first) (h.cell (i + z) (omega arith)) }
@@ -215,11 +168,11 @@ module _ {cells : List ℕ} {f : ℕ → ℕ} {base first : ℕ} where
   }
 
   module _ (i : ℕ) {more : ℕ} {r : Bool} (s : Says r (StretchAlike more cells f (base + i) (first + i))) where
-    pub turn_apart : {count : ℕ} → not r ≡ true → i + more ≤ count → Says false (StretchAlike count cells f base first)
-    turn_apart {count} e l = says_false (λ h. not_yes r e (s.no (stretch_part i count l h)))
+    pub turn_apart : {count : ℕ} → r ≡ false → i + more ≤ count → Says false (StretchAlike count cells f base first)
+    turn_apart {count} e l = says_false (λ h. never (sym e ∙ s.no (stretch_part i count l h)))
 
-    pub turn_more : not r ≡ false → StretchAlike i cells f base first → StretchAlike (i + more) cells f base first
-    turn_more e h = stretch_longer h (s.yes (not_no r e))
+    pub turn_more : r ≡ true → StretchAlike i cells f base first → StretchAlike (i + more) cells f base first
+    turn_more e h = stretch_longer h (s.yes e)
 
     pub turn_last : {count : ℕ} → i + more ≡ count → StretchAlike i cells f base first → Says r (StretchAlike count cells f base first)
     turn_last {count} e h = rw (← e) (record { yes = λ q. stretch_longer h (s.yes q); no = λ k. s.no (stretch_part i (i + more) (omega arith) k) })
@@ -230,80 +183,7 @@ module _ {cells : List ℕ} {f : ℕ → ℕ} {base first : ℕ} where
 pub record OthersAlike (n part : ℕ) (cells others : List ℕ) (f : ℕ → ℕ) (base i : ℕ) : Type 0 where
   pub at : (k : ℕ) → k < i → StretchAlike part cells f (base + byte others k * part) (base + f (byte others k) * part)
 
-module _ {n part : ℕ} {cells others : List ℕ} {f : ℕ → ℕ} {base : ℕ} where
-  pub parts_none : OthersAlike n part cells others f base 0
-  parts_none = record { at = λ k l. absurd (omega arith) }
-
-  module _ {i : ℕ} {r : Bool} (t : Says r (StretchAlike part cells f (base + byte others i * part) (base + f (byte others i) * part))) where
-    pub parts_apart : {left : ℕ} → not r ≡ true → Others n others left f → i < left → Says false (PartsAlike n part cells f base)
-    parts_apart e o l = says_false (λ h. not_yes r e (t.no (h.of (byte others i) (o.elements.below i l))))
-
-    pub parts_more : not r ≡ false → OthersAlike n part cells others f base i → OthersAlike n part cells others f base (i + 1)
-    parts_more e h =
-        record { at = below_more (λ (k : ℕ). StretchAlike part cells f (base + byte others k * part) (base + f (byte others k) * part)) i h.at (t.yes (not_no r e)) }
-
-  -- an element that is no other is its own name
-  pub parts_all : {left i : ℕ} → Others n others left f → left ≤ i → OthersAlike n part cells others f base i → Says true (PartsAlike n part cells f base)
-  parts_all {left} {i} o l h = says_true (record {
-    of = λ x lx.
-        elim (ℕ_discrete (f x) x) [
-          | yes p ↦ rw p (record { cell = λ z lz. refl })
-          | no p ↦ let k = o.all x lx p in rw k.1.1 at (h.at k.0 (omega (arith, k.1.0)))
-        ];
-  })
-
--- where two parts are, of `part` cells each
-pub record Step (n part base x name size room : ℕ) : Type 0 where
-  pub small : n ≤ 64
-  pub long : n ≤ room
-  pub element : x < n
-  pub named : name < n
-  pub here : base + x * part + part ≤ size
-  pub there : base + name * part + part ≤ size
-
-pub step_there : {n : ℕ} {m cells : List ℕ} (part base x : ℕ) → MapLent n m cells → base + n * part ≤ length cells → x < n → Step n part base x (byte m x) (length cells) (length m)
-step_there {n} {m} part base x p b l =
-    let k : byte m x < n = omega (arith, p.canonical.below x l) in
-    record {
-      small = p.small;
-      long = p.room;
-      element = l;
-      named = k;
-      here = omega (arith, suc-mul x part, mul-le-mul_right part l);
-      there = omega (arith, suc-mul (byte m x) part, mul-le-mul_right part k);
-    }
-
-pub other_there : {n left : ℕ} {m cells others : List ℕ} (part base i : ℕ) → WalkLent n m cells others left → base + n * part ≤ length cells → i < left
-    → Step n part base (byte others i) (byte m (byte others i)) (length cells) (length m)
-other_there {others = others} part base i w b l = step_there part base (byte others i) w.map b (w.list.elements.below i l)
-
 -- ---- lines: parts of one cell
-
--- what holds in a turn along a line: the cells of a listed element and of its name are there
-pub record Column (n base x name size room image expected : ℕ) : Type 0 where
-  pub small : n ≤ 64
-  pub long : n ≤ room
-  pub element : x < n
-  pub named : name < n
-  pub there : base + n ≤ size
-  pub image_below : image < n
-  pub expected_below : expected < n
-
-pub column : {n left : ℕ} {m cells others : List ℕ} (base i : ℕ) → WalkLent n m cells others left → base + n ≤ length cells → i < left → let x = byte others i in
-    Column n base x (byte m x) (length cells) (length m) (get_or cells (base + x) 0) (get_or cells (base + byte m x) 0)
-column {n} {left} {m} {cells} {others} base i w b l =
-    let x = byte others i in
-    let lx : x < n = w.list.elements.below i l in
-    let k : byte m x < n = omega (arith, w.map.canonical.below x lx) in
-    record {
-      small = w.map.small;
-      long = w.map.room;
-      element = lx;
-      named = k;
-      there = b;
-      image_below = w.map.below (base + x) (omega arith);
-      expected_below = w.map.below (base + byte m x) (omega arith);
-    }
 
 -- f joins the cells of the first i others with those of their names
 pub record LineBelow (cells others : List ℕ) (f : ℕ → ℕ) (base i : ℕ) : Type 0 where
@@ -313,13 +193,6 @@ part_of_one : (n base i y : ℕ) → i < n ^ 0 → base + y * n ^ 0 + i ≡ base
 part_of_one n base i y l = rw (pow-zero n) (omega (arith, pow-zero n))
 
 module _ {cells others : List ℕ} {f : ℕ → ℕ} {base : ℕ} where
-  pub line_none : LineBelow cells others f base 0
-  line_none = record { at = λ k l. absurd (omega arith) }
-
-  pub line_more : {i : ℕ} → LineBelow cells others f base i → f (get_or cells (base + byte others i) 0) ≡ f (get_or cells (base + f (byte others i)) 0)
-      → LineBelow cells others f base (i + 1)
-  line_more {i} h e = record { at = below_more (λ (k : ℕ). f (get_or cells (base + byte others k) 0) ≡ f (get_or cells (base + f (byte others k)) 0)) i h.at e }
-
   pub line_all : {n left i : ℕ} → Others n others left f → left ≤ i → LineBelow cells others f base i → Says true (TableAlike n cells f base 1)
   line_all {n} {left} {i} o l h = says_true (
     record {
@@ -349,33 +222,16 @@ pub record NamesBelow (n part s : ℕ) (cells : List ℕ) (f : ℕ → ℕ) (bas
   pub at : (z : ℕ) → z < x → f z ≡ z → TableAlike n cells f (base + z * part) s
 
 module _ {n part : ℕ} {s : ℕ} {cells : List ℕ} {f : ℕ → ℕ} {base : ℕ} where
-  pub names_none : NamesBelow n part s cells f base 0
-  names_none = record { at = λ z l. absurd (omega arith) }
-
-  pub names_all : {x : ℕ} → n ≤ x → NamesBelow n part s cells f base x → Says true (NamesAlike n part s cells f base)
-  names_all l h = says_true (record { of = λ z lz. h.at z (omega arith) })
-
-  module _ {x : ℕ} {r : Bool} (t : Says r (f x ≡ x → TableAlike n cells f (base + x * part) s)) where
-    pub names_apart : not r ≡ true → x < n → Says false (NamesAlike n part s cells f base)
-    names_apart e l = says_false (λ h. not_yes r e (t.no (h.of x l)))
-
-    pub names_more : not r ≡ false → NamesBelow n part s cells f base x → NamesBelow n part s cells f base (x + 1)
-    names_more e h = record { at = below_more (λ (z : ℕ). f z ≡ z → TableAlike n cells f (base + z * part) s) x h.at (t.yes (not_no r e)) }
+  pub names_more : {x : ℕ} → NamesBelow n part s cells f base x → (f x ≡ x → TableAlike n cells f (base + x * part) s) → NamesBelow n part s cells f base (x + 1)
+  names_more {x} h t = record { at = below_more (λ (z : ℕ). f z ≡ z → TableAlike n cells f (base + z * part) s) x h.at t }
 
 -- a table is alike where its parts are and the parts of names are
 module _ (s : ℕ) {n part : ℕ} {cells : List ℕ} {f : ℕ → ℕ} {base : ℕ} {q : Bool} (e : part ≡ n ^ s) (p : Says q (PartsAlike n part cells f base)) where
-  pub table_apart : not q ≡ true → Says false (TableAlike n cells f base (suc s))
-  table_apart h = says_false (λ k. not_yes q h (p.no (rw e k.0)))
+  pub table_apart : q ≡ false → Says q (TableAlike n cells f base (suc s))
+  table_apart h = record { yes = λ y. never (sym h ∙ y); no = λ k. p.no (rw e k.0) }
 
-  pub table_by : {r : Bool} → not q ≡ false → Says r (NamesAlike n part s cells f base) → Says r (TableAlike n cells f base (suc s))
-  table_by h t = record { yes = λ y. (rw e at (p.yes (not_no q h)), (rw e at (t.yes y)).of); no = λ k. t.no (rw e (record { of = k.1 })) }
-
-module _ (n s base : ℕ) (cells : List ℕ) (f : ℕ → ℕ) where
-  pub table_of : {r : Bool} (k : ℕ) → s ≡ k → Says r (TableAlike n cells f base k) → Says r (TableAlike n cells f base s)
-  table_of k e h = rw e h
-
-  pub table_constant : s ≤ 3 → (s ≡ 1 → ⊥) → (s ≡ 2 → ⊥) → (s ≡ 3 → ⊥) → Says true (TableAlike n cells f base s)
-  table_constant l p q r = let e : s ≡ 0 = omega arith in rw e (says_true tt)
+  pub table_by : {r : Bool} → q ≡ true → Says r (NamesAlike n part s cells f base) → Says r (TableAlike n cells f base (suc s))
+  table_by h t = record { yes = λ y. (rw e at (p.yes h), (rw e at (t.yes y)).of); no = λ k. t.no (rw e (record { of = k.1 })) }
 
 -- ---- the tables, one after the other
 
@@ -396,16 +252,16 @@ module _ {n : ℕ} {arities cells m : List ℕ} {base j : ℕ} (t : Tested n ari
   tested_there l = table_there (algebra_of n arities cells) j base t.formed l t.start
 
   module _ {r : Bool} (l : j < length arities) (s : Says r (TableAlike n cells (byte m) base (get_or arities j 0))) where
-    pub tested_apart : not r ≡ true → Says false (Compatible (algebra_of n arities cells) (byte m))
-    tested_apart h = says_false (λ k. not_yes r h (s.no (rw t.start (compatible_alike (algebra_of n arities cells) (byte m) t.canonical k j l))))
+    pub tested_apart : r ≡ false → Says false (Compatible (algebra_of n arities cells) (byte m))
+    tested_apart h = says_false (λ k. never (sym h ∙ s.no (rw t.start (compatible_alike (algebra_of n arities cells) (byte m) t.canonical k j l))))
 
-    pub tested_more : {p : ℕ} → not r ≡ false → p ≡ n ^ get_or arities j 0 → Tested n arities cells m (base + p) (j + 1)
+    pub tested_more : {p : ℕ} → r ≡ true → p ≡ n ^ get_or arities j 0 → Tested n arities cells m (base + p) (j + 1)
     tested_more h e = record {
       formed = t.formed;
       canonical = t.canonical;
       upto = omega arith;
       start = omega (arith, start_next n arities j l, t.start);
-      done = below_more (λ (i : ℕ). TableAlike n cells (byte m) (table_start (algebra_of n arities cells) i) (get_or arities i 0)) j t.done (rw t.start at (s.yes (not_no r h)));
+      done = below_more (λ (i : ℕ). TableAlike n cells (byte m) (table_start (algebra_of n arities cells) i) (get_or arities i 0)) j t.done (rw t.start at (s.yes h));
     }
 
   pub tested_all : length arities ≤ j → Says true (Compatible (algebra_of n arities cells) (byte m))
@@ -425,18 +281,34 @@ is_true false t = absurd t
 
 -- ---- what the walk is lent
 
--- every element is listed at first, and those that are no smallest members are left
-pub others_first : {n left : ℕ} {f old : ℕ → ℕ} {all others : List ℕ} → Sifted f all n others left → Filled n (λ x. x) old (byte all) → n ≤ length others → Others n others left f
-others_first k c r = record {
-  elements = record { room = omega (arith, k.fewer); below = λ i l. let o = k.old i l in omega (arith, c.first o.0 o.1.0, o.1.1, o.1.0) };
-  all = λ x l h. k.all x (x, (l, c.first x l)) h;
-}
-
 pub accepted_small : (n : ℕ) (arities cells : List ℕ) → Accepted (algebra_of n arities cells) → n ≤ 64
 accepted_small n arities cells a = (accepted_well_formed _ a).most
 
 pub map_long : (n : ℕ) (m : List ℕ) → T (is_map n m) → n ≤ length m
 map_long n m t = omega (arith, (of_is_map n m t).long)
+
+-- room for n elements
+pub room_long : (n : ℕ) → n ≤ 64 → length {A = ℕ} (take n (replicate 64 0)) ≡ n
+room_long n l = length-take-le n (replicate 64 0) (omega (arith, length-replicate {A = ℕ} 64 0))
+
+-- every element is listed there at first
+module _ {n : ℕ} {old : ℕ → ℕ} {all : List ℕ} (small : n ≤ 64) (e : length all ≡ length {A = ℕ} (take n (replicate 64 0))) (c : Filled n (λ x. x) old (byte all)) where
+  pub all_elements : {k : ℕ} → n ≤ k → Elements k all (length all)
+  all_elements h = record { room = omega arith; below = λ i l. omega (arith, room_long n small, c.first i (omega (arith, room_long n small))) }
+
+  -- those that are no smallest members are left, and a slice of just these has them
+  pub others_listed : {left : ℕ} {f : ℕ → ℕ} (others : List ℕ) → Sifted f all (length all) others left → Others n (take left others) (length (take left others)) f
+  others_listed {left} others k =
+      let long : length (take left others) ≡ left = length-take-le left others k.room in
+      rw long (record {
+        elements = record {
+          room = omega (arith, long);
+          below = λ i l. let o = k.old i l in rw (get_or-take left others i 0 l) (omega (arith, room_long n small, c.first o.0 (omega (arith, o.1.0, room_long n small)), o.1.1, o.1.0));
+        };
+        all = λ x l h.
+            let o = k.all x (x, (omega (arith, room_long n small), c.first x l)) h in
+            (o.0, (o.1.0, get_or-take left others o.0 0 o.1.0 ∙ o.1.1));
+      })
 
 module _ (n : ℕ) (arities cells m : List ℕ) (a : Accepted (algebra_of n arities cells)) (t : T (is_map n m)) where
   well_formed : WellFormed (algebra_of n arities cells)

@@ -10,6 +10,7 @@ ghost use Rattle.writer.specs.Lines.{spaced, spaced_brackets, refused_line};
 ghost use Rattle.writer.specs.InnerRoom.{LaidLine, FactorsRoom};
 
 use algebra::largest;
+use equivalence::Refusal;
 use writer::{
     write_bracketed, write_close, write_gap, write_spaced, write_spaced_number, write_word,
 };
@@ -31,25 +32,20 @@ fn write_maps(n: usize, count: usize, maps: &[u8], out: &mut [u8], put: usize) -
     ensures short { result ≤ put + count * (4 * n + 2) }
 {
     let mut at = put;
-    let mut from = 0;
-    let mut i = 0;
-    while i < count {
-        let to = from + n;
-        at = write_spaced_bracket(&maps[from..to], out, at);
-        from = to;
-        i += 1;
+    for i in 0..count {
+        let from = i * n;
+        at = write_spaced_bracket(&maps[from..from + n], out, at);
     }
     at
 }
 
 // `[refused 8]`
-pub fn write_refused(r: equivalence::Refusal, out: &mut [u8]) -> usize
+pub fn write_refused(r: Refusal, out: &mut [u8]) -> usize
     requires { 14 ≤ length out.old }
     ensures { Laid out.old 0 (refused_line r) out.new result }
 {
-    let number = equivalence::checks::number(r);
     let word = write_word(b"[refused", out, 0);
-    let end = write_spaced_number(number, out, word);
+    let end = write_spaced_number(u8::from(r), out, word);
     write_close(out, end)
 }
 

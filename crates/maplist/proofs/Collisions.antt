@@ -6,20 +6,15 @@ use mathlib.Core.List.{List}
 use mathlib.Core.Path.{◌≡◌, sym, ◌∙◌}
 use native.Mathlib.Decide.{ℕ_discrete}
 use native.Mathlib.Omega.{arith}
-use lib.ListN.{length}
 use Rattle.equivalence.specs.Equivalence.{byte, is_identity, meet}
 use Rattle.lattice.specs.InnerMeeting.{Entered}
-use Rattle.kernel.specs.InnerKernel.{Canonical}
 use Rattle.equivalence.proofs.Bytes.{canonical_of, is_identity_all, is_identity_not}
-use Rattle.lattice.proofs.Meeting.{Entering, entering_none, entering_names, entering_is, entering_more}
+use Rattle.lattice.proofs.Meeting.{Entering, entering_is, entering_more}
 use Rattle.equivalence.proofs.Meets.{meet_map}
 
 pub record Alone (n i : ℕ) (a b table : List ℕ) : Type 0 where
   pub entering : Entering n i a b table
   pub alone : (x : ℕ) → x < i → byte (meet n a b) x ≡ x
-
-pub alone_none : {n : ℕ} {a b table : List ℕ} → n ≤ 64 → Canonical n (byte a) → Canonical n (byte b) → 4096 ≤ length table → Alone n 0 a b table
-alone_none small ca cb size = record { entering = entering_none small ca cb size; alone = λ x l. absurd (omega arith) }
 
 module _ {n i : ℕ} {a b table : List ℕ} (s : Alone n i a b table) where
   -- all are
@@ -27,9 +22,6 @@ module _ {n i : ℕ} {a b table : List ℕ} (s : Alone n i a b table) where
   alone_all l = is_identity_all n (meet n a b) (canonical_of n (meet n a b) (meet_map n a b)) i l s.alone
 
   module _ (l : i < n) where
-    pub alone_names : (i < 64) × (byte a i ≤ i) × (byte b i ≤ i)
-    alone_names = entering_names s.entering l
-
     module _ {v : ℕ} {table' : List ℕ} (t : Entered i (byte a i) (byte b i) table v table') where
       -- one more is
       pub alone_more : v ≡ i → Alone n (i + 1) a b table'

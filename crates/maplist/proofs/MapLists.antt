@@ -12,10 +12,11 @@ use mathlib.Core.Logic.{inl, inr}
 use mathlib.Core.Path.{◌≡◌, refl, sym, ap, subst, ◌∙◌}
 use native.Mathlib.Nat.{suc-mul, mul-le-mul_right}
 use native.Mathlib.Omega.{arith}
-use lib.ListN.{length, get_or, take, drop, length-map, length-append, get_or-append, length-drop}
+use lib.ListN.{length, get_or, take, drop, length-map, length-append, get_or-append, replicate, length-replicate}
+use Rattle.std.proofs.lemmas.List.{get_or-replicate}
 use lib.Seq.{get_or-take, ext_get_or, length-take-le, drop-drop, take_at, drop_at, drop-cons}
-use Rattle.equivalence.specs.Equivalence.{Map, byte, holds, whole, same, is_identity, meet, meet_all}
-use Rattle.kernel.specs.InnerKernel.{Canonical, Filled}
+use Rattle.equivalence.specs.Equivalence.{Map, byte, holds, whole, is_identity, meet, meet_all}
+use Rattle.kernel.specs.InnerKernel.{Canonical}
 use Rattle.equivalence.specs.Lists.{up_to, first, concat}
 use Rattle.equivalence.specs.Lent.{stretch, written, laid}
 use Rattle.pairorder.specs.Order.{Pair, pairs, first_held}
@@ -25,10 +26,9 @@ use Rattle.equivalence.proofs.Meets.{meet_map, meet_holds, of_meet, meet_alike, 
 use Rattle.pairorder.proofs.Pairs.{of_pairs}
 use Rattle.equivalence.proofs.Stretches.{concat_append, stretch_concat}
 use Rattle.equivalence.proofs.Tests.{T?, true_is, false_is}
-use Rattle.equivalence.proofs.Writing.{filled_written}
 use Rattle.maplist.specs.InnerMapLists.{map_list, MapsListed}
-use Rattle.equivalence.proofs.Laying.{laid_laid, rest_whole, laid_from}
-use borrow.Rule.Slice.PartMut.{put_mid, mid_of}
+use Rattle.equivalence.proofs.Laying.{laid_laid, rest_whole}
+use borrow.Rule.Slice.PartMut.{put_mid}
 
 -- ---- slices that begin with the same n bytes: a map, and a slice that begins with it
 
@@ -91,12 +91,6 @@ module _ {n : ℕ} where
       first_same (λ p. holds a p.0 p.1) (λ p. holds b p.0 p.1) (0, 0) (pairs n)
       (λ p i. let q = of_pairs n p i in holds_begins g p.0 p.1 (omega (arith, q.0, q.1)) q.1)
 
-  -- the n bytes, copied
-  pub copied_written : {from m : List ℕ} (lent after : List ℕ) → Begins n from m → IsMap n m → n ≤ length lent → length after ≡ length lent
-      → Filled n (byte from) (byte lent) (byte after) → after ≡ written m lent
-  copied_written {from} {m} lent after g p fits long f =
-      filled_written n m lent after p.long fits long (record { first = λ x l. f.first x l ∙ g.same x l; rest = f.rest })
-
 -- ---- meets of parts of a list
 
 pub meet_comm : (n : ℕ) (a b : Map) → meet n a b ≡ meet n b a
@@ -125,6 +119,16 @@ meet_all_snoc n ms m =
 
 pub whole_at : (n x : ℕ) → x < n → byte (whole n) x ≡ 0
 whole_at n x l = let w = whole_map n in omega (arith, whole_holds n x 0 l (omega arith), w.low 0 (omega arith))
+
+-- n zeros, written
+pub zeros_written : (n : ℕ) (lent : List ℕ) {zeros : List ℕ} → zeros ≡ replicate n 0 → zeros ++ drop n lent ≡ written (whole n) lent
+unfolding written
+zeros_written n lent e =
+    let w = whole_map n in
+    let same : replicate n 0 ≡ whole n =
+    ext_get_or 0 (replicate n 0) (whole n) (length-replicate n 0 ∙ sym w.long)
+    (λ x l. let k : x < n = omega (arith, length-replicate {A = ℕ}) in get_or-replicate n x 0 0 k ∙ sym (whole_at n x k)) in
+    rw (e, same, w.long)
 
 -- ---- what a map_list holds
 
@@ -167,26 +171,23 @@ module _ {n k : ℕ} {bytes : List ℕ} (p : MapsListed n k bytes) where
 abbrev pub onwards : ℕ → List ℕ → List ℕ
 onwards at l = take (length l - at) (drop at l)
 
--- n bytes copied there
-pub copied_laid : {n : ℕ} {from m : List ℕ} (at : ℕ) (lent after : List ℕ) → Begins n from m → IsMap n m → at + n ≤ length lent
-    → length after ≡ length (mid_of at (length lent - at) lent) → Filled n (byte from) (byte (mid_of at (length lent - at) lent)) (byte after)
-    → put_mid at (length lent - at) lent after ≡ laid lent at m
-copied_laid {n} {from} {m} at lent after g p fits long f =
-    let room : n ≤ length (mid_of at (length lent - at) lent) = rw (rest_whole at lent, length-drop at lent) (omega arith) in
-    ap (put_mid at (length lent - at) lent) (copied_written (mid_of at (length lent - at) lent) after g p room long f) ∙ laid_from at lent m (omega arith)
+-- as many bytes put in the place of n
+pub copied_laid : (at n : ℕ) (lent m : List ℕ) → length m ≡ n → put_mid at (at + n - at) lent m ≡ laid lent at m
+unfolding laid written
+copied_laid at n lent m e = let k : at + n - at ≡ length m = omega arith in rw k
 
--- a map met with the one at `at` of a list
+-- a map met with the one at `at` of a list, and then put in that place of another
 pub met_onwards : (n at : ℕ) (maps met : List ℕ) {met' : List ℕ} → met' ≡ written (meet n met (onwards at maps)) met → met' ≡ written (meet n met (drop at maps)) met
 met_onwards n at maps met e = e ∙ ap (λ (b : List ℕ). written (meet n met b) met) (rest_whole at maps)
 
--- and then copied to that place of another
-pub met_laid : {n : ℕ} (at : ℕ) (maps met suffixes : List ℕ) {met' : List ℕ} (after : List ℕ) → at + n ≤ length suffixes
-    → met' ≡ written (meet n met (onwards at maps)) met → length after ≡ length (mid_of at (length suffixes - at) suffixes)
-    → Filled n (byte met') (byte (mid_of at (length suffixes - at) suffixes)) (byte after)
-    → put_mid at (length suffixes - at) suffixes after ≡ laid suffixes at (meet n met (drop at maps))
-met_laid {n} at maps met suffixes after fits e long f =
-    let m : IsMap n (meet n met (drop at maps)) = meet_map n met (drop at maps) in
-    copied_laid at suffixes after (begins_written (meet n met (drop at maps)) met (met_onwards n at maps met e) m) m fits long f
+pub met_laid : (n at : ℕ) (maps met suffixes : List ℕ) {met' copied : List ℕ} → met' ≡ written (meet n met (onwards at maps)) met → copied ≡ take n met'
+    → put_mid at (at + n - at) suffixes copied ≡ laid suffixes at (meet n met (drop at maps))
+unfolding written
+met_laid n at maps met suffixes e f =
+    let m : Map = meet n met (drop at maps) in
+    let long : length m ≡ n = (meet_map n met (drop at maps)).long in
+    let first : take n (written m met) ≡ m = take_at m (drop (length m) met) n long in
+    rw (f, met_onwards n at maps met e, first) (copied_laid at n suffixes m long)
 
 pub onwards_canonical : {n : ℕ} (at : ℕ) (l : List ℕ) → Canonical n (byte (drop at l)) → Canonical n (byte (onwards at l))
 onwards_canonical at l c = rw (rest_whole at l) c

@@ -2,7 +2,7 @@
 -- start it, keep it and end it.
 use Prim.Native.Nat.{ℕ, suc, ◌+◌, ◌-◌, ◌*◌, ◌≤◌, ◌<◌}
 use mathlib.Core.List.{List, []}
-use mathlib.Core.Path.{◌≡◌, refl, sym, ap, ◌∙◌}
+use mathlib.Core.Path.{◌≡◌, sym, ap, ◌∙◌}
 use native.Mathlib.Decide.{ℕ_discrete}
 use native.Mathlib.Nat.{suc-mul, mul-le-mul_right}
 use native.Mathlib.Omega.{arith}
@@ -14,22 +14,21 @@ use Rattle.equivalence.proofs.Maps.{IsMap, whole_map}
 use Rattle.equivalence.proofs.Meets.{meet_map, meet_all_map}
 use Rattle.maplist.specs.InnerMapLists.{map_list, MapsListed, SuffixMeets}
 use Rattle.maplist.proofs.MapLists.{Begins, onwards, begins_is, begins_written, begins_canonical, begins_meet, meet_comm}
-use Rattle.maplist.proofs.MapLists.{map_list_length, map_list_from, listed_map, listed_room, listed_begins, laid_stretch, laid_later}
+use Rattle.maplist.proofs.MapLists.{map_list_length, map_list_from, listed_map, listed_begins, laid_stretch, laid_later}
 use Rattle.equivalence.proofs.Laying.{laid_length, laid_from}
 use borrow.Rule.Slice.PartMut.{put_mid}
 
-pub record Suffixes (n k : ℕ) (maps : List ℕ) (i at : ℕ) (met bytes : List ℕ) : Type 0 where
+pub record Suffixes (n k : ℕ) (maps : List ℕ) (i : ℕ) (met bytes : List ℕ) : Type 0 where
   pub listed : MapsListed n k maps
   pub room : k * n + n ≤ length bytes
   pub upto : i ≤ k
-  pub place : at ≡ i * n
   pub meets : Begins n met (meet_all n (drop i (map_list n k maps)))
   pub done : (j : ℕ) → i ≤ j → j ≤ k → stretch n bytes j ≡ meet_all n (drop j (map_list n k maps))
 
 -- no map is behind the last
 pub suffixes_start : {n k : ℕ} {maps : List ℕ} (met lent rest : List ℕ) {met' : List ℕ} → MapsListed n k maps → k * n + n ≤ length lent
     → met' ≡ written (whole n) met → rest ≡ written (whole n) (onwards (k * n) lent)
-    → Suffixes n k maps k (k * n) met' (put_mid (k * n) (length lent - k * n) lent rest)
+    → Suffixes n k maps k met' (put_mid (k * n) (length lent - k * n) lent rest)
 unfolding meet_all
 suffixes_start {n} {k} {maps} met lent rest p room e g =
     let w = whole_map n in
@@ -40,12 +39,11 @@ suffixes_start {n} {k} {maps} met lent rest p room e g =
       listed = p;
       room = rw (f, laid_length lent (k * n) (whole n) (omega (arith, w.long))) room;
       upto = omega arith;
-      place = refl;
       meets = rw none (begins_written (whole n) met e w);
       done = λ j h l. let is : j ≡ k = omega arith in rw (is, none, f) (laid_stretch n k lent (whole n) w.long room);
     }
 
-module _ {n k : ℕ} {maps : List ℕ} {i at : ℕ} {met bytes : List ℕ} (s : Suffixes n k maps i at met bytes) where
+module _ {n k : ℕ} {maps : List ℕ} {i : ℕ} {met bytes : List ℕ} (s : Suffixes n k maps i met bytes) where
   pub suffixes_canonical : Canonical n (byte met)
   suffixes_canonical = begins_canonical s.meets (meet_all_map n (drop i (map_list n k maps)))
 
@@ -57,45 +55,33 @@ module _ {n k : ℕ} {maps : List ℕ} {i at : ℕ} {met bytes : List ℕ} (s : 
     one_less : i - 1 < k
     one_less = omega (arith, s.upto)
 
-    suffixes_place : at - n ≡ (i - 1) * n
-    suffixes_place = let e : i ≡ suc (i - 1) = omega arith in omega (arith, s.place ∙ ap (λ (z : ℕ). z * n) e, suc-mul (i - 1) n)
+    pub suffixes_fits : (i - 1) * n + n ≤ length bytes
+    suffixes_fits = omega (arith, s.room, suc-mul (i - 1) n, mul-le-mul_right n one_less)
 
-    pub suffixes_back : n ≤ at
-    suffixes_back = omega (arith, s.place, mul-le-mul_right n some)
+    this : Begins n (drop ((i - 1) * n) maps) (stretch n maps (i - 1))
+    this = listed_begins s.listed (i - 1)
 
-    -- the map in front has room in both lists
-    pub suffixes_map : at - n + n ≤ length maps
-    suffixes_map = omega (arith, suffixes_place, listed_room s.listed (i - 1) one_less)
-
-    pub suffixes_fits : at - n + n ≤ length bytes
-    suffixes_fits = omega (arith, suffixes_place, s.room, suc-mul (i - 1) n, mul-le-mul_right n one_less)
-
-    this : Begins n (drop (at - n) maps) (stretch n maps (i - 1))
-    this = rw suffixes_place (listed_begins s.listed (i - 1))
-
-    pub suffixes_this : Canonical n (byte (drop (at - n) maps))
+    pub suffixes_this : Canonical n (byte (drop ((i - 1) * n) maps))
     suffixes_this = begins_canonical this (listed_map s.listed (i - 1) one_less)
 
     -- one map more in front
-    pub suffixes_more : {met' bytes' : List ℕ} → met' ≡ written (meet n met (drop (at - n) maps)) met → bytes' ≡ laid bytes (at - n) (meet n met (drop (at - n) maps))
-        → Suffixes n k maps (i - 1) (at - n) met' bytes'
+    pub suffixes_more : {met' bytes' : List ℕ} → met' ≡ written (meet n met (drop ((i - 1) * n) maps)) met → bytes' ≡ laid bytes ((i - 1) * n) (meet n met (drop ((i - 1) * n) maps))
+        → Suffixes n k maps (i - 1) met' bytes'
     unfolding meet_all
     suffixes_more e f =
-        let m : Map = meet n met (drop (at - n) maps) in
-        let t : IsMap n m = meet_map n met (drop (at - n) maps) in
-        let fits : (i - 1) * n + n ≤ length bytes = omega (arith, suffixes_place, suffixes_fits) in
+        let m : Map = meet n met (drop ((i - 1) * n) maps) in
+        let t : IsMap n m = meet_map n met (drop ((i - 1) * n) maps) in
         let next : suc (i - 1) ≡ i = omega arith in
         let new : m ≡ meet_all n (drop (i - 1) (map_list n k maps)) =
-        meet_comm n met (drop (at - n) maps) ∙ begins_meet this (begins_is s.meets (ap (λ (j : ℕ). meet_all n (drop j (map_list n k maps))) (sym next)))
+        meet_comm n met (drop ((i - 1) * n) maps) ∙ begins_meet this (begins_is s.meets (ap (λ (j : ℕ). meet_all n (drop j (map_list n k maps))) (sym next)))
         ∙ ap (meet_all n) (sym (map_list_from n k maps (i - 1) one_less)) in
         record {
           listed = s.listed;
-          room = rw (f, laid_length bytes (at - n) m (omega (arith, t.long, suffixes_fits))) s.room;
+          room = rw (f, laid_length bytes ((i - 1) * n) m (omega (arith, t.long, suffixes_fits))) s.room;
           upto = omega (arith, s.upto);
-          place = suffixes_place;
           meets = begins_is (begins_written m met e t) new;
-          done = λ j h l. rw (f ∙ ap (λ (z : ℕ). laid bytes z m) suffixes_place) (elim (ℕ_discrete j (i - 1)) [
-            | yes is ↦ rw is (laid_stretch n (i - 1) bytes m t.long fits ∙ new)
-            | no is ↦ laid_later n (i - 1) j bytes m t.long fits (omega arith) ∙ s.done j (omega arith) l
+          done = λ j h l. rw f (elim (ℕ_discrete j (i - 1)) [
+            | yes is ↦ rw is (laid_stretch n (i - 1) bytes m t.long suffixes_fits ∙ new)
+            | no is ↦ laid_later n (i - 1) j bytes m t.long suffixes_fits (omega arith) ∙ s.done j (omega arith) l
           ]);
         }

@@ -7,7 +7,6 @@ ghost use Rattle.kernel.specs.InnerKernel.{Canonical};
 ghost use Rattle.equivalence.specs.Lent.{written, laid};
 ghost use Rattle.maplist.specs.InnerMapLists.{map_list, MapsListed, SuffixMeets};
 
-use equivalence::blocks::copy;
 use lattice::meets::{first_alike, meet_with};
 
 // The first n bytes become the map with one block.
@@ -15,11 +14,7 @@ pub fn whole_into(n: usize, m: &mut [u8])
     requires { n ≤ length m.old }
     ensures { m.new ≡ written (whole n) m.old }
 {
-    let mut x = 0;
-    while x < n {
-        m[x] = 0;
-        x += 1;
-    }
+    m[..n].fill(0);
 }
 
 // Whether a and b meet in the identity: whether no two elements have the same names in both. The first two that have them end it. `table` is working
@@ -33,13 +28,11 @@ pub fn meets_in_identity(n: usize, a: &[u8], b: &[u8], table: &mut [u8]) -> bool
     requires in_bounds { 4096 ≤ length table.old }
     ensures { result ≡ is_identity n (meet n a.now b.now) }
 {
-    let mut x = 0;
-    while x < n {
+    for x in 0..n {
         let first = first_alike(x, a[x], b[x], table);
         if first as usize != x {
             return false;
         }
-        x += 1;
     }
     true
 }
@@ -64,7 +57,7 @@ fn meet_back(
     ensures suffixes_after { suffixes.new ≡ laid suffixes.old at (meet n met.old (drop at maps.now)) }
 {
     meet_with(n, &maps[at..], table, met);
-    copy(n, met, &mut suffixes[at..]);
+    suffixes[at..at + n].copy_from_slice(&met[..n]);
 }
 
 // The meet of the maps from number i on is laid at stretch i of `suffixes`, for every i up to their count. `table` and `met` are working storage.
@@ -82,13 +75,9 @@ pub fn suffix_meets(
     requires n_in_bounds_2 { count * n + n ≤ length suffixes.old }
     ensures { SuffixMeets n (map_list n count maps.now) suffixes.new }
 {
-    let mut i = count;
-    let mut at = count * n;
     whole_into(n, met);
-    whole_into(n, &mut suffixes[at..]);
-    while i > 0 {
-        i -= 1;
-        at -= n;
-        meet_back(n, maps, at, table, met, suffixes);
+    whole_into(n, &mut suffixes[count * n..]);
+    for i in (0..count).rev() {
+        meet_back(n, maps, i * n, table, met, suffixes);
     }
 }

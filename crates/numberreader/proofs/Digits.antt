@@ -10,7 +10,7 @@ use lib.Dec.{leb}
 use lib.ListN.{length}
 use Rattle.numberreader.specs.Reading.{found, fault, byte_at}
 use Rattle.numberreader.specs.Numbers.{digit_at, number}
-use Rattle.numberreader.specs.InnerPromises.{is_digit, NumberRead}
+use Rattle.numberreader.specs.InnerPromises.{is_digit, NumberFound}
 use Rattle.numberreader.proofs.Readers.{within_text}
 
 module _ (text : List ℕ) (at : ℕ) where
@@ -61,16 +61,8 @@ module _ (text : List ℕ) (at a : ℕ) (ea : a ≡ digit_at text at) where
           let e : 100 * a + 10 * b + c ≡ 10 * (10 * a + b) + c = omega arith in
           simp (number, ← ea, ← eb, ← ec, le-ltb 9 a h, ne_eqb a 0 z, le-ltb 9 b k, le-ltb 9 c l, e, le-ltb 255 (10 * (10 * a + b) + c) m)
 
--- a byte that is a digit, and one that is not
+-- a byte that is a digit
 module _ (b : ℕ) where
-  pub digit_not_below : b < 48 → false ≡ is_digit b
-  unfolding is_digit
-  digit_not_below h = sym (simp (is_digit, lt-leb 48 b h))
-
-  pub digit_to_nine : 48 ≤ b → leb b 57 ≡ is_digit b
-  unfolding is_digit
-  digit_to_nine h = sym (simp (is_digit, le-leb 48 b h))
-
   module _ (d : Bool) (e : d ≡ is_digit b) (h : not d ≡ false) where
     both : (p q : Bool) → (p && q) ≡ true → (p ≡ true) × (q ≡ true)
     both true q k = (refl, k)
@@ -97,9 +89,8 @@ module _ (text : List ℕ) (at b : ℕ) (eb : b ≡ byte_at text at) (d : Bool) 
 
 -- and where the reader of numbers comes to, by the bytes x, y and z from a place on, and whether each is a digit
 module _ (text : List ℕ) (at x : ℕ) (ex : x ≡ byte_at text at) (p : Bool) (ep : p ≡ is_digit x) where
-  pub no_digit : at ≤ length text → not p ≡ true → NumberRead text at (number text at) (record { ok = false; value = 0; next = at })
-  no_digit w h =
-      record { within = omega arith; past = omega arith; value = number_none text at 10 (digit_none text at x ex p ep h) (omega arith) }
+  pub no_digit : not p ≡ true → number text at ≡ fault
+  no_digit h = number_none text at 10 (digit_none text at x ex p ep h) (omega arith)
 
   module _ (hp : not p ≡ false) (y : ℕ) (ey : y ≡ byte_at text (at + 1)) (q : Bool) (eq : q ≡ is_digit y) where
     a : x - 48 ≡ digit_at text at
@@ -111,7 +102,7 @@ module _ (text : List ℕ) (at x : ℕ) (ex : x ≡ byte_at text at) (p : Bool) 
     one : x - 48 ≤ 9
     one = omega (arith, digit_high x p ep hp)
 
-    pub one_digit : not q ≡ true → NumberRead text at (number text at) (record { ok = true; value = x - 48; next = at + 1 })
+    pub one_digit : not q ≡ true → NumberFound text at (number text at) (record { value = x - 48; next = at + 1 })
     one_digit h =
         record {
           within = omega (arith, first);
@@ -119,7 +110,7 @@ module _ (text : List ℕ) (at x : ℕ) (ex : x ≡ byte_at text at) (p : Bool) 
           value = number_one text at (x - 48) a 10 (digit_none text (at + 1) y ey q eq h) one (omega arith);
         }
 
-    pub digit_zero : x ≡ 48 → NumberRead text at (number text at) (record { ok = true; value = 0; next = at + 1 })
+    pub digit_zero : x ≡ 48 → NumberFound text at (number text at) (record { value = 0; next = at + 1 })
     digit_zero h =
         record { within = omega (arith, first); past = omega arith; value = number_zero text at (x - 48) a one (omega arith) }
 
@@ -136,7 +127,7 @@ module _ (text : List ℕ) (at x : ℕ) (ex : x ≡ byte_at text at) (p : Bool) 
       some : x - 48 ≡ 0 → ⊥
       some e = h (omega (arith, digit_low x p ep hp))
 
-      pub two_digits : not r ≡ true → NumberRead text at (number text at) (record { ok = true; value = 10 * (x - 48) + (y - 48); next = at + 2 })
+      pub two_digits : not r ≡ true → NumberFound text at (number text at) (record { value = 10 * (x - 48) + (y - 48); next = at + 2 })
       two_digits k =
           record {
             within = omega (arith, second);
@@ -151,13 +142,11 @@ module _ (text : List ℕ) (at x : ℕ) (ex : x ≡ byte_at text at) (p : Bool) 
         three : z - 48 ≤ 9
         three = omega (arith, digit_high z r er hr)
 
-        pub too_large : at ≤ length text → 255 < 10 * (10 * (x - 48) + (y - 48)) + (z - 48)
-            → NumberRead text at (number text at) (record { ok = false; value = 0; next = at })
-        too_large w m =
-            record { within = omega arith; past = omega arith; value = number_large text at (x - 48) a (y - 48) b one some (z - 48) c two three m }
+        pub too_large : 255 < 10 * (10 * (x - 48) + (y - 48)) + (z - 48) → number text at ≡ fault
+        too_large m = number_large text at (x - 48) a (y - 48) b one some (z - 48) c two three m
 
         pub three_digits : 10 * (10 * (x - 48) + (y - 48)) + (z - 48) ≤ 255
-            → NumberRead text at (number text at) (record { ok = true; value = 10 * (10 * (x - 48) + (y - 48)) + (z - 48); next = at + 3 })
+            → NumberFound text at (number text at) (record { value = 10 * (10 * (x - 48) + (y - 48)) + (z - 48); next = at + 3 })
         three_digits m =
             record {
               within = omega (arith, within_text text (at + 2) (omega (arith, digit_low z r er hr)));

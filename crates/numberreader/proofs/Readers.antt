@@ -1,7 +1,7 @@
 -- Readers one after another: what the first finds decides what the second is asked.
-use Prim.Native.Nat.{ℕ, ◌+◌, ◌≤◌, ◌<◌}
+use Prim.Native.Nat.{ℕ, ◌+◌, ◌<◌}
 use Prim.Native.Char.{Char, code}
-use mathlib.Core.Bool.{Bool, true, false}
+use mathlib.Core.Bool.{true, false}
 use mathlib.Core.List.{List, [], ◌++◌, append_assoc}
 use mathlib.Core.Path.{◌≡◌, refl, ap, sym, ◌∙◌}
 use native.Mathlib.Decide.{dec_lt}
@@ -9,7 +9,7 @@ use native.Mathlib.Omega.{arith}
 use borrow.Author.Tests.{eq-eqb, ne_eqb}
 use lib.ListN.{length, get_or-eq_default}
 use Rattle.numberreader.specs.Reading.{Read, Reader, found, fault, byte_at, onward, ◌>>=◌, ◌>>◌, mark, gap, branch, behind, begins, opened}
-use Rattle.numberreader.specs.InnerPromises.{read_of, GapRead}
+use Rattle.numberreader.specs.InnerPromises.{GapFound}
 
 -- past the end no byte but 0 stands
 pub within_text : (text : List ℕ) (at : ℕ) → 0 < byte_at text at → at < length text
@@ -42,10 +42,13 @@ unfolding onward
 before_twice xs ys (found zs next) = ap (λ (l : List ℕ). found l next) (sym (append_assoc xs ys zs))
 before_twice xs ys fault = refl
 
-pub before_read : (xs ys : List ℕ) (ok : Bool) (end : ℕ) (r : Read (List ℕ)) → r ≡ read_of ok ys end → before xs r ≡ read_of ok (xs ++ ys) end
+pub before_found : (xs ys : List ℕ) (end : ℕ) (r : Read (List ℕ)) → r ≡ found ys end → before xs r ≡ found (xs ++ ys) end
 unfolding onward
-before_read xs ys true end r e = rw e
-before_read xs ys false end r e = rw e
+before_found xs ys end r e = rw e
+
+pub before_fault : (xs : List ℕ) (r : Read (List ℕ)) → r ≡ fault → before xs r ≡ fault
+unfolding onward
+before_fault xs r e = rw e
 
 module _ (c : Char) (text : List ℕ) (at : ℕ) where
   pub mark_found : byte_at text at ≡ code c → mark c text at ≡ found tt (at + 1)
@@ -74,27 +77,22 @@ module _ {A B : Type 0} (first : Reader A) (body other : Reader B) (text : List 
 
 -- what stands between two items is one byte
 module _ (text : List ℕ) (at b : ℕ) (eb : b ≡ byte_at text at) where
-  pub gap_here : b ≡ 32 → GapRead text at (at + 1)
+  pub gap_here : b ≡ 32 → GapFound text at (at + 1)
   unfolding gap
   gap_here h =
-      record {
-        none = λ e. absurd (omega arith);
-        some = λ _. mark_found " " text at (sym eb ∙ h);
-        reached = record { within = omega (arith, within_text text at (omega arith)); past = omega arith };
-      }
+      record { value = mark_found " " text at (sym eb ∙ h); within = omega (arith, within_text text at (omega arith)); past = omega arith }
 
-  pub no_gap : at ≤ length text → (b ≡ 32 → ⊥) → GapRead text at at
+  pub no_gap : (b ≡ 32 → ⊥) → gap text at ≡ fault
   unfolding gap
-  no_gap w h =
-      record { none = λ _. mark_fault " " text at (λ g. h (eb ∙ g)); some = λ n. absurd (n refl); reached = record { within = w; past = omega arith } }
+  no_gap h = mark_fault " " text at (λ g. h (eb ∙ g))
 
 -- a gap and then more
-module _ {B : Type 0} (next : Reader B) (text : List ℕ) (at end : ℕ) (g : GapRead text at end) where
-  pub gapped : (end ≡ at → ⊥) → ◌>>◌ gap next text at ≡ next text end
-  gapped h = then_found gap (λ _. next) text at tt end (g.some h)
+module _ {B : Type 0} (next : Reader B) (text : List ℕ) (at : ℕ) where
+  pub gapped : (end : ℕ) → GapFound text at end → ◌>>◌ gap next text at ≡ next text end
+  gapped end g = then_found gap (λ _. next) text at tt end g.value
 
-  pub ungapped : end ≡ at → ◌>>◌ gap next text at ≡ fault
-  ungapped h = then_fault gap (λ _. next) text at (g.none h)
+  pub ungapped : gap text at ≡ fault → ◌>>◌ gap next text at ≡ fault
+  ungapped g = then_fault gap (λ _. next) text at g
 
 module _ {A : Type 0} (word : List ℕ) (body other : Reader A) (text : List ℕ) (at : ℕ) where
   pub opened_body : begins text at word ≡ true → opened word body other text at ≡ body text (at + length word)

@@ -17,12 +17,11 @@ use Rattle.numberreader.proofs.Readers.{within_text}
 
 -- the first i bytes of the word stand there
 pub record Matched (text : List ℕ) (at : ℕ) (word : List ℕ) (i : ℕ) : Type 0 where
-  pub passed : i ≤ length word
   pub rest : begins text at word ≡ begins text (at + i) (drop i word)
 
 module _ (text : List ℕ) (at : ℕ) (word : List ℕ) where
   pub matched_none : Matched text at word 0
-  matched_none = record { passed = omega arith; rest = rw add-zero }
+  matched_none = record { rest = rw add-zero }
 
   module _ (i : ℕ) (m : Matched text at word i) where
     step : i < length word → begins text (at + i) (drop i word) ≡ (eqb (byte_at text (at + i)) (get_or word i 0) && begins text (at + (i + 1)) (drop (i + 1) word))
@@ -31,7 +30,7 @@ module _ (text : List ℕ) (at : ℕ) (word : List ℕ) where
 
     pub matched_more : (b : ℕ) → i < length word → b ≡ byte_at text (at + i) → b ≡ get_or word i 0 → Matched text at word (i + 1)
     matched_more b h e k =
-        record { passed = omega arith; rest = m.rest ∙ step h ∙ simp (eq-eqb (byte_at text (at + i)) (get_or word i 0) (sym e ∙ k)) }
+        record { rest = m.rest ∙ step h ∙ simp (eq-eqb (byte_at text (at + i)) (get_or word i 0) (sym e ∙ k)) }
 
     pub matched_not : (b : ℕ) → i < length word → b ≡ byte_at text (at + i) → (b ≡ get_or word i 0 → ⊥) → false ≡ begins text at word
     matched_not b h e k =

@@ -1,6 +1,5 @@
 -- What inner readers of bytes, gaps and numbers promise: what they came to, and where they stand.
-use Rattle.std.specs.Prelude.{ℕ, ◌+◌, ◌≤◌, Bool, true, false, ◌&&◌, List, ◌≡◌, leb, length}
-use Rattle.kernel.specs.InnerKernel.{bit}
+use Rattle.std.specs.Prelude.{ℕ, ◌≤◌, ◌<◌, Bool, ◌&&◌, List, ◌≡◌, Option, MatchOption, leb, length}
 use Rattle.numberreader.specs.Reading.{Read, found, fault, gap}
 use Rattle.numberreader.specs.declared.Number.{Number}
 
@@ -8,24 +7,27 @@ use Rattle.numberreader.specs.declared.Number.{Number}
 unfoldable pub is_digit : ℕ → Bool
 is_digit b = leb 48 b && leb b 57
 
--- a value and the place after it, or a fault, as a flag tells
-abbrev pub read_of : {A : Type 0} → Bool → A → ℕ → Read A
-read_of true a next = found a next
-read_of false a next = fault
-
 -- a reader that began at `at` came to a place in the text that is no less
 pub record Reached (text : List ℕ) (at next : ℕ) : Type 0 where
   pub within : next ≤ length text
   pub past : at ≤ next
 
--- what stands between two items was looked for: it ends here, or where it began, if there is none
-pub record GapRead (text : List ℕ) (at end : ℕ) : Type 0 where
-  pub none : end ≡ at → gap text at ≡ fault
-  pub some : (end ≡ at → ⊥) → gap text at ≡ found tt end
-  pub reached : Reached text at end
+-- what stands between two items ends here
+pub record GapFound (text : List ℕ) (at end : ℕ) : Type 0 where
+  pub value : gap text at ≡ found tt end
+  pub within : end ≤ length text
+  pub past : at < end
 
--- a reader of a number came to what `d` says, and took a byte at least
-pub record NumberRead (text : List ℕ) (at : ℕ) (d : Read ℕ) (r : Number) : Type 0 where
-  pub value : d ≡ read_of r.ok r.value r.next
-  pub within : r.next ≤ length text
-  pub past : at + bit r.ok ≤ r.next
+-- what stands between two items was looked for
+abbrev pub GapRead : List ℕ → ℕ → Option ℕ → Type 0
+GapRead text at r = MatchOption r (gap text at ≡ fault) (GapFound text at)
+
+-- a reader of a number came to what `d` says: this number, and a place that is a byte further on at least
+pub record NumberFound (text : List ℕ) (at : ℕ) (d : Read ℕ) (v : Number) : Type 0 where
+  pub value : d ≡ found v.value v.next
+  pub within : v.next ≤ length text
+  pub past : at < v.next
+
+-- a number was looked for
+abbrev pub NumberRead : List ℕ → ℕ → Read ℕ → Option Number → Type 0
+NumberRead text at d r = MatchOption r (d ≡ fault) (NumberFound text at d)

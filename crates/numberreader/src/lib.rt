@@ -9,10 +9,9 @@ ghost use Rattle.numberreader.specs.InnerPromises.{is_digit, GapRead, NumberRead
 // The largest number in a text.
 const MAX_NUMBER: u16 = 255;
 
-// A number that was read, and the place after it; where `ok` is false, nothing.
-#[derive(Clone, Copy)]
+// A number that was read, and the place after it.
+#[derive(Clone, Copy, Debug, PartialEq, Eq)]
 pub struct Number {
-    pub ok: bool,
     pub value: u8,
     pub next: usize,
 }
@@ -21,17 +20,14 @@ pub struct Number {
 pub fn byte_at(text: &[u8], at: usize) -> u8
     ensures { result ≡ byte_at text.now at }
 {
-    if at < text.len() { text[at] } else { 0 }
+    text.get(at).copied().unwrap_or(0)
 }
 
 // Whether a byte is a digit.
 pub fn is_digit(b: u8) -> bool
     ensures { result ≡ is_digit b }
 {
-    if b < b'0' {
-        return false;
-    }
-    b <= b'9'
+    b.is_ascii_digit()
 }
 
 // Whether the bytes of a word stand from a place on.
@@ -39,72 +35,61 @@ pub fn begins_with(text: &[u8], at: usize, word: &[u8]) -> bool
     requires { at ≤ length text.now }
     ensures { result ≡ begins text.now at word.now }
 {
-    let mut i = 0;
-    while i < word.len() {
-        if byte_at(text, at + i) != word[i] {
+    for (i, b) in word.iter().enumerate() {
+        if byte_at(text, at + i) != *b {
             return false;
         }
-        i += 1;
     }
     true
 }
 
-// The place behind what stands between two items; the place itself where no such thing stands.
-pub fn gap_end(text: &[u8], at: usize) -> usize
+// The place behind what stands between two items, if such a thing stands here.
+pub fn gap_end(text: &[u8], at: usize) -> Option<usize>
     requires { at ≤ length text.now }
     ensures { GapRead text.now at result }
 {
     if byte_at(text, at) != b' ' {
-        return at;
+        return None;
     }
-    at + 1
+    Some(at + 1)
 }
 
-// A number from 0 to 255 without leading zeros.
-pub fn read_number(text: &[u8], at: usize) -> Number
+// A number from 0 to 255 without leading zeros, if one stands here.
+pub fn read_number(text: &[u8], at: usize) -> Option<Number>
     requires { at ≤ length text.now }
     ensures { NumberRead text.now at (number text.now at) result }
 {
-    let none = Number {
-        ok: false,
-        value: 0,
-        next: at,
-    };
     let a = byte_at(text, at);
     if !is_digit(a) {
-        return none;
+        return None;
     }
     let b = byte_at(text, at + 1);
     if !is_digit(b) {
-        return Number {
-            ok: true,
+        return Some(Number {
             value: a - b'0',
             next: at + 1,
-        };
+        });
     }
     if a == b'0' {
-        return Number {
-            ok: true,
+        return Some(Number {
             value: 0,
             next: at + 1,
-        };
+        });
     }
     let c = byte_at(text, at + 2);
     let two = 10 * (a - b'0') + (b - b'0');
     if !is_digit(c) {
-        return Number {
-            ok: true,
+        return Some(Number {
             value: two,
             next: at + 2,
-        };
+        });
     }
-    let three = 10 * (two as u16) + (c - b'0') as u16;
+    let three = 10 * u16::from(two) + u16::from(c - b'0');
     if MAX_NUMBER < three {
-        return none;
+        return None;
     }
-    Number {
-        ok: true,
+    Some(Number {
         value: three as u8,
         next: at + 3,
-    }
+    })
 }

@@ -2,15 +2,14 @@
 use Rattle.std.specs.Prelude.{ℕ, not, List, [], ◌∷◌, map, take, replicate}
 use Rattle.equivalence.specs.Equivalence.{is_map}
 use Rattle.equivalence.specs.Lists.{every}
-use Rattle.equivalence.specs.Refusal.{Test, lowest, size_test, answered}
+use Rattle.equivalence.specs.Refusal.{Test, size_test}
 use Rattle.equivalence.specs.declared.Refusal.TheVariants.{NotMap}
 use Rattle.sheet.specs.Sheet.{zero_point}
-use Rattle.bench.specs.declared.Answer.TheVariants.{Done, Refused}
+use Rattle.bench.specs.Calls.{benched}
+use Rattle.bench.specs.declared.Benched.{Benched}
 use Rattle.oldbenches.specs.declared.BenchV1.{BenchV1}
 use Rattle.oldbenches.specs.declared.BenchV2.{BenchV2}
 use Rattle.oldbenches.specs.declared.BenchV3.{BenchV3}
-use Rattle.oldbenches.specs.declared.BenchedV2.{BenchedV2}
-use Rattle.oldbenches.specs.declared.BenchedV3.{BenchedV3}
 use Rattle.oldbenches.specs.declared.SheetV1.{SheetV1}
 use Rattle.oldbenches.specs.declared.SheetV3.{SheetV3}
 
@@ -37,9 +36,8 @@ unfoldable pub zero_bench_v2 : BenchV2
 zero_bench_v2 = record { n = 0; tally = 0; sheets = replicate 8 (record { map = replicate 64 0 }) }
 
 -- conversion of a bench of the first kind (1, 8): one of the second with all that it holds; refused, one of zeros
-unfoldable pub convert_v1_call : BenchV1 → BenchedV2
-convert_v1_call old =
-    answered (λ r. record { answer = Refused r; bench = zero_bench_v2 }) (lowest (convert_tests old.n old.sheets)) (record { answer = Done; bench = widened old })
+unfoldable pub convert_v1_call : BenchV1 → Benched BenchV2
+convert_v1_call old = benched (convert_tests old.n old.sheets) (widened old) zero_bench_v2
 
 -- ---- the second kind
 
@@ -64,9 +62,5 @@ unfoldable pub zero_bench_v3 : BenchV3
 zero_bench_v3 = record { n = 0; tally = 0; sheets = replicate 8 zero_sheet_v3 }
 
 -- conversion of a bench of the second kind (1, 8): one of the third with all that it holds, and no points; refused, one of zeros
-unfoldable pub convert_v2_call : BenchV2 → BenchedV3
-convert_v2_call old =
-    answered
-    (λ r. record { answer = Refused r; bench = zero_bench_v3 })
-    (lowest (convert_tests old.n old.sheets))
-    (record { answer = Done; bench = without_points old })
+unfoldable pub convert_v2_call : BenchV2 → Benched BenchV3
+convert_v2_call old = benched (convert_tests old.n old.sheets) (without_points old) zero_bench_v3

@@ -2,17 +2,18 @@
 // and the third kind; `conversion` has the one into today's.
 #![tactic(auto)]
 
-ghost use Rattle.std.specs.Prelude.{◌≡◌, map, ◌≤◌, take};
+ghost use Rattle.std.specs.Prelude.{◌≡◌, ◌≤◌, take};
 ghost use Rattle.equivalence.specs.Equivalence.{is_map};
 ghost use Rattle.equivalence.specs.Lists.{every};
 ghost use Rattle.equivalence.specs.Refusal.{lowest};
 ghost use Rattle.oldbenches.specs.OldKinds.{convert_tests, widened, zero_bench_v2, convert_v1_call, zero_sheet_v3, unpointed, without_points, zero_bench_v3, convert_v2_call};
 
-use bench::{Answer, SHEETS};
-use equivalence::{Check, Refusal};
-use sheet::{MAP_BYTES, NAME_BYTES, PLACES, Point};
+use bench::{Benched, SHEETS};
+use equivalence::Refusal;
+use sheet::{MAP_BYTES, NAME_BYTES, PLACES, Point, Sheet};
 
-// A sheet of the first two kinds: a map alone.
+// A sheet of the first two kinds: a map alone. The kinds are types of their own: of one generic type the first two would be the same record in specs/, and no function
+// serves two kinds.
 #[derive(Clone, Copy)]
 pub struct SheetV1 {
     pub map: [u8; MAP_BYTES],
@@ -34,13 +35,6 @@ pub struct BenchV2 {
     pub sheets: [SheetV1; SHEETS],
 }
 
-// What the conversion into the second kind gives.
-#[derive(Clone, Copy)]
-pub struct BenchedV2 {
-    pub answer: Answer,
-    pub bench: BenchV2,
-}
-
 // A sheet of the third kind: a map and points.
 #[derive(Clone, Copy)]
 pub struct SheetV3 {
@@ -57,52 +51,38 @@ pub struct BenchV3 {
     pub sheets: [SheetV3; SHEETS],
 }
 
-// What the conversion into the third kind gives.
-#[derive(Clone, Copy)]
-pub struct BenchedV3 {
-    pub answer: Answer,
-    pub bench: BenchV3,
-}
-
 // Whether all eight old sheets have maps over n.
 fn all_have_maps(n: usize, old: [SheetV1; SHEETS]) -> bool
     requires { n ≤ 64 }
     ensures { result ≡ every (λ s. is_map n (take n s.map)) old }
 {
-    let mut k: usize = 0;
-    while k < SHEETS {
-        let sheet = old[k];
-        let map = sheet.map;
-        if !sheet::has_map(n, &map) {
-            return false;
-        }
-        k += 1;
-    }
-    true
+    old.iter().all(|sheet| sheet::has_map(n, &sheet.map))
 }
 
 // A conversion's tests: 1 and 8.
-fn convert_check(n: usize, old: [SheetV1; SHEETS]) -> Check
+fn convert_check(n: usize, old: [SheetV1; SHEETS]) -> Result<(), Refusal>
     ensures { result ≡ lowest (convert_tests n old) }
 {
     if !equivalence::checks::is_size(n) {
-        return Check::Failed(Refusal::Size);
+        return Err(Refusal::Size);
     }
     if !all_have_maps(n, old) {
-        return Check::Failed(Refusal::NotMap);
+        return Err(Refusal::NotMap);
     }
-    Check::Passed
+    Ok(())
 }
 
 // A bench of the second kind with all that one of the first holds.
-fn widened(old: BenchV1) -> BenchV2
-    ensures { result ≡ widened old }
-{
-    let sheets = old.sheets;
-    BenchV2 {
-        n: old.n,
-        tally: old.tally as u64,
-        sheets,
+impl From<BenchV1> for BenchV2 {
+    ghost from_gives = { λ old new. new ≡ widened old };
+
+    fn from(old: BenchV1) -> BenchV2 {
+        let BenchV1 { n, tally, sheets } = old;
+        BenchV2 {
+            n,
+            tally: u64::from(tally),
+            sheets,
+        }
     }
 }
 
@@ -121,21 +101,11 @@ fn zeros_v2() -> BenchV2
 }
 
 // The old bench's n, tally and sheets, every byte of them. Refused, a bench of zeros.
-pub fn convert_v1(old: BenchV1) -> BenchedV2
+pub fn convert_v1(old: BenchV1) -> Benched<BenchV2>
     ensures { result ≡ convert_v1_call old }
 {
-    let maps = old.sheets;
-    let check = convert_check(old.n, maps);
-    match check {
-        Check::Failed(reason) => BenchedV2 {
-            answer: Answer::Refused(reason),
-            bench: zeros_v2(),
-        },
-        Check::Passed => BenchedV2 {
-            answer: Answer::Done,
-            bench: widened(old),
-        },
-    }
+    let check = convert_check(old.n, old.sheets);
+    Benched::by(check, zeros_v2(), || BenchV2::from(old))
 }
 
 // A sheet of the third kind of zeros.
@@ -166,55 +136,51 @@ fn zeros_v3() -> BenchV3
 }
 
 // A sheet with an old one's map and no points.
-fn unpointed(old: SheetV1) -> SheetV3
-    ensures { result ≡ unpointed old }
-{
-    let map = old.map;
-    let mut sheet = zero_sheet_v3();
-    sheet.map = map;
-    sheet
+impl From<SheetV1> for SheetV3 {
+    ghost from_gives = { λ old new. new ≡ unpointed old };
+
+    fn from(old: SheetV1) -> SheetV3 {
+        let map = old.map;
+        SheetV3 {
+            map,
+            ..zero_sheet_v3()
+        }
+    }
 }
 
-// Sheets with the old ones' maps and no points.
-fn all_unpointed(old: [SheetV1; SHEETS]) -> [SheetV3; SHEETS]
-    ensures { result ≡ map unpointed old }
-{
-    let mut made = [zero_sheet_v3(); SHEETS];
-    let mut k: usize = 0;
-    while k < SHEETS {
-        let sheet = old[k];
-        made[k] = unpointed(sheet);
-        k += 1;
+// Today's sheet without its tally.
+impl From<Sheet> for SheetV3 {
+    ghost from_gives = { λ old new. new ≡ record { map = old.map; count = old.count; points = old.points } };
+
+    fn from(old: Sheet) -> SheetV3 {
+        let Sheet {
+            map,
+            count,
+            points,
+            ..
+        } = old;
+        SheetV3 { map, count, points }
     }
-    made
 }
 
 // A bench of the third kind with all that one of the second holds, and no points.
-fn without_points(old: BenchV2) -> BenchV3
-    ensures { result ≡ without_points old }
-{
-    let maps = old.sheets;
-    BenchV3 {
-        n: old.n,
-        tally: old.tally,
-        sheets: all_unpointed(maps),
+impl From<BenchV2> for BenchV3 {
+    ghost from_gives = { λ old new. new ≡ without_points old };
+
+    fn from(old: BenchV2) -> BenchV3 {
+        let BenchV2 { n, tally, sheets } = old;
+        BenchV3 {
+            n,
+            tally,
+            sheets: sheets.map(SheetV3::from),
+        }
     }
 }
 
 // The old bench's n, tally and maps, every byte of them, and no points. Refused, a bench of zeros.
-pub fn convert_v2(old: BenchV2) -> BenchedV3
+pub fn convert_v2(old: BenchV2) -> Benched<BenchV3>
     ensures { result ≡ convert_v2_call old }
 {
-    let maps = old.sheets;
-    let check = convert_check(old.n, maps);
-    match check {
-        Check::Failed(reason) => BenchedV3 {
-            answer: Answer::Refused(reason),
-            bench: zeros_v3(),
-        },
-        Check::Passed => BenchedV3 {
-            answer: Answer::Done,
-            bench: without_points(old),
-        },
-    }
+    let check = convert_check(old.n, old.sheets);
+    Benched::by(check, zeros_v3(), || BenchV3::from(old))
 }

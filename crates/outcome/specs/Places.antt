@@ -1,9 +1,7 @@
 -- The number of a place.
-use Rattle.std.specs.Prelude.{ℕ}
-use Rattle.pairorder.specs.declared.Place.{Place}
-use Rattle.pairorder.specs.declared.Place.TheVariants.{At, Nowhere}
+use Rattle.std.specs.Prelude.{ℕ, Option, Some, None}
 
 -- a place, or 65,535 for none
-unfoldable pub place_number : Place → ℕ
-place_number (At place) = place
-place_number Nowhere = 65535
+unfoldable pub place_number : Option ℕ → ℕ
+place_number (Some place) = place
+place_number None = 65535

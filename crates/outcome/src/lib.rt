@@ -7,90 +7,91 @@ ghost use Rattle.equivalence.specs.Outcome.{packed, success, refusal, written_ou
 ghost use Rattle.congruence.specs.Outcome.{generated_outcome, divided_outcome, decomposed_outcome, certified_outcome};
 ghost use Rattle.outcome.specs.Places.{place_number};
 
-use congruence::{Certified, Decomposed, Divided, Generated};
-use equivalence::{Refusal, Written};
-use pairorder::Place;
-
-// A byte as a number of 32 bits.
-fn wide(x: u8) -> u32
-    ensures { result ≡ x }
-{
-    x as u32
-}
+use congruence::Decomposed;
+use equivalence::Refusal;
 
 // The number of a refusal.
+#[tactic(auto, unfolding(equivalence::specs::Outcome::packed, equivalence::specs::Outcome::refusal))]
 pub fn refused(reason: Refusal) -> u32
     ensures { result ≡ packed (refusal reason) }
 {
-    wide(equivalence::checks::number(reason))
+    u32::from(u8::from(reason))
 }
 
 // The number of a success with a count.
+#[tactic(auto, unfolding(equivalence::specs::Outcome::packed, equivalence::specs::Outcome::success))]
 pub fn succeeded(count: u8) -> u32
     ensures { result ≡ packed (success count) }
 {
-    256 * wide(count)
+    256 * u32::from(count)
 }
 
 // The number of Generate's answer.
-pub fn generated_number(answer: Generated) -> u32
+#[tactic(auto, unfolding(congruence::specs::Outcome::generated_outcome))]
+pub fn generated_number(answer: Result<u8, Refusal>) -> u32
     ensures { result ≡ packed (generated_outcome answer) }
 {
     match answer {
-        Generated::Merges(count) => succeeded(count),
-        Generated::Refused(reason) => refused(reason),
+        Ok(count) => succeeded(count),
+        Err(reason) => refused(reason),
     }
 }
 
 // The number of an answer that only writes a map.
-pub fn written_number(answer: Written) -> u32
+#[tactic(auto, unfolding(equivalence::specs::Outcome::written_outcome))]
+pub fn written_number(answer: Result<(), Refusal>) -> u32
     ensures { result ≡ packed (written_outcome answer) }
 {
     match answer {
-        Written::Done => succeeded(0),
-        Written::Refused(reason) => refused(reason),
+        Ok(()) => succeeded(0),
+        Err(reason) => refused(reason),
     }
 }
 
 // The number of Decompose's answer.
-pub fn decomposed_number(answer: Decomposed) -> u32
+#[tactic(auto, unfolding(equivalence::specs::Outcome::packed, congruence::specs::Outcome::decomposed_outcome))]
+pub fn decomposed_number(answer: Result<Decomposed, Refusal>) -> u32
     ensures { result ≡ packed (decomposed_outcome answer) }
 {
     match answer {
-        Decomposed::Factors(count) => succeeded(count),
-        Decomposed::Irreducible(x, y) => 11 + 65536 * wide(x.0) + 16777216 * wide(y.0),
-        Decomposed::Refused(reason) => refused(reason),
+        Ok(Decomposed::Factors(count)) => succeeded(count),
+        Ok(Decomposed::Irreducible(x, y)) => {
+            11 + 65536 * u32::from(x.0) + 16777216 * u32::from(y.0)
+        }
+        Err(reason) => refused(reason),
     }
 }
 
-// The number of Quotient's answer.
-pub fn divided_number(answer: Divided) -> u32
+// The number of Quotient's answer. The body of `generated_number`, which keeps a clause of its own: each names its service's outcome.
+#[tactic(auto, unfolding(congruence::specs::Outcome::divided_outcome))]
+pub fn divided_number(answer: Result<u8, Refusal>) -> u32
     ensures { result ≡ packed (divided_outcome answer) }
 {
     match answer {
-        Divided::Blocks(count) => succeeded(count),
-        Divided::Refused(reason) => refused(reason),
+        Ok(count) => succeeded(count),
+        Err(reason) => refused(reason),
     }
 }
 
 // The number of Certify's answer.
-pub fn certified_number(answer: Certified) -> u32
+#[tactic(auto, unfolding(congruence::specs::Outcome::certified_outcome))]
+pub fn certified_number(answer: Result<bool, Refusal>) -> u32
     ensures { result ≡ packed (certified_outcome answer) }
 {
     match answer {
-        Certified::Yes => succeeded(1),
-        Certified::No => succeeded(0),
-        Certified::Refused(reason) => refused(reason),
+        Ok(yes) => succeeded(u8::from(yes)),
+        Err(reason) => refused(reason),
     }
 }
 
 // The place of a pair, or 65,535.
+#[tactic(auto, unfolding(crate::specs::Places::place_number))]
 pub fn place_number(x: u8, y: u8) -> u32
     ensures { result ≡ place_number (place_of x y) }
 {
     let place = pairorder::pair_place(x, y);
     match place {
-        Place::At(at) => at as u32,
-        Place::Nowhere => 65535,
+        Some(at) => at as u32,
+        None => 65535,
     }
 }

@@ -14,7 +14,7 @@ use mathlib.Core.Path.{◌≡◌, refl, sym, subst, ◌∙◌}
 use native.Mathlib.Omega.{arith}
 use lib.Dec.{T}
 use lib.Seq.{append_snoc}
-use Rattle.equivalence.specs.Equivalence.{Map, holds, same}
+use Rattle.equivalence.specs.Equivalence.{Map, holds}
 use Rattle.pairorder.specs.Order.{Pair, pairs, not_later_on, not_later}
 use Rattle.equivalence.proofs.Maps.{Holds, holds_of, of_holds, IsMap, Inside, map_ext}
 use Rattle.pairorder.proofs.Pairs.{member_pairs, of_pairs, inside_by_pairs, Sorted, sorted_right, Lex, sorted_pairs}

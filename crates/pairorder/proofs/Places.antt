@@ -16,7 +16,7 @@ use Rattle.pairorder.specs.Order.{Pair, pairs, pairs_before, row_start, place_of
 use Rattle.equivalence.proofs.Lists.{keep_yes, keep_no, keep_append, map_at, rank}
 use Rattle.equivalence.proofs.Stretches.{concat_append}
 use Rattle.equivalence.proofs.Tests.{both, left, right, pick_yes, pick_no}
-use Rattle.pairorder.specs.declared.Place.TheVariants.{At, Nowhere}
+use Rattle.std.specs.Prelude.{Some, None}
 
 -- two bytes, multiplied; whichever they are, so that a wrong formula for a row's start is refused by what it gives and not here
 pub product_fits : {x y : ℕ} → x < 256 → y < 256 → Fits w64 (x * y)
@@ -46,17 +46,17 @@ module _ (n : ℕ) where
 abbrev pub place_in : ℕ → ℕ → ℕ
 place_in x y = row_start x + y - x - 1
 
-pub place_of_at : (x y : ℕ) → x < y → y < 64 → place_of x y ≡ At (place_in x y)
+pub place_of_at : (x y : ℕ) → x < y → y < 64 → place_of x y ≡ Some (place_in x y)
 unfolding place_of
-place_of_at x y l k = pick_yes (ltb x y && ltb y 64) (At (place_in x y)) Nowhere (both (ltb x y) (ltb y 64) (lt→ltb x y l) (lt→ltb y 64 k))
+place_of_at x y l k = pick_yes (ltb x y && ltb y 64) (Some (place_in x y)) None (both (ltb x y) (ltb y 64) (lt→ltb x y l) (lt→ltb y 64 k))
 
-pub place_of_unordered : (x y : ℕ) → y ≤ x → place_of x y ≡ Nowhere
+pub place_of_unordered : (x y : ℕ) → y ≤ x → place_of x y ≡ None
 unfolding place_of
-place_of_unordered x y l = pick_no (ltb x y && ltb y 64) (At (place_in x y)) Nowhere (λ t. omega (arith, ltb→lt x y (left (ltb x y) (ltb y 64) t)))
+place_of_unordered x y l = pick_no (ltb x y && ltb y 64) (Some (place_in x y)) None (λ t. omega (arith, ltb→lt x y (left (ltb x y) (ltb y 64) t)))
 
-pub place_of_large : (x y : ℕ) → 64 ≤ y → place_of x y ≡ Nowhere
+pub place_of_large : (x y : ℕ) → 64 ≤ y → place_of x y ≡ None
 unfolding place_of
-place_of_large x y l = pick_no (ltb x y && ltb y 64) (At (place_in x y)) Nowhere (λ t. omega (arith, ltb→lt y 64 (right (ltb x y) (ltb y 64) t)))
+place_of_large x y l = pick_no (ltb x y && ltb y 64) (Some (place_in x y)) None (λ t. omega (arith, ltb→lt y 64 (right (ltb x y) (ltb y 64) t)))
 
 -- ---- the place is the pair's index in the list of pairs
 
@@ -115,7 +115,7 @@ module _ (n : ℕ) where
       let e : pairs_before n x + y - x - 1 ≡ pairs_before n x + (y - 1 - x) = omega arith in
       rw e (r.0, r.1 ∙ row_at x y l k)
 
-pub place_index : (x y k : ℕ) → place_of x y ≡ At k → (k < length (pairs 64)) × (get_or (pairs 64) k (0, 0) ≡ (x, y))
+pub place_index : (x y k : ℕ) → place_of x y ≡ Some k → (k < length (pairs 64)) × (get_or (pairs 64) k (0, 0) ≡ (x, y))
 unfolding row_start
 place_index x y k e =
     elim (dec_lt x y) [
@@ -128,8 +128,8 @@ place_index x y k e =
       | no l ↦ absurd (never (sym (place_of_unordered x y (omega arith)) ∙ e))
     ]
   where
-    same : {i j : ℕ} → At i ≡ At j → i ≡ j
+    same : {i j : ℕ} → Some i ≡ Some j → i ≡ j
     same f = cc
 
-    never : {j : ℕ} → Nowhere ≡ At j → ⊥
-    never f = let z : ◌≡◌ {A = ℕ} 0 1 = cc in omega arith
+    never : {j : ℕ} → None ≡ Some j → ⊥
+    never f = cc

@@ -1,9 +1,8 @@
 -- What Prefer hands back.
-use Rattle.std.specs.Prelude.{ℕ, ◌≡◌, true, false, List, []}
+use Rattle.std.specs.Prelude.{ℕ, ◌≡◌, true, false, List, [], Ok}
 use Rattle.std.specs.Borrow.{Bor}
 use Rattle.equivalence.specs.Equivalence.{Map}
 use Rattle.equivalence.specs.Refusal.{prefer_check}
-use Rattle.equivalence.specs.declared.Check.TheVariants.{Passed}
 use Rattle.pairorder.specs.Order.{not_later}
 
 -- the earlier of two, the first if they are equal
@@ -12,5 +11,5 @@ earlier_of n a b first second = elim (not_later n a b) [ true ↦ first | false 
 
 -- what Prefer hands back: the caller's own slice, the one whose map is the earlier; where a test fails, an empty part at the start of the first
 pub record Preferred (n : ℕ) (a b r : Bor (List ℕ)) : Type 0 where
-  pub own : prefer_check n a.now b.now ≡ Passed → r ≡ earlier_of n a.now b.now a b
-  pub empty : ¬ (prefer_check n a.now b.now ≡ Passed) → (r.now ≡ []) × (r.ref_ptr ≡ a.ref_ptr)
+  pub own : prefer_check n a.now b.now ≡ Ok tt → r ≡ earlier_of n a.now b.now a b
+  pub empty : ¬ (prefer_check n a.now b.now ≡ Ok tt) → (r.now ≡ []) × (r.ref_ptr ≡ a.ref_ptr)

@@ -1,9 +1,7 @@
 -- The order of pairs, the places of pairs in it, and which of two equivalences is the earlier.
-use Rattle.std.specs.Prelude.{ℕ, zero, suc, ◌+◌, ◌-◌, Bool, true, false, not, ◌&&◌, ◌||◌, List, [], ◌∷◌, map, ltb}
+use Rattle.std.specs.Prelude.{ℕ, zero, suc, ◌+◌, ◌-◌, Bool, true, false, not, ◌&&◌, ◌||◌, List, [], ◌∷◌, map, ltb, Option, Some, None}
 use Rattle.equivalence.specs.Lists.{up_to, keep, first, concat}
 use Rattle.equivalence.specs.Equivalence.{Map, holds}
-use Rattle.pairorder.specs.declared.Place.{Place}
-use Rattle.pairorder.specs.declared.Place.TheVariants.{At, Nowhere}
 
 -- two elements
 abbrev pub Pair : Type 0
@@ -40,5 +38,5 @@ unfoldable pub row_start : ℕ → ℕ
 row_start x = pairs_before 64 x
 
 -- the place of (x, y) among the pairs of 64 elements; none where x < y < 64 fails
-unfoldable pub place_of : ℕ → ℕ → Place
-place_of x y = elim (ltb x y && ltb y 64) [ true ↦ At (row_start x + y - x - 1) | false ↦ Nowhere ]
+unfoldable pub place_of : ℕ → ℕ → Option ℕ
+place_of x y = elim (ltb x y && ltb y 64) [ true ↦ Some (row_start x + y - x - 1) | false ↦ None ]

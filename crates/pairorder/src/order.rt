@@ -5,19 +5,18 @@ ghost use Rattle.kernel.specs.InnerKernel.{Canonical};
 ghost use Rattle.pairorder.specs.Order.{first_held, not_later, row_start};
 ghost use Rattle.kernel.specs.InnerSearch.{foremost};
 
-use equivalence::{Pair, blocks};
+use equivalence::Pair;
 
-// y where it passes and its value is smaller than that of `at`, else `at`; 0 stands for none.
+// y where it passes and its value is smaller than that of `at`, else `at`; 0, which never passes, stands for none.
+#[tactic(auto, unfolding(kernel::specs::InnerSearch::foremost))]
 fn foremost_of(at: usize, value: u8, y: usize, new: u8, passes: bool) -> usize
     ensures { result ≡ foremost at value y new passes }
 {
-    if !passes {
-        return at;
+    if passes && (at == 0 || new < value) {
+        y
+    } else {
+        at
     }
-    if at == 0 {
-        return y;
-    }
-    if new < value { y } else { at }
 }
 
 // The first pair that m holds, or 0 and 0. It is the smallest name that an element has besides its own, and the first such element.
@@ -28,11 +27,9 @@ pub fn first_held(n: usize, m: &[u8]) -> Pair
     ensures { (result.x, result.y) ≡ first_held n m.now }
 {
     let mut at = 0;
-    let mut y = 1;
-    while y < n {
+    for y in 1..n {
         let name = m[y];
         at = foremost_of(at, m[at], y, name, name as usize != y);
-        y += 1;
     }
     Pair {
         x: m[at] as usize,
@@ -51,18 +48,10 @@ pub fn is_not_later(n: usize, a: &[u8], b: &[u8]) -> bool
     ensures { result ≡ not_later n a.now b.now }
 {
     let mut at = 0;
-    let mut y = 1;
-    while y < n {
+    for y in 1..n {
         let p = a[y];
         let q = b[y];
-        at = foremost_of(
-            at,
-            blocks::smaller(a[at], b[at]),
-            y,
-            blocks::smaller(p, q),
-            p != q,
-        );
-        y += 1;
+        at = foremost_of(at, a[at].min(b[at]), y, p.min(q), p != q);
     }
     a[at] <= b[at]
 }

@@ -7,14 +7,12 @@ ghost use Rattle.std.specs.Prelude.{◌+◌, ◌≤◌, length};
 pub fn print_bytes(bytes: &[u8]) -> usize
     ensures { result ≤ length bytes.now }
 {
-    let mut i = 0;
-    while i < bytes.len() {
-        if !print_byte(bytes[i]) {
+    for (i, byte) in bytes.iter().enumerate() {
+        if !print_byte(*byte) {
             return i;
         }
-        i += 1;
     }
-    i
+    bytes.len()
 }
 
 fn print_byte(byte: u8) -> bool {

@@ -3,14 +3,14 @@ use Prim.Native.Nat.{ℕ}
 use mathlib.Core.Bool.{Bool, true, false}
 use mathlib.Core.List.{List}
 use mathlib.Core.Path.{◌≡◌, refl, sym, ap, ◌∙◌}
-use native.Mathlib.Omega.{arith}
 use denote.Ref.{Bor}
 use Rattle.equivalence.specs.Outcome.{Outcome, packed}
 use Rattle.pairorder.specs.Calls.{earlier_of, Preferred}
 use Rattle.pairorder.specs.Order.{not_later}
 use Rattle.equivalence.specs.Refusal.{prefer_check, answered}
-use Rattle.equivalence.specs.declared.Check.{Check}
-use Rattle.equivalence.specs.declared.Check.TheVariants.{Passed, Failed}
+use Rattle.equivalence.specs.declared.Refusal.{Refusal}
+use Rattle.std.specs.Prelude.{⊤, Result, Ok, Err}
+use Rattle.equivalence.proofs.Refusals.{err_never}
 use Rattle.equivalence.proofs.Tests.{pick}
 use Rattle.probe.specs.Calls.{preferred}
 
@@ -25,10 +25,10 @@ module _ (n : ℕ) (a b : Bor (List ℕ)) where
   unfolding earlier_of
   earlier_now = now_pick (not_later n a.now b.now) a b
 
-  preferred_by : (r : Bor (List ℕ)) → Preferred n a b r → (c : Check) → prefer_check n a.now b.now ≡ c → r.now ≡ preferred n a.now b.now
+  preferred_by : (r : Bor (List ℕ)) → Preferred n a b r → (c : Result ⊤ Refusal) → prefer_check n a.now b.now ≡ c → r.now ≡ preferred n a.now b.now
   unfolding preferred answered
-  preferred_by r p Passed e = rw e (ap (λ x. x.now) (p.own e) ∙ earlier_now)
-  preferred_by r p (Failed reason) e = rw e (p.empty (λ f. let g : Failed reason ≡ Passed = sym e ∙ f in let z : ◌≡◌ {A = ℕ} 0 1 = cc in omega arith)).0
+  preferred_by r p (Ok x) e = rw e (ap (λ x. x.now) (p.own e) ∙ earlier_now)
+  preferred_by r p (Err reason) e = rw e (p.empty (λ f. err_never (sym e ∙ f))).0
 
   pub preferred_now : (r : Bor (List ℕ)) → Preferred n a b r → r.now ≡ preferred n a.now b.now
   preferred_now r p = preferred_by r p (prefer_check n a.now b.now) refl

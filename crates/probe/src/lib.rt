@@ -17,7 +17,7 @@ ghost use Rattle.algebratext.specs.Calls.{write_call};
 
 use head::HEAD_LENGTH;
 
-// The answer to a head of another length.
+// The answer to a head of another length: a number, since C sees it.
 const OTHER_LENGTH: u64 = 255;
 
 // Meet: the reason.

@@ -1,14 +1,14 @@
 -- The second loop of Decompose: which maps of a list are needed, by their numbers.
-use Rattle.std.specs.Prelude.{ℕ, ◌+◌, ◌*◌, ◌≤◌, ◌<◌, true, false, List, [], map, ◌≡◌, T, length, take}
+use Rattle.std.specs.Prelude.{ℕ, ◌+◌, ◌*◌, ◌≤◌, ◌<◌, Bool, true, false, List, [], map, ◌≡◌, T, length, take}
 use Rattle.equivalence.specs.Equivalence.{Map, byte, is_map, is_identity, meet}
 use Rattle.equivalence.specs.Lent.{stretch, written}
 use Rattle.theory.specs.Decompose.{pruned}
 use Rattle.maplist.specs.InnerMapLists.{map_list}
 
 -- a map of the list in its turn: dropped if those needed so far, which meet in `met`, and those behind it, which meet in `after`, meet in the
--- identity; else there is one more, and it is met
-unfoldable pub in_turn : ℕ → Map → Map → Map → ℕ × Map
-in_turn n m after met = elim (is_identity n (meet n met after)) [ true ↦ (0, met) | false ↦ (1, written (meet n met m) met) ]
+-- identity; else it is needed, and it is met
+unfoldable pub in_turn : ℕ → Map → Map → Map → Bool × Map
+in_turn n m after met = elim (is_identity n (meet n met after)) [ true ↦ (false, met) | false ↦ (true, written (meet n met m) met) ]
 
 -- the maps of a slice whose numbers are the first k bytes of `places`
 abbrev pub chosen : ℕ → List ℕ → ℕ → List ℕ → List Map

@@ -14,8 +14,8 @@ use maplist::{meets_in_identity, suffix_meets, whole_into};
 pub mod write;
 
 // A map in its turn. `met` is the meet of those needed so far and `after` that of those behind the map: where these two meet in the identity it
-// is dropped, else it is met. How many more are needed: one or none. `table` is working storage.
-fn meet_if_needed(n: usize, map: &[u8], after: &[u8], table: &mut [u8], met: &mut [u8]) -> usize
+// is dropped, else it is met. Whether it is needed. `table` is working storage.
+fn meet_if_needed(n: usize, map: &[u8], after: &[u8], table: &mut [u8], met: &mut [u8]) -> bool
     requires n_bound { n ≤ 64 }
     requires n_in_bounds { n ≤ length map.now }
     requires n_in_bounds_2 { n ≤ length after.now }
@@ -27,10 +27,10 @@ fn meet_if_needed(n: usize, map: &[u8], after: &[u8], table: &mut [u8], met: &mu
     ensures { (result, met.new) ≡ in_turn n map.now after.now met.old }
 {
     if meets_in_identity(n, met, after, table) {
-        return 0;
+        return false;
     }
     meet_with(n, map, table, met);
-    1
+    true
 }
 
 // Every map of the list in its turn: the numbers of those needed stand first in `needed`. How many they are.
@@ -53,15 +53,11 @@ fn mark_in_turn(
 {
     whole_into(n, met);
     let mut kept = 0;
-    let mut i = 0;
-    let mut at = 0;
-    while i < count {
-        let next = at + n;
-        // Where the map is dropped, the next one takes this place.
-        needed[kept] = i as u8;
-        kept += meet_if_needed(n, &maps[at..], &suffixes[next..], table, met);
-        at = next;
-        i += 1;
+    for i in 0..count {
+        if meet_if_needed(n, &maps[i * n..], &suffixes[(i + 1) * n..], table, met) {
+            needed[kept] = i as u8;
+            kept += 1;
+        }
     }
     kept
 }

@@ -4,20 +4,15 @@ ghost use Rattle.equivalence.specs.Lists.{concat};
 ghost use Rattle.equivalence.specs.Lent.{written};
 ghost use Rattle.pruning.specs.InnerPruning.{chosen, ChosenMaps};
 
-use equivalence::blocks::copy;
-
 // Writes the maps whose numbers stand first in `needed`, so many as are kept: factor i from byte i × n on.
 pub fn write_needed(n: usize, maps: &[u8], kept: usize, needed: &[u8], out: &mut [u8])
     requires chosen_maps { ChosenMaps n maps.now kept needed.now }
     requires n_in_bounds { kept * n ≤ length out.old }
     ensures { out.new ≡ written (concat (chosen n maps.now kept needed.now)) out.old }
 {
-    let mut i = 0;
-    let mut at = 0;
-    while i < kept {
+    for i in 0..kept {
         let from = needed[i] as usize * n;
-        copy(n, &maps[from..], &mut out[at..]);
-        at += n;
-        i += 1;
+        let at = i * n;
+        out[at..at + n].copy_from_slice(&maps[from..from + n]);
     }
 }

@@ -70,10 +70,10 @@ pub record Walked (q : Source) (s w v from : ℕ) (lent : List ℕ) (to : ℕ) (
   pub upto : k ≤ length q.names
   pub laid : TablesLaid (inner q s from) lent to out k at
 
-pub walked_start : {q : Source} {s w v from : ℕ} {lent : List ℕ} {to : ℕ} → SourceRight q → Fits q (suc s) from lent to → w ≡ q.size ^ s → v ≡ length q.names ^ s
-    → Walked q s w v from lent to lent 0 to
-walked_start {q} {s} {w} {v} {from} {lent} {to} ok f e d =
-    record { sound = ok; fits = f; wide = e; tall = d; upto = omega arith; laid = tables_laid_start (inner q s from) lent to }
+pub walked_start : {q : Source} {s w v from : ℕ} {lent : List ℕ} {to at : ℕ} → SourceRight q → Fits q (suc s) from lent to → w ≡ q.size ^ s → v ≡ length q.names ^ s → at ≡ to
+    → Walked q s w v from lent to lent 0 at
+walked_start {q} {s} {w} {v} {from} {lent} {to} ok f e d h =
+    rw h record { sound = ok; fits = f; wide = e; tall = d; upto = omega arith; laid = tables_laid_start (inner q s from) lent to }
 
 module _ {q : Source} {s w v from : ℕ} {lent : List ℕ} {to : ℕ} {out : List ℕ} {k at : ℕ} (r : Walked q s w v from lent to out k at) where
   -- the next inner table lies within the cells, and its quotient's within the lent bytes
@@ -88,12 +88,12 @@ module _ {q : Source} {s w v from : ℕ} {lent : List ℕ} {to : ℕ} {out : Lis
         target = omega (arith, r.fits.target, r.laid.place, r.laid.long, pow-succ' (length q.names) s, suc-mul k (length q.names ^ s), mul-le-mul_right (length q.names ^ s) l);
       }
 
-  pub walked_more : (start : ℕ) (out' : List ℕ) → k < length q.names → start ≡ from + byte q.names k * w → out' ≡ laid out at (divided q s start)
-      → Walked q s w v from lent to out' (k + 1) (at + v)
-  walked_more start out' l e h =
+  pub walked_more : (start : ℕ) (out' : List ℕ) {at' : ℕ} → k < length q.names → start ≡ from + byte q.names k * w → out' ≡ laid out at (divided q s start) → at' ≡ at + v
+      → Walked q s w v from lent to out' (k + 1) at'
+  walked_more start out' l e h next =
       let long : length (inner q s from k) ≡ v = divided_long q s (from + byte q.names k * q.size ^ s) ∙ sym r.tall in
       let i : start ≡ from + byte q.names k * q.size ^ s = e ∙ ap (λ (z : ℕ). from + byte q.names k * z) r.wide in
-      record {
+      rw next record {
         sound = r.sound;
         fits = r.fits;
         wide = r.wide;
@@ -115,16 +115,16 @@ pub record RowWalked (cells numbers names : List ℕ) (from : ℕ) (lent : List 
   pub place : at ≡ to + k
   pub laid : TablesLaid (λ i. cell_divided cells numbers (from + byte names i)) lent to out k at
 
-pub row_start_lem : {cells numbers names : List ℕ} {from : ℕ} {lent : List ℕ} {to : ℕ} → RowFits cells numbers names from lent to
-    → RowWalked cells numbers names from lent to lent 0 to
-row_start_lem {cells} {numbers} {names} {from} {lent} {to} f =
-    record { fits = f; upto = omega arith; place = omega arith; laid = tables_laid_start (λ i. cell_divided cells numbers (from + byte names i)) lent to }
+pub row_start_lem : {cells numbers names : List ℕ} {from : ℕ} {lent : List ℕ} {to at : ℕ} → RowFits cells numbers names from lent to → at ≡ to
+    → RowWalked cells numbers names from lent to lent 0 at
+row_start_lem {cells} {numbers} {names} {from} {lent} {to} f h =
+    rw h record { fits = f; upto = omega arith; place = omega arith; laid = tables_laid_start (λ i. cell_divided cells numbers (from + byte names i)) lent to }
 
 module _ {cells numbers names : List ℕ} {from : ℕ} {lent : List ℕ} {to : ℕ} {out : List ℕ} {k at : ℕ}
     (r : RowWalked cells numbers names from lent to out k at) where
-  pub row_more : (out' : List ℕ) → k < length names → out' ≡ laid out at (cell_divided cells numbers (from + byte names k))
-      → RowWalked cells numbers names from lent to out' (k + 1) (at + 1)
-  row_more out' l e = record {
+  pub row_more : (out' : List ℕ) {at' : ℕ} → k < length names → out' ≡ laid out at (cell_divided cells numbers (from + byte names k)) → at' ≡ at + 1
+      → RowWalked cells numbers names from lent to out' (k + 1) at'
+  row_more out' l e next = rw next record {
     fits = r.fits;
     upto = omega arith;
     place = omega (arith, r.place);

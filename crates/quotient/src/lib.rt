@@ -14,7 +14,7 @@ pub mod numbers;
 pub mod tables;
 
 // A block number of a quotient. Blocks are numbered from 0 by smallest member.
-#[derive(Clone, Copy)]
+#[derive(Debug, Clone, Copy, PartialEq, Eq)]
 pub struct Block(pub u8);
 
 // Numbers the blocks, then writes each table read at smallest members.
@@ -28,7 +28,7 @@ fn divide_blocks(n: usize, arities: &[u8], cells: &[u8], map: &[u8], out: &mut [
     let mut block_numbers = [0; MAX_SIZE];
     let mut names = [0; MAX_SIZE];
     let b = numbers::number_blocks(n, map, &mut block_numbers, &mut names);
-    tables::divide_tables(n, arities, cells, &block_numbers, &names[0..b], out);
+    tables::divide_tables(n, arities, cells, &block_numbers, &names[..b], out);
     b as u8
 }
 

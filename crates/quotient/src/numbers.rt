@@ -25,8 +25,7 @@ pub fn number_blocks(n: usize, map: &[u8], numbers: &mut [u8], names: &mut [u8])
     ensures { Numbered n map.now numbers.new names.new result }
 {
     let mut count = 0;
-    let mut x = 0;
-    while x < n {
+    for x in 0..n {
         // A smallest member has the next number; for any other element that number is overwritten by its smallest member's.
         let fresh = Block(count as u8);
         numbers[x] = fresh.0;
@@ -35,7 +34,6 @@ pub fn number_blocks(n: usize, map: &[u8], numbers: &mut [u8], names: &mut [u8])
         numbers[x] = b.0;
         names[count] = x as u8;
         count += self_named(name.0, x);
-        x += 1;
     }
     count
 }

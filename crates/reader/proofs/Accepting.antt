@@ -10,8 +10,8 @@ use lib.ListN.{length, get_or, length-append, get_or-append}
 use lib.Seq.{get_or-append-add}
 use Rattle.equivalence.specs.Lists.{every}
 use Rattle.equivalence.specs.Refusal.{lowest, size_test}
-use Rattle.equivalence.specs.declared.Check.{Check}
-use Rattle.equivalence.specs.declared.Check.TheVariants.{Passed, Failed}
+use Rattle.equivalence.specs.declared.Refusal.{Refusal}
+use Rattle.std.specs.Prelude.{⊤, Result, Ok, Err}
 use Rattle.equivalence.proofs.Refusals.{of_passed}
 use Rattle.equivalence.proofs.Tests.{T?, or_left, or_right, eq→eqb}
 use Rattle.algebra.specs.Accepted.{Accepted}
@@ -43,7 +43,7 @@ yes_not : (b : Bool) → ¬ T b → T (not b)
 yes_not true h = h tt
 yes_not false h = tt
 
-all_below : (n : ℕ) (cells : List ℕ) → lowest (cell_test n cells ∷ []) ≡ Passed → (i : ℕ) → i < length cells → get_or cells i 0 < n
+all_below : (n : ℕ) (cells : List ℕ) → lowest (cell_test n cells ∷ []) ≡ Ok tt → (i : ℕ) → i < length cells → get_or cells i 0 < n
 unfolding cell_test
 all_below n cells e i l =
     let h = (of_passed _ _ e).0 in
@@ -71,10 +71,10 @@ abbrev pub AcceptedBy : Progress → Type 0
 AcceptedBy (defined a next) = Accepted a
 AcceptedBy (refused r) = Unit {0}
 
-tested_accepted : (c : Check) (p : Progress) → (c ≡ Passed → AcceptedBy p) → AcceptedBy (tested c p)
+tested_accepted : (c : Result ⊤ Refusal) (p : Progress) → (c ≡ Ok tt → AcceptedBy p) → AcceptedBy (tested c p)
 unfolding tested
-tested_accepted Passed p h = h refl
-tested_accepted (Failed r) p h = tt
+tested_accepted (Ok x) p h = h refl
+tested_accepted (Err r) p h = tt
 
 table_accepted : (a : Algebra) (s : ℕ) (r : Read (List ℕ)) → Accepted a → Fitting a.size (length a.arities) (length a.cells) s → IfFound (Long (a.size ^ s)) r → AcceptedBy (after_table a s r)
 unfolding after_table
@@ -90,7 +90,7 @@ arity_accepted a text (found s next) w =
     (λ e. table_accepted a s (last_table a.size s text next) w (fitting a.size (length a.arities) (length a.cells) s e) (last_table_long a.size s text next))
 arity_accepted a text fault w = tt
 
-bare : (n : ℕ) → lowest (size_test n ∷ []) ≡ Passed → WellFormed (algebra_of n [] [])
+bare : (n : ℕ) → lowest (size_test n ∷ []) ≡ Ok tt → WellFormed (algebra_of n [] [])
 unfolding size_test cell_count
 bare n e =
     let h = (of_passed _ _ e).0 in

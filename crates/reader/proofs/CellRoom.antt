@@ -5,12 +5,12 @@ use mathlib.Core.Path.{◌≡◌, sym, ◌∙◌}
 use native.Mathlib.Omega.{arith}
 use lib.ListN.{length}
 use Rattle.equivalence.specs.Refusal.{lowest}
-use Rattle.equivalence.specs.declared.Check.{Check}
-use Rattle.equivalence.specs.declared.Check.TheVariants.{Passed}
+use Rattle.equivalence.specs.declared.Refusal.{Refusal}
+use Rattle.std.specs.Prelude.{⊤, Result, Ok}
 use Rattle.numberreader.specs.Reading.{◌>>◌, done}
 use Rattle.tablereader.specs.Tables.{table}
 use Rattle.reader.specs.Lines.{close, arity, last_table, operation_tests}
-use Rattle.numberreader.specs.InnerPromises.{NumberRead}
+use Rattle.numberreader.specs.InnerPromises.{NumberFound}
 use Rattle.tablereader.specs.InnerPromises.{RoomFor}
 use Rattle.reader.specs.InnerPromises.{RoomForCells}
 use Rattle.numberreader.specs.declared.Number.{Number}
@@ -19,8 +19,8 @@ use Rattle.tablereader.proofs.Lengths.{Finds, Long, then_finds, after_any, table
 use Rattle.tablereader.proofs.RoomLeft.{room_less}
 
 -- where the tests of an operation line pass, there is room for its table
-pub room_for_table : (n operations : ℕ) (text : List ℕ) (at : ℕ) (lent : List ℕ) (put : ℕ) → RoomForCells text at lent put → (s : Number) → NumberRead text at (arity text at) s
-    → (c : Check) → c ≡ lowest (operation_tests n operations put s.value) → c ≡ Passed → RoomFor (n ^ s.value) text s.next lent put
+pub room_for_table : (n operations : ℕ) (text : List ℕ) (at : ℕ) (lent : List ℕ) (put : ℕ) → RoomForCells text at lent put → (s : Number) → NumberFound text at (arity text at) s
+    → (c : Result ⊤ Refusal) → c ≡ lowest (operation_tests n operations put s.value) → c ≡ Ok tt → RoomFor (n ^ s.value) text s.next lent put
 room_for_table n operations text at lent put w s r c ec e =
     room_less w s.next (n ^ s.value) (omega (arith, r.past)) r.within (omega (arith, (fitting n operations put s.value (sym ec ∙ e)).room))
 

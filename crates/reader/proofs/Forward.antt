@@ -1,5 +1,5 @@
 -- Readers never go back: what is found ends no earlier than it begins, and a line of the algebra or a request ends after it begins.
-use Prim.Native.Nat.{ℕ, zero, suc, ◌+◌, ◌≤◌}
+use Prim.Native.Nat.{ℕ, zero, suc, ◌+◌, ◌≤◌, ◌<◌}
 use Prim.Native.Char.{Char, code}
 use mathlib.Core.Bool.{Bool, true, false}
 use mathlib.Core.List.{List, [], ◌∷◌, ◌++◌}
@@ -9,16 +9,14 @@ use lib.Dec.{eqb, ltb}
 use lib.ListN.{length}
 use Rattle.equivalence.proofs.Tests.{pick}
 use Rattle.equivalence.specs.Refusal.{lowest}
-use Rattle.equivalence.specs.declared.Check.{Check}
-use Rattle.equivalence.specs.declared.Check.TheVariants.{Passed, Failed}
+use Rattle.equivalence.specs.declared.Refusal.{Refusal}
+use Rattle.std.specs.Prelude.{⊤, Result, Ok, Err}
 use Rattle.algebra.specs.Algebra.{Algebra}
 use Rattle.numberreader.specs.Reading.{ascii, Read, found, fault, Reader, byte_at, onward, ◌>>=◌, ◌>>◌, done, failed, mark, gap, branch, behind, begins, opened}
 use Rattle.numberreader.specs.Numbers.{digit_at, three_at, number}
 use Rattle.tablereader.specs.Tables.{cell, parted, bracket, table, pair, items_up_to, items}
 use Rattle.reader.specs.Lines.{Progress, defined, refused, close, spaced_number, tested, arity, last_table, cell_test, operation_tests, with_operation}
 use Rattle.reader.specs.Lines.{after_table, after_arity, operation, request_of, separating, items_to_end, asks_with, two_numbers, request}
-use Rattle.kernel.specs.InnerKernel.{bit}
-use Rattle.numberreader.specs.InnerPromises.{read_of}
 use Rattle.reader.specs.InnerPromises.{Requested}
 use Rattle.reader.specs.declared.requests.Asked.{Asked}
 use Rattle.reader.specs.declared.requests.Asked.TheVariants.{Generate, Contained, Decompose, Quotient}
@@ -189,24 +187,20 @@ request_forward =
     (opened_forward (ascii "[quotient") (asks_with Quotient cell) failed 1 (omega arith) (asks_forward Quotient cell cell_forward) (λ text at. tt)))))
 
 -- so a request line that was read takes a byte at least
-read_past : {A : Type 0} (b : Bool) (a : A) (at next : ℕ) → at ≤ next → Past 1 at (read_of b a next) → at + bit b ≤ next
-read_past true a at next l p = p
-read_past false a at next l p = omega arith
-
-pub requested_past : (text : List ℕ) (at : ℕ) (lent : List ℕ) (put : ℕ) (after : List ℕ) (r : RequestLine) → Requested text at lent put (request text at) after r
-    → at + bit r.ok ≤ r.next
+pub requested_past : (text : List ℕ) (at : ℕ) (lent : List ℕ) (put : ℕ) (after : List ℕ) (r : RequestLine) → Requested text at lent put (request text at) after r → at < r.next
 requested_past text at lent put after r q =
-    read_past r.ok (request_of r.asked q.new) at r.next q.reached.past (subst (λ d. Past 1 at d) q.value (request_forward text at))
+    let p : at + 1 ≤ r.next = subst (λ d. Past 1 at d) q.value (request_forward text at) in
+    omega arith
 
 -- a line of the algebra goes forward
 abbrev pub Further : ℕ → Progress → Type 0
 Further at (defined a next) = at ≤ next
 Further at (refused r) = Unit {0}
 
-tested_further : (at : ℕ) (c : Check) (p : Progress) → Further at p → Further at (tested c p)
+tested_further : (at : ℕ) (c : Result ⊤ Refusal) (p : Progress) → Further at p → Further at (tested c p)
 unfolding tested
-tested_further at Passed p h = h
-tested_further at (Failed r) p h = tt
+tested_further at (Ok x) p h = h
+tested_further at (Err r) p h = tt
 
 table_further : (at next : ℕ) (a : Algebra) (s : ℕ) (r : Read (List ℕ)) → at ≤ next → Past 0 next r → Further at (after_table a s r)
 unfolding after_table

@@ -9,29 +9,23 @@ use borrow.Author.Tests.{not-true, not-false, eqb-false, ltb-false}
 use lib.Dec.{eqb, ltb}
 use lib.ListN.{length, take, set}
 use lib.Seq.{take-suc-set, take-set-le, drop-set-lt, length-take-le}
-use Rattle.kernel.specs.InnerKernel.{bit}
 use Rattle.equivalence.specs.Refusal.{lowest, size_test}
 use Rattle.equivalence.proofs.Refusals.{lowest_none, lowest_here, lowest_next}
 use Rattle.equivalence.specs.declared.Refusal.{Refusal}
 use Rattle.equivalence.specs.declared.Refusal.TheVariants.{Size, Text}
-use Rattle.equivalence.specs.declared.Check.{Check}
-use Rattle.equivalence.specs.declared.Check.TheVariants.{Passed, Failed}
-use Rattle.reader.specs.Lines.{size_line, tested, after_size, sized, operation}
-use Rattle.numberreader.specs.InnerPromises.{NumberRead}
-use Rattle.reader.specs.InnerPromises.{RoomForCells, passes, progress_of, operation_progress, OperationRead}
-use Rattle.reader.specs.InnerTaking.{algebra_so_far, Readable, SizeTaken, OperationTaken}
+use Rattle.std.specs.Prelude.{Ok, Err}
+use Rattle.reader.specs.Lines.{refused, size_line, tested, after_size, sized, operation}
+use Rattle.numberreader.specs.Reading.{fault}
+use Rattle.numberreader.specs.InnerPromises.{NumberFound}
+use Rattle.reader.specs.InnerPromises.{progress_of, operation_progress, OperationRead, OperationRefused}
+use Rattle.reader.specs.InnerTaking.{algebra_so_far, Readable, SizeTaken, OperationTaken, OperationUntaken}
 use Rattle.reader.specs.declared.lines.OperationLine.{OperationLine}
 use Rattle.numberreader.specs.declared.Number.{Number}
 use Rattle.reader.specs.declared.taking.AlgebraSoFar.{AlgebraSoFar}
-use Rattle.reader.specs.declared.taking.LineTaken.{LineTaken}
-use Rattle.reader.proofs.SpacedNumbers.{found_number, missing_number}
 
 -- an algebra of which the size line is read
 abbrev bare : ℕ → ℕ → AlgebraSoFar
 bare n at = record { at = at; size = n; operations = 0; cells = 0 }
-
-abbrev taken : Check → AlgebraSoFar → LineTaken
-taken c a = record { check = c; algebra = a }
 
 or_left : (a b : Bool) → (a || b) ≡ false → a ≡ false
 or_left true b e = e
@@ -42,11 +36,11 @@ or_right true b e = let z : ◌≡◌ {A = ℕ} 0 1 = cc in absurd (omega arith)
 or_right false b e = e
 
 -- 1 passes just where n is 1 to 64
-size_fails : (n : ℕ) (b : Bool) → b ≡ not (size_test n).applies → not b ≡ true → lowest (size_test n ∷ []) ≡ Failed Size
+size_fails : (n : ℕ) (b : Bool) → b ≡ not (size_test n).applies → not b ≡ true → lowest (size_test n ∷ []) ≡ Err Size
 unfolding size_test
 size_fails n b e h = lowest_here (size_test n) [] (rw (not-false (eqb n 0 || ltb 64 n) (sym e ∙ not-true b h)) tt)
 
-size_passes : (n : ℕ) (b : Bool) → b ≡ not (size_test n).applies → not b ≡ false → lowest (size_test n ∷ []) ≡ Passed
+size_passes : (n : ℕ) (b : Bool) → b ≡ not (size_test n).applies → not b ≡ false → lowest (size_test n ∷ []) ≡ Ok tt
 unfolding size_test
 size_passes n b e h =
     lowest_next (size_test n) [] (rw (not-true (eqb n 0 || ltb 64 n) (sym e ∙ not-false b h)) (λ f. f)) ∙ lowest_none
@@ -59,69 +53,54 @@ size_known n b e h =
     omega (arith, ltb-false 64 n (or_right (eqb n 0) (ltb 64 n) f))
 
 -- the size line
-module _ (text : List ℕ) (at : ℕ) (w : at ≤ length text) (n : Number) (r : NumberRead text at (size_line text at) n) where
-  pub size_faulty : not n.ok ≡ true → SizeTaken text at (taken (Failed Text) (bare 1 at))
+module _ (text : List ℕ) (at : ℕ) where
+  pub size_faulty : size_line text at ≡ fault → sized text at ≡ refused Text
   unfolding sized after_size
-  size_faulty h = record { value = λ arities cells. rw (missing_number r h); readable = omega arith; past = omega arith; operations = refl; cells = refl }
+  size_faulty e = rw e
 
-  module _ (h : not n.ok ≡ false) (b : Bool) (e : b ≡ not (size_test n.value).applies) where
-    pub size_line_refused : not b ≡ true → SizeTaken text at (taken (Failed Size) (bare 1 at))
+  module _ (n : Number) (r : NumberFound text at (size_line text at) n) (b : Bool) (e : b ≡ not (size_test n.value).applies) where
+    pub size_line_refused : not b ≡ true → sized text at ≡ refused Size
     unfolding sized after_size tested
-    size_line_refused k =
-        record {
-          value = λ arities cells. rw (found_number r h, size_fails n.value b e k);
-          readable = omega arith;
-          past = omega arith;
-          operations = refl;
-          cells = refl;
-        }
+    size_line_refused k = rw (r.value, size_fails n.value b e k)
 
-    pub size_taken : not b ≡ false → SizeTaken text at (taken Passed (bare n.value n.next))
+    pub size_taken : not b ≡ false → SizeTaken text at (bare n.value n.next)
     unfolding sized after_size tested
     size_taken k =
         record {
-          value = λ arities cells. rw (found_number r h, size_passes n.value b e k);
+          value = λ arities cells. rw (r.value, size_passes n.value b e k);
           readable = omega (arith, size_known n.value b e k, r.within);
-          past = rw (not-false n.ok h) at r.past;
+          past = r.past;
           operations = refl;
           cells = refl;
         }
 
 -- an operation line that was refused, or gave one operation more
-module _ (text : List ℕ) (a : AlgebraSoFar) (arities cells : List ℕ) (readable : Readable text a) (sixteen : 16 ≤ length arities)
-    (w : RoomForCells text (a.at + 3) cells a.cells) (after : List ℕ) (l : OperationLine)
-    (r : OperationRead text (a.at + 3) a.size a.operations cells a.cells after l) where
-  known : operation (algebra_so_far a arities cells) text (a.at + 3)
-      ≡ progress_of a.size (take a.operations arities) after l.arity l.cells l.next l.check
+module _ (text : List ℕ) (a : AlgebraSoFar) (arities cells : List ℕ) (readable : Readable text a) (sixteen : 16 ≤ length arities) (after : List ℕ) where
+  pub operation_untaken : (x : Refusal) → OperationRefused text (a.at + 3) a.size a.operations cells a.cells after x
+      → OperationUntaken text a arities cells arities after x
   unfolding operation_progress
-  known = r.value (take a.operations arities) (length-take-le a.operations arities (omega arith))
-
-  pub operation_untaken : (x : Refusal) → l.check ≡ Failed x → OperationTaken text a arities cells arities after (taken (Failed x) a)
-  operation_untaken x e =
+  operation_untaken x r =
       record {
-        value = rw (known, e);
-        readable = readable;
-        past = omega arith;
-        counted = omega arith;
-        paced = omega arith;
-        stored = w.start;
-        kept = record { no_fewer = omega arith; behind = omega arith; used_arities = refl; spare_arities = refl; used_cells = r.before };
+        value = r.value (take a.operations arities) (length-take-le a.operations arities (omega arith));
+        used_arities = refl;
+        used_cells = r.before;
       }
 
-  module _ (few : a.operations + bit (passes l.check) ≤ 16) (e : l.check ≡ Passed) where
-    fewer : a.operations + 1 ≤ 16
-    fewer = rw e at few
-
+  module _ (l : OperationLine) (r : OperationRead text (a.at + 3) a.size a.operations cells a.cells after l) where
     -- there is room for its arity
     pub arity_place : a.operations < length arities
-    arity_place = omega (arith, fewer)
+    arity_place = omega (arith, r.few)
+
+    known : operation (algebra_so_far a arities cells) text (a.at + 3) ≡ progress_of a.size (take a.operations arities) after l
+    unfolding operation_progress
+    known = r.value (take a.operations arities) (length-take-le a.operations arities (omega arith))
 
     pub operation_taken : OperationTaken text a arities cells (set arities a.operations l.arity) after
-        (taken Passed (record { at = l.next; size = a.size; operations = a.operations + 1; cells = l.cells }))
+        (record { at = l.next; size = a.size; operations = a.operations + 1; cells = l.cells })
     operation_taken =
         record {
-          value = rw (known, e, add-one a.operations, take-suc-set arities a.operations l.arity arity_place);
-          readable = omega (arith, r.reached, fewer, r.fit readable.fit);
+          value = rw (known, add-one a.operations, take-suc-set arities a.operations l.arity arity_place);
+          readable = omega (arith, r.reached, r.few, r.fit readable.fit);
           past = omega (arith, r.reached);
           counted = omega arith;
           paced = omega (arith, r.paced);

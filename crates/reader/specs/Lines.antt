@@ -1,11 +1,9 @@
 -- Lines: the size line, operation lines and the five requests, each ended by `]` and byte 10.
-use Rattle.std.specs.Prelude.{ℕ, ◌+◌, ◌^◌, not, List, [], ◌∷◌, ◌++◌, ltb, length}
+use Rattle.std.specs.Prelude.{ℕ, ◌+◌, ◌^◌, not, List, [], ◌∷◌, ◌++◌, ltb, length, ⊤, Result, Ok, Err}
 use Rattle.equivalence.specs.Lists.{every}
 use Rattle.equivalence.specs.Refusal.{Test, lowest, size_test}
 use Rattle.equivalence.specs.declared.Refusal.{Refusal}
 use Rattle.equivalence.specs.declared.Refusal.TheVariants.{Operations, Arity, Cells, Cell, Text}
-use Rattle.equivalence.specs.declared.Check.{Check}
-use Rattle.equivalence.specs.declared.Check.TheVariants.{Passed, Failed}
 use Rattle.algebra.specs.Algebra.{Algebra, algebra_of}
 use Rattle.numberreader.specs.Reading.{ascii, Read, found, fault, Reader, ◌>>=◌, ◌>>◌, done, failed, mark, gap, opened}
 use Rattle.numberreader.specs.Numbers.{number}
@@ -35,9 +33,9 @@ pub data Progress : Type 0 where
   refused : Refusal → Progress
 
 -- goes on where the tests pass, else refuses
-unfoldable pub tested : Check → Progress → Progress
-tested Passed rest = rest
-tested (Failed r) rest = refused r
+unfoldable pub tested : Result ⊤ Refusal → Progress → Progress
+tested (Ok x) rest = rest
+tested (Err r) rest = refused r
 
 -- the size line is read: 14, then 1
 unfoldable pub after_size : Read ℕ → Progress

@@ -5,4 +5,5 @@ pub mod Rows
 pub mod Walks
 pub mod Tables
 pub mod Compatibility
+pub mod Fronts
 pub mod Refinements

@@ -3,18 +3,16 @@ use Prim.Native.Nat.{ℕ, ◌+◌, ◌-◌, ◌^◌, ◌≤◌, ◌<◌}
 use mathlib.Core.List.{List, ◌∷◌, ◌++◌}
 use mathlib.Core.Path.{◌≡◌, refl, sym, ap, ◌∙◌}
 use native.Mathlib.Omega.{arith}
-use mir.Syntax.{w64}
-use mir.Val.{Fits}
 use lib.ListN.{length, get_or}
 use Rattle.equivalence.specs.Equivalence.{Map, byte}
-use Rattle.kernel.specs.InnerKernel.{Canonical, Filled, Listed, names}
+use Rattle.kernel.specs.InnerKernel.{Canonical, Listed, names}
 use Rattle.algebra.specs.Algebra.{Algebra, algebra_of}
 use Rattle.algebra.specs.Accepted.{Accepted}
 use Rattle.translation.specs.InnerTranslations.{table_start, result, Compatible, Refined}
 use Rattle.algebra.proofs.Accepted.{WellFormed, accepted_well_formed}
 use Rattle.algebra.proofs.Tables.{start_first, start_next}
 use Rattle.translation.proofs.Translations.{identity_compatible}
-use Rattle.refinement.specs.InnerSplitting.{Elements, Keeps, KeepsOn, Any, Chosen, Table, Sifted, Turned, Split, Walk, Walked, TableWalked, AllWalked, MapRefined, Represented}
+use Rattle.refinement.specs.InnerSplitting.{Keeps, KeepsOn, Any, Chosen, Table, Sifted, Turned, Split, Walk, Walked, TableWalked, AllWalked, MapRefined, Represented}
 use Rattle.refinement.proofs.Walks.{walk_none, walk_said, walk_more, walk_next, walk_turned, table_named}
 use Rattle.refinement.proofs.Compatibility.{Tables, tables_compatible, compatible_tables, represented_again, TableThere, table_there}
 use Rattle.kernel.proofs.Names.{names_one, names_most}
@@ -40,26 +38,17 @@ bare_refined a f c e = record { canonical = c; compatible = λ x y lx ly p j l. 
 
 -- ---- the lists that a refinement begins with
 
--- a copy of the elements in use
-pub copied_elements : {n k used : ℕ} {live others : List ℕ} {f : ℕ → ℕ} → Elements n live used → Filled used (byte live) f (byte others) → n ≤ k → used ≤ length others → Elements k others used
-copied_elements e k r o = record { room = o; below = λ i l. omega (arith, k.first i l, e.below i l) }
-
 -- the others among all elements in use
-pub walk_begins : {n used left : ℕ} {arities cells live others others' : List ℕ} {m : Map} {f : ℕ → ℕ} → Accepted (algebra_of n arities cells)
-    → Represented (algebra_of n arities cells) live used (byte m)
-    → Filled used (byte live) f (byte others) → Sifted (byte m) others used others' left → n ≤ length m → Canonical n (byte m) → Walk n live used cells m others' left
-walk_begins {n} {used} {left} {arities} {cells} {live} {others} {others'} {m} p s c k r d =
+pub walk_begins : {n used left : ℕ} {arities cells live others : List ℕ} {m : Map} → Accepted (algebra_of n arities cells)
+    → Represented (algebra_of n arities cells) live used (byte m) → Sifted (byte m) live used others left → n ≤ length m → Canonical n (byte m) → Walk n live used cells m others left
+walk_begins {n} {arities = arities} {cells} p s k r d =
     let w = accepted_well_formed (algebra_of n arities cells) p in
-    let e = s.elements in
     record {
       map = record { some = w.some; small = w.most; room = r; canonical = d; below = w.below };
       lists = record {
-        live_elements = e;
-        elements = record {
-          room = k.room;
-          below = λ i l. let o = k.old i l in rw o.1.1 at (rw (sym (c.first o.0 o.1.0)) at (e.below o.0 o.1.0));
-        };
-        all = λ x l h. k.all x (l.0, (l.1.0, c.first l.0 l.1.0 ∙ l.1.1)) h;
+        live_elements = s.elements;
+        elements = record { room = k.room; below = λ i l. let o = k.old i l in rw o.1.1 at (s.elements.below o.0 o.1.0) };
+        all = k.all;
       };
     }
 
@@ -139,23 +128,16 @@ module _ {a : Algebra} {live : List ℕ} {used j base : ℕ} {m₀ m : Map} {oth
         (λ i k. h i (omega arith))) s.walked;
   }
 
-  pub tabling_over : left ≡ 0 → AllWalked a live used m₀ m others left
-  tabling_over z = record { walked = walk_said (compatible_tables a s.formed) (λ h. named_compatible s.formed again s.walked.walk z) s.walked }
+  pub tabling_over : left ≡ 0 → AllWalked a live used m₀ m others 0
+  tabling_over z =
+      let w : AllWalked a live used m₀ m others left = record { walked = walk_said (compatible_tables a s.formed) (λ h. named_compatible s.formed again s.walked.walk z) s.walked } in
+      rw z at w
 
 -- what the table of j is
 module _ {n : ℕ} {arities cells live : List ℕ} {used j base : ℕ} {m₀ m : Map} {others : List ℕ} {left : ℕ} (s : Tabling (algebra_of n arities cells) live used j base m₀ m others left) where
-  pub tabling_small : n ≤ 64
-  tabling_small = s.walked.walk.map.small
-
   module _ (l : j < length arities) where
-    pub tabling_arity : get_or arities j 0 ≤ 3
-    tabling_arity = (tabling_there s l).most
-
     pub tabling_room : base + n ^ get_or arities j 0 ≤ length cells
     tabling_room = (tabling_there s l).room
-
-    pub tabling_fits : Fits w64 (get_or arities j 0)
-    tabling_fits = omega (arith, (tabling_there s l).most)
 
 -- ---- rounds
 

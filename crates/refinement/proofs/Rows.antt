@@ -4,15 +4,13 @@ use mathlib.Core.Bool.{Bool, true, false}
 use mathlib.Core.List.{List}
 use mathlib.Core.Path.{◌≡◌, sym, ap, ◌∙◌}
 use native.Mathlib.Omega.{arith}
-use mir.Syntax.{w64}
-use mir.Val.{Fits}
 use lib.ListN.{length, get_or}
 use borrow.Author.Count.{below_more}
 use Rattle.equivalence.specs.Equivalence.{Map, byte}
 use Rattle.kernel.specs.InnerKernel.{Listed}
 use Rattle.translation.specs.InnerLines.{line_at, LineInside, PlaneInside}
-use Rattle.refinement.specs.InnerSplitting.{Elements, Keeps, KeepsOn, Any, Lines, MapLent, LineLent, LineParted, ElementSplit, Split, Parted, CellsLent, RowsLent, Breaks, ElementKept, Apart}
-use Rattle.refinement.proofs.Splits.{by_index, split_none, split_more, split_said}
+use Rattle.refinement.specs.InnerSplitting.{Elements, Keeps, KeepsOn, Any, Lines, MapLent, LineLent, LineParted, Split, Parted, CellsLent, RowsLent, ElementKept, Apart}
+use Rattle.refinement.proofs.Splits.{by_index, split_more}
 
 -- ---- where the cells lie
 
@@ -56,9 +54,6 @@ pub record Beside (live : List ℕ) (used : ℕ) (cells : List ℕ) (here there 
   pub most : i ≤ used
   pub kept : (k : ℕ) → k < i → f (byte cells (here + byte live k)) ≡ f (byte cells (there + byte live k))
 
-pub beside_none : {live : List ℕ} {used : ℕ} {cells : List ℕ} {here there : ℕ} {f : ℕ → ℕ} → Beside live used cells here there f 0
-beside_none = record { most = omega arith; kept = λ k l. absurd (omega arith) }
-
 pub beside_more : {live : List ℕ} {used : ℕ} {cells : List ℕ} {here there : ℕ} {f : ℕ → ℕ} {i : ℕ} {b : Bool} → Beside live used cells here there f i → i < used
     → Parted (f (byte cells (here + byte live i))) (f (byte cells (there + byte live i))) b → b ≡ false → Beside live used cells here there f (i + 1)
 beside_more s l p e = record { most = omega arith; kept = below_more _ _ s.kept (p.no e) }
@@ -70,12 +65,16 @@ pub beside_two : {live : List ℕ} {used : ℕ} {cells : List ℕ} {here there :
 beside_two {i = i} s l p e q h = let next : i + 1 + 1 ≡ i + 2 = omega arith in rw next at (beside_more (beside_more s (omega arith) p e) l q h)
 
 module _ {live : List ℕ} {used : ℕ} {cells : List ℕ} {base stride x : ℕ} {f : ℕ → ℕ} {i : ℕ} (s : Beside live used cells (base + x * stride) (base + f x * stride) f i) where
-  pub beside_found : {b : Bool} → Parted (f (byte cells (base + x * stride + byte live i))) (f (byte cells (base + f x * stride + byte live i))) b → b ≡ true → Apart live used cells base stride x f i
-  beside_found p e = record {
-    most = s.most;
-    kept = λ k lk. ap f (cell_along cells base stride x (byte live k)) ∙ s.kept k lk ∙ ap f (sym (cell_along cells base stride (f x) (byte live k)));
-    found = λ q o. p.yes e (ap f (sym (cell_along cells base stride x (byte live i))) ∙ o ∙ ap f (cell_along cells base stride (f x) (byte live i)));
-  }
+  pub beside_found : {b : Bool} → Parted (f (byte cells (base + x * stride + byte live i))) (f (byte cells (base + f x * stride + byte live i))) b → b ≡ true → i < used
+      → (i < used) × Apart live used cells base stride x f i
+  beside_found p e l = (
+    l,
+    record {
+      most = s.most;
+      kept = λ k lk. ap f (cell_along cells base stride x (byte live k)) ∙ s.kept k lk ∙ ap f (sym (cell_along cells base stride (f x) (byte live k)));
+      found = λ q o. p.yes e (ap f (sym (cell_along cells base stride x (byte live i))) ∙ o ∙ ap f (cell_along cells base stride (f x) (byte live i)));
+    },
+  )
 
   pub beside_all : used ≤ i → Apart live used cells base stride x f used
   beside_all l = record {
@@ -84,14 +83,6 @@ module _ {live : List ℕ} {used : ℕ} {cells : List ℕ} {base stride x : ℕ}
     found = λ q. absurd (omega arith);
   }
 
-pub apart_kept : {live : List ℕ} {used : ℕ} {cells : List ℕ} {base stride x : ℕ} {f : ℕ → ℕ} {r : ℕ} → Apart live used cells base stride x f r → r ≡ used → ElementKept live used cells base stride x f
-apart_kept {live} {used} {cells} {base} {stride} {x} {f} a e c k =
-    by_index live used (λ (z : ℕ). f (line_at cells (base + z * 1) stride x) ≡ f (line_at cells (base + z * 1) stride (f x))) (λ i l. a.kept i (omega arith)) c k
-
--- a smallest member is beside itself
-pub named_kept : (live : List ℕ) (used : ℕ) (cells : List ℕ) (base stride x : ℕ) (f : ℕ → ℕ) → f x ≡ x → ElementKept live used cells base stride x f
-named_kept live used cells base stride x f e c k = ap (λ (z : ℕ). f (line_at cells (base + c * 1) stride z)) (sym e)
-
 -- ---- the line of a context
 
 times_one : (c : ℕ) → c * 1 ≡ c
@@ -99,10 +90,6 @@ times_one c = omega arith
 
 pub line_at_lem : {n c base stride : ℕ} {cells : List ℕ} → PlaneInside n cells base 1 stride → c < n → LineInside n cells (base + c) stride
 line_at_lem {c = c} q l = record { inside = λ x lx. omega (arith, (q.lines c l).inside x lx) }
-
-pub breaks_at : {live : List ℕ} {used : ℕ} {cells : List ℕ} {base stride x : ℕ} {f : ℕ → ℕ} {r : ℕ} → Apart live used cells base stride x f r → r < used
-    → Breaks (line_at cells (base + byte live r) stride) f x
-breaks_at {live} {cells = cells} {base} {stride} {x} {f} {r} a l = rw (times_one (byte live r)) at (a.found l)
 
 pub keeps_at : (n c base stride : ℕ) (cells : List ℕ) (g : ℕ → ℕ) → Lines (Any n false) (Keeps n) cells base 1 stride g → c < n → Keeps n (line_at cells (base + c) stride) g
 keeps_at n c base stride cells g h l = rw (times_one c) at (h c l)
@@ -115,40 +102,20 @@ pub record Near (n : ℕ) (live : List ℕ) (used : ℕ) (cells : List ℕ) (bas
   pub elements : Elements n live used
   pub split : Split n (Lines (Any n false) (Keeps n) cells base 1 stride) (λ g. Unit {0}) m₀ m
 
-pub near_first : {n : ℕ} {live : List ℕ} {used : ℕ} {cells : List ℕ} {base stride x : ℕ} {m : Map} → MapLent n m cells → PlaneInside n cells base 1 stride → Elements n live used → x < n
-    → Near n live used cells base stride x m m
-near_first p q e l = record { rows = rows_lent p q l; elements = e; split = split_none p.canonical tt }
-
 module _ {n : ℕ} {live : List ℕ} {used : ℕ} {cells : List ℕ} {base stride x : ℕ} {m₀ m : Map} (s : Near n live used cells base stride x m₀ m) where
-  pub near_named : byte m x ≡ x → ElementSplit n live used cells base stride x m₀ m
-  near_named e = record { split = record { split = split_said (λ g good. good) (λ u. named_kept live used cells base stride x (byte m) e) s.split; map = s.rows.map } }
+  module _ {r : ℕ} (a : (r < used) × Apart live used cells base stride x (byte m) r) where
+    context : byte live r < n
+    context = s.elements.below r a.0
 
-  module _ {r : ℕ} (a : Apart live used cells base stride x (byte m) r) where
-    pub near_kept : r ≡ used → ElementSplit n live used cells base stride x m₀ m
-    near_kept e = record { split = record { split = split_said (λ g good. good) (λ u. apart_kept a e) s.split; map = s.rows.map } }
+    pub near_line : LineLent n m cells (base + byte live r) stride
+    near_line = record { map = s.rows.map; line = line_at_lem s.rows.plane context }
 
-    module _ (h : ¬ (r ≡ used)) where
-      context : byte live r < n
-      context = s.elements.below r (omega (arith, a.most))
-
-      pub near_inside : base + byte live r < length cells
-      near_inside = omega (arith, (s.rows.plane.lines (byte live r) context).inside 0 s.rows.map.some)
-
-      pub near_fits : Fits w64 (byte live r)
-      near_fits = omega (arith, context, s.rows.map.small)
-
-      pub near_line : LineLent n m cells (base + byte live r) stride
-      near_line = record { map = s.rows.map; line = line_at_lem s.rows.plane context }
-
-      pub near_breaks : Breaks (line_at cells (base + byte live r) stride) (byte m) x
-      near_breaks = breaks_at a (omega (arith, a.most))
-
-      pub near_more : {m' : Map} → LineParted n cells (base + byte live r) stride m m' → Near n live used cells base stride x m₀ m'
-      near_more u = record {
-        rows = rows_lent u.parted.map s.rows.plane s.rows.element;
-        elements = s.elements;
-        split = split_more (λ g good. keeps_at n (byte live r) base stride cells g good context) (λ g d e. tt) s.split u.parted.split;
-      }
+    pub near_more : {m' : Map} → LineParted n cells (base + byte live r) stride m m' → Near n live used cells base stride x m₀ m'
+    near_more u = record {
+      rows = rows_lent u.parted.map s.rows.plane s.rows.element;
+      elements = s.elements;
+      split = split_more (λ g good. keeps_at n (byte live r) base stride cells g good context) (λ g d e. tt) s.split u.parted.split;
+    }
 
 -- ---- all others
 

@@ -1,11 +1,9 @@
 -- Naming the elements of a block anew: the table of those first seen, by the block to which the line takes them.
 use Prim.Native.Nat.{ℕ, ◌+◌, ◌*◌, ◌≤◌, ◌<◌}
 use mathlib.Core.List.{List}
-use mathlib.Core.Path.{◌≡◌, refl, sym, ap, subst, ◌∙◌}
+use mathlib.Core.Path.{◌≡◌, refl, sym, ap, ◌∙◌}
 use native.Mathlib.Decide.{dec_lt, ℕ_discrete}
 use native.Mathlib.Omega.{arith}
-use mir.Syntax.{w64}
-use mir.Val.{Fits}
 use lib.ListN.{length, set, length-set}
 use lib.Seq.{get_or-set_same, get_or-set_other}
 use Rattle.equivalence.specs.Equivalence.{byte}
@@ -196,22 +194,7 @@ pub renamed_all : {t f : ℕ → ℕ} {row x y : ℕ} {seen seen' : List ℕ} �
 unfolding Only Every
 renamed_all r = let a = r.alike in record { low = a.low; before = a.before; after = λ u. a.after refl; first = λ z l p i. a.first z l p (λ q. i tt) }
 
--- the name of an element fits a number
-pub name_fits : {n : ℕ} {m cells : List ℕ} {base stride x : ℕ} → LineLent n m cells base stride → x < n → Fits w64 (byte m x)
-name_fits {x = x} p l = omega (arith, p.map.canonical.below x l, p.map.small)
-
 -- ---- the row of one block, which is row 0
-
-pub named_seen : {n : ℕ} {m cells seen : List ℕ} {base stride name x : ℕ} → LineLent n m cells base stride → x < n → 64 ≤ length seen → byte m x ≡ name
-    → FirstsSeen (line_at cells base stride) (byte m) name x (row_at seen 0) → Seen n m cells base stride 0 x seen
-named_seen {m = m} {cells} {seen} {base} {stride} {x = x} p l r e s =
-    line_seen p l (omega arith) (subst (λ (v : ℕ). FirstsSeen (line_at cells base stride) (byte m) v x (row_at seen 0)) (sym e) s)
-
-pub renamed_alike : {t f : ℕ → ℕ} {name row x y : ℕ} {seen seen' : List ℕ} → f x ≡ name → Renamed t f row x seen seen' y → Alike t f (Only name) x y
-renamed_alike {t} {f} {x = x} {y} e r = subst (λ (v : ℕ). Alike t f (Only v) x y) e r.alike
-
-pub renamed_firsts : {t f : ℕ → ℕ} {name row x y : ℕ} {seen seen' : List ℕ} → f x ≡ name → Renamed t f row x seen seen' y → FirstsSeen t f name (x + 1) (row_at seen' row)
-renamed_firsts {t} {f} {row = row} {x} {seen' = seen'} e r = subst (λ (v : ℕ). FirstsSeen t f v (x + 1) (row_at seen' row)) e r.firsts
 
 -- ---- naming one element after the other
 
@@ -222,18 +205,12 @@ pub record Renaming (n : ℕ) (t f : ℕ → ℕ) (In : ℕ → Type 0) (x : ℕ
   pub named : (z : ℕ) → z < x → Alike t f In z (byte next z)
 
 module _ {n : ℕ} {t f : ℕ → ℕ} {In : ℕ → Type 0} {next : List ℕ} where
-  pub renaming_none : n ≤ length next → Renaming n t f In 0 next
-  renaming_none r = record { most = omega arith; room = r; named = λ z l. absurd (omega arith) }
-
   pub renaming_more : {x y : ℕ} → Renaming n t f In x next → x < n → Alike t f In x y → Renaming n t f In (x + 1) (set next x y)
   renaming_more {x} {y} s l a = record {
     most = omega arith;
     room = simp length-set s.room;
     named = each_written (λ z v. Alike t f In z v) next (omega (arith, s.room)) s.named a;
   }
-
-  pub renaming_all : {x : ℕ} → Renaming n t f In x next → n ≤ x → (z : ℕ) → z < n → Alike t f In z (byte next z)
-  renaming_all s l z lz = s.named z (omega arith)
 
 pub renaming_every : {n : ℕ} {t f : ℕ → ℕ} {next : List ℕ} {row x y : ℕ} {seen seen' : List ℕ} → Renaming n t f Every x next → x < n → Renamed t f row x seen seen' y
     → Renaming n t f Every (x + 1) (set next x y)

@@ -1,24 +1,21 @@
 -- Lists of elements, and what is left of them.
 use Prim.Native.Nat.{ℕ, ◌+◌, ◌-◌, ◌≤◌, ◌<◌}
-use mathlib.Core.List.{List}
+use mathlib.Core.Bool.{Bool, true, false, not}
+use mathlib.Core.List.{List, ◌++◌, reverse}
 use mathlib.Core.Path.{◌≡◌, refl, sym, ap, ◌∙◌}
 use native.Mathlib.Decide.{ℕ_discrete}
 use native.Mathlib.Omega.{arith}
 use lib.Dec.{eqb}
-use lib.ListN.{length, set, length-set}
-use lib.Seq.{get_or-set_same, get_or-set_other}
-use mir.Syntax.{w64}
-use mir.Val.{Fits}
+use lib.ListN.{length, set, take, drop, length-append, get_or-append}
+use Rattle.std.proofs.lemmas.List.{length-reverse, get_or-reverse}
+use lib.Seq.{get_or-set_same, get_or-set_other, length-take-le, get_or-take}
+use mir.Val.{bool_byte}
 use borrow.Author.Tests.{ne_eqb}
 use Rattle.equivalence.specs.Equivalence.{Map, byte}
 use Rattle.kernel.proofs.Names.{name_back}
-use Rattle.kernel.specs.InnerKernel.{Canonical, Within, bit, Listed}
+use Rattle.kernel.specs.InnerKernel.{Canonical, Within, Listed}
 use Rattle.refinement.proofs.Splits.{sifted_none}
-use Rattle.refinement.specs.InnerSplitting.{MapLent, Elements, KeepsOn, Sifted, Turned, Lists, Split}
-
--- a listed element fits a number
-pub listed_fits : {n count i : ℕ} {m cells list : List ℕ} → MapLent n m cells → Elements n list count → i < count → Fits w64 (byte list i)
-listed_fits {i = i} p e l = omega (arith, e.below i l, p.small)
+use Rattle.refinement.specs.InnerSplitting.{Elements, KeepsOn, Sifted, Turned, Lists, Split}
 
 -- ---- sifting, in place
 
@@ -29,13 +26,15 @@ pub record Sifting (f : ℕ → ℕ) (list₀ list : List ℕ) (i kept : ℕ) : 
   pub old : (k : ℕ) → k < kept → Listed list₀ i (byte list k)
   pub all : (k : ℕ) → k < i → ¬ (f (byte list₀ k) ≡ byte list₀ k) → Listed list kept (byte list₀ k)
 
-pub sifting_none : {f : ℕ → ℕ} {list : List ℕ} → Sifting f list list 0 0
-sifting_none = record { most = omega arith; ahead = λ k l. refl; old = λ k l. absurd (omega arith); all = λ k l. absurd (omega arith) }
+bool_byte_most : (b : Bool) → bool_byte b ≤ 1
+bool_byte_most true = omega arith
+bool_byte_most false = omega arith
 
 -- an element that is its own name is left out, and every other is kept
-pub sifting_more : {f : ℕ → ℕ} {list₀ list : List ℕ} {i kept : ℕ} (b : ℕ) → i < length list → Sifting f list₀ list i kept → b ≡ bit (eqb (f (byte list i)) (byte list i))
-    → Sifting f list₀ (set list kept (byte list i)) (i + 1) (kept + (1 - b))
-sifting_more {f} {list₀} {list} {i} {kept} b l s e =
+pub sifting_more : {f : ℕ → ℕ} {list₀ list : List ℕ} {i kept b : ℕ} → i < length list → Sifting f list₀ list i kept → b ≡ bool_byte (not (eqb (f (byte list i)) (byte list i)))
+    → Sifting f list₀ (set list kept (byte list i)) (i + 1) (kept + b)
+sifting_more {f} {list₀} {list} {i} {kept} {b} l s e =
+    let one : b ≤ 1 = omega (arith, e, bool_byte_most (not (eqb (f (byte list i)) (byte list i)))) in
     let here : byte (set list kept (byte list i)) kept ≡ byte list i = get_or-set_same list kept (byte list i) 0 (omega (arith, s.most)) in
     record {
       most = omega (arith, s.most);
@@ -51,7 +50,7 @@ sifting_more {f} {list₀} {list} {i} {kept} b l s e =
           elim (ℕ_discrete k i) [
             | yes q ↦
                 let same : byte list i ≡ byte list₀ k = s.ahead i (omega arith) ∙ ap (byte list₀) (sym q) in
-                let none : b ≡ 0 = e ∙ ap bit (ne_eqb (f (byte list i)) (byte list i) (rw same h)) in
+                let none : b ≡ 1 = e ∙ ap (λ (z : Bool). bool_byte (not z)) (ne_eqb (f (byte list i)) (byte list i) (rw same h)) in
                 (kept, (omega arith, here ∙ same))
             | no q ↦
                 let o = s.all k (omega arith) h in
@@ -113,49 +112,24 @@ lists_after c l s k = lists_sifted c s.canonical s.within l k
 
 -- ---- lists that were turned round
 
-pub turned_none : {count : ℕ} {list : List ℕ} → count ≤ length list → Turned count list list
-turned_none r = record { room = r; all = λ x k. k; old = λ x k. k }
+module _ (count : ℕ) (list : List ℕ) {turned : List ℕ} (r : count ≤ length list) (e : turned ≡ reverse (take count list)) where
+  long : length (take count list) ≡ count
+  long = length-take-le count list r
 
--- two members change places
-module _ (count i j : ℕ) (list : List ℕ) (r : count ≤ length list) (lj : j < count) (l : i < j) where
-  abbrev swapped : List ℕ
-  swapped = set (set list i (byte list j)) j (byte list i)
+  turned_long : length turned ≡ count
+  turned_long = rw e (length-reverse (take count list) ∙ long)
 
-  at_last : byte swapped j ≡ byte list i
-  at_last = get_or-set_same (set list i (byte list j)) j (byte list i) 0 (simp length-set (omega arith))
+  turned_at : (k : ℕ) → k < count → byte (turned ++ drop count list) k ≡ byte list (count - 1 - k)
+  turned_at k l =
+      get_or-append turned (drop count list) 0 k (omega (arith, turned_long))
+      ∙ rw (e, get_or-reverse (take count list) k 0 (omega (arith, long)), long) (get_or-take count list (count - 1 - k) 0 (omega arith))
 
-  at_first : byte swapped i ≡ byte list j
-  at_first = get_or-set_other (set list i (byte list j)) j i (byte list i) 0 (omega arith) ∙ get_or-set_same list i (byte list j) 0 (omega arith)
-
-  elsewhere : (k : ℕ) → ¬ (k ≡ i) → ¬ (k ≡ j) → byte swapped k ≡ byte list k
-  elsewhere k p q = get_or-set_other (set list i (byte list j)) j k (byte list i) 0 q ∙ get_or-set_other list i k (byte list j) 0 p
-
-  pub turned_more : {list₀ : List ℕ} → Turned count list₀ list → Turned count list₀ swapped
-  turned_more s = record {
-    room = simp length-set r;
-    all = λ x h. there x (s.all x h);
-    old = λ x h. s.old x (back x h);
+  pub turned_back : Turned count list (turned ++ drop count list)
+  turned_back = record {
+    room = simp length-append (omega (arith, turned_long));
+    all = λ x k. (count - 1 - k.0, (omega arith, turned_at (count - 1 - k.0) (omega arith) ∙ ap (byte list) (omega arith) ∙ k.1.1));
+    old = λ x k. (count - 1 - k.0, (omega arith, sym (turned_at k.0 k.1.0) ∙ k.1.1));
   }
-    where
-      there : (x : ℕ) → Listed list count x → Listed swapped count x
-      there x k =
-          elim (ℕ_discrete k.0 i) [
-            | yes p ↦ (j, (lj, at_last ∙ ap (byte list) (sym p) ∙ k.1.1))
-            | no p ↦ elim (ℕ_discrete k.0 j) [
-              | yes q ↦ (i, (omega arith, at_first ∙ ap (byte list) (sym q) ∙ k.1.1))
-              | no q ↦ (k.0, (k.1.0, elsewhere k.0 p q ∙ k.1.1))
-            ]
-          ]
-
-      back : (x : ℕ) → Listed swapped count x → Listed list count x
-      back x k =
-          elim (ℕ_discrete k.0 i) [
-            | yes p ↦ (j, (lj, sym at_first ∙ ap (byte swapped) (sym p) ∙ k.1.1))
-            | no p ↦ elim (ℕ_discrete k.0 j) [
-              | yes q ↦ (i, (omega arith, sym at_last ∙ ap (byte swapped) (sym q) ∙ k.1.1))
-              | no q ↦ (k.0, (k.1.0, sym (elsewhere k.0 p q) ∙ k.1.1))
-            ]
-          ]
 
 pub lists_turned : {n used left : ℕ} {live others others' : List ℕ} {f : ℕ → ℕ} → Lists n live used others left f → Turned left others others' → Lists n live used others' left f
 lists_turned {n} {others' = others'} s k = record {

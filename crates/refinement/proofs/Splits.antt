@@ -1,18 +1,18 @@
 -- One line: which maps it keeps, and what it splits a map into. Several lines: splits one after the other are one split.
 use Prim.Native.Nat.{ℕ, ◌+◌, ◌-◌, ◌≤◌, ◌<◌}
 use mathlib.Core.Bool.{Bool, true, false}
-use mathlib.Core.List.{List}
+use mathlib.Core.List.{List, ◌++◌}
 use mathlib.Core.Path.{◌≡◌, refl, sym, ap, subst, ◌∙◌}
 use native.Mathlib.Decide.{dec_lt, ℕ_discrete}
 use native.Mathlib.Omega.{arith}
 use lib.Dec.{T}
-use lib.ListN.{length, set}
-use lib.Seq.{get_or-set_same, get_or-set_other}
+use lib.ListN.{length, take, set, get_or-append}
+use lib.Seq.{get_or-set_same, get_or-set_other, get_or-take, length-take-le}
 use borrow.Author.Count.{below_more}
 use Rattle.equivalence.specs.Equivalence.{Map, byte}
-use Rattle.kernel.specs.InnerKernel.{Canonical, Within, KeptPast, Filled, names, Listed}
-use Rattle.refinement.specs.InnerSplitting.{Elements, ImagesLent, Parted, Broken, Keeps, KeepsOn, Breaks, Alike, MapLent, LineLent, MapSplit, LineParted, LineSplit, ChosenSplit, Only, Every, Sifted, Split, Never}
-use Rattle.translation.specs.InnerLines.{line_at, LineInside}
+use Rattle.kernel.specs.InnerKernel.{Canonical, Within, KeptPast, names, Listed}
+use Rattle.refinement.specs.InnerSplitting.{Elements, Parted, Broken, Keeps, KeepsOn, Breaks, Alike, MapLent, LineLent, MapSplit, LineParted, LineSplit, Only, Every, Sifted, Split, Never}
+use Rattle.translation.specs.InnerLines.{line_at}
 use Rattle.kernel.proofs.Names.{names_another, names_most}
 
 pub never : {A : Type 0} → false ≡ true → A
@@ -26,22 +26,6 @@ keeps_by_first n t f h x y lx ly e = h x lx ∙ ap (λ (z : ℕ). f (t z)) e ∙
 -- every line keeps the smallest members where they are
 pub names_kept : {L : ℕ → Type 0} (t f : ℕ → ℕ) → ((x : ℕ) → L x → f x ≡ x) → KeepsOn L t f
 names_kept t f h x l = ap (λ (z : ℕ). f (t z)) (sym (h x l))
-
--- what lies on a line at a listed element, and at the smallest member of its block
-pub images_lent : {n count i : ℕ} {m cells list : Map} {base stride : ℕ} → MapLent n m cells → LineInside n cells base stride → Elements n list count → i < count
-    → ImagesLent n m cells base stride (byte list i)
-images_lent {n} {i = i} {m} {list = list} p q e l =
-    let x = e.below i l in
-    let k = q.inside (byte list i) x in
-    let f : byte m (byte list i) < n = omega (arith, p.canonical.below (byte list i) x) in
-    let o = q.inside (byte m (byte list i)) f in
-    record { small = p.small; room = p.room; element = x; named = f; inside = k; below = p.below _ k; first_inside = o; first_below = p.below _ o }
-
-pub parted_no : {v w : ℕ} → v ≡ w → Parted v w false
-parted_no e = record { yes = λ q. never q; no = λ q. e }
-
-pub parted_yes : {v w : ℕ} → ¬ (v ≡ w) → Parted v w true
-parted_yes h = record { yes = λ q. h; no = λ q. never (sym q) }
 
 -- ---- a line that splits a block of a map
 
@@ -202,8 +186,12 @@ each_written {i} {v} P m l h p x k =
     ]
 
 -- what was written is copied
-pub alike_copied : {n : ℕ} {t f f₀ f' g : ℕ → ℕ} {In : ℕ → Type 0} → Filled n f' f₀ g → ((x : ℕ) → x < n → Alike t f In x (f' x)) → (x : ℕ) → x < n → Alike t f In x (g x)
-alike_copied k h x l = rw (k.first x l) (h x l)
+pub alike_copied : {n : ℕ} {t f : ℕ → ℕ} {In : ℕ → Type 0} (next : List ℕ) {new : List ℕ} (rest : List ℕ) → n ≤ length next → new ≡ take n next → ((x : ℕ) → x < n → Alike t f In x (byte next x))
+    → (x : ℕ) → x < n → Alike t f In x (byte (new ++ rest) x)
+alike_copied {n} next {new} rest r e h x l =
+    let long : length new ≡ n = rw e (length-take-le n next r) in
+    let same : byte new x ≡ byte next x = rw e (get_or-take n next x 0 l) in
+    rw (get_or-append new rest 0 x (omega arith), same) (h x l)
 
 -- what is done may be said otherwise of a lent map
 pub map_said : {n : ℕ} {cells : List ℕ} {Good Done Done' : (ℕ → ℕ) → Type 0} {m m' : Map} → (Done (byte m') → Done' (byte m')) → MapSplit n cells Good Done m m' → MapSplit n cells Good Done' m m'
@@ -232,9 +220,6 @@ module _ {t f : ℕ → ℕ} {list : List ℕ} {count start : ℕ} where
       kept = range_more (λ (k : ℕ). f (t (byte list k)) ≡ f (t (f (byte list k)))) s.kept (p.no e);
     }
 
-    pub passed_found : i < count → Parted (f (t (byte list i))) (f (t (f (byte list i)))) b → b ≡ true → Broken t f list count start i
-    passed_found l p e = record { after = s.after; most = s.most; kept = s.kept; found = λ q. p.yes e }
-
   pub passed_all : {i : ℕ} → Passed t f list count start i → count ≤ i → Broken t f list count start count
   passed_all s l = record { after = omega (arith, s.after, s.most); most = omega arith; kept = λ k p q. s.kept k p (omega arith); found = λ q. absurd (omega arith) }
 
@@ -243,61 +228,36 @@ module _ {t f : ℕ → ℕ} {list : List ℕ} {count start : ℕ} where
 -- the line breaks at the element at k, and m₀ was split along it if that is not the first
 pub record Along (n : ℕ) (cells : List ℕ) (base stride : ℕ) (list : List ℕ) (count start k : ℕ) (m₀ m : Map) : Type 0 where
   pub after : start ≤ k
-  pub most : k ≤ count
-  pub begun : start < count
-  pub breaks : k < count → Breaks (line_at cells base stride) (byte m) (byte list k)
+  pub most : k < count
+  pub breaks : Breaks (line_at cells base stride) (byte m) (byte list k)
   pub lent : LineLent n m cells base stride
   pub split : Split n (Keeps n (line_at cells base stride)) (λ g. k ≡ start) m₀ m
 
 module _ {n : ℕ} {cells : List ℕ} {base stride : ℕ} {list : List ℕ} {count start : ℕ} where
-  pub along_first : {m : Map} → LineLent n m cells base stride → start < count → Breaks (line_at cells base stride) (byte m) (byte list start) → Along n cells base stride list count start start m m
-  along_first p l h = record { after = omega arith; most = omega arith; begun = l; breaks = λ q. h; lent = p; split = split_none p.map.canonical refl }
+  module _ {k : ℕ} {m₀ m m' : Map} (s : Along n cells base stride list count start k m₀ m) (u : LineParted n cells base stride m m') where
+    pub along_done : LineParted n cells base stride m₀ m'
+    along_done = record { parted = record { split = split_more (λ g good. good) (λ g d e. e) s.split u.parted.split; map = u.parted.map } }
 
-  module _ {k : ℕ} {m₀ m : Map} (s : Along n cells base stride list count start k m₀ m) where
-    pub along_breaks : k < count → Breaks (line_at cells base stride) (byte m) (byte list k)
-    along_breaks l = s.breaks l
-
-    pub along_once : {m' : Map} → LineParted n cells base stride m m' → LineParted n cells base stride m₀ m'
-    along_once u = record { parted = record { split = split_more (λ g good. good) (λ g d e. e) s.split u.parted.split; map = u.parted.map } }
-
-    pub along_more : {r : ℕ} {m' : Map} → LineParted n cells base stride m m' → Broken (line_at cells base stride) (byte m') list count (k + 1) r → Along n cells base stride list count start r m₀ m'
-    along_more u b = record {
-      after = omega (arith, s.after, b.after);
-      most = b.most;
-      begun = s.begun;
-      breaks = b.found;
+    pub along_more : {r : ℕ} → (r < count) × Broken (line_at cells base stride) (byte m') list count (k + 1) r → Along n cells base stride list count start r m₀ m'
+    along_more b = record {
+      after = omega (arith, s.after, b.1.after);
+      most = b.0;
+      breaks = b.1.found b.0;
       lent = line_again s.lent u.parted.map;
       split = split_said (λ g good. good) (λ e. absurd e) (split_more (λ g good. good) (λ g d e. e) s.split u.parted.split);
     }
-
-    pub along_done : count ≤ k → LineParted n cells base stride m₀ m
-    along_done l = record { parted = record { split = split_said (λ g good. good) (λ e. omega (arith, s.begun)) s.split; map = s.lent.map } }
 
 -- nothing was sifted
 pub sifted_none : {f : ℕ → ℕ} {list : List ℕ} {count : ℕ} → count ≤ length list → Sifted f list count list count
 sifted_none r = record { fewer = omega arith; room = r; old = λ i l. (i, (l, refl)); all = λ x k h. k }
 
 -- a line that keeps what is listed splits nothing
-pub line_kept : {n : ℕ} {cells : List ℕ} {base stride : ℕ} {m : Map} {list : List ℕ} {count r : ℕ} → LineLent n m cells base stride → Elements n list count
-    → Broken (line_at cells base stride) (byte m) list count 0 r → r ≡ count → LineSplit n cells base stride m m list count list count
-line_kept {cells = cells} {base} {stride} {m} {list} {count} p e b q = record {
+pub line_kept : {n : ℕ} {cells : List ℕ} {base stride : ℕ} {m : Map} {list : List ℕ} {count : ℕ} → LineLent n m cells base stride → Elements n list count
+    → Broken (line_at cells base stride) (byte m) list count 0 count → LineSplit n cells base stride m m list count list count
+line_kept {cells = cells} {base} {stride} {m} {list} {count} p e b = record {
   split = map_none p.map (by_index list count (λ (x : ℕ). byte m (line_at cells base stride x) ≡ byte m (line_at cells base stride (byte m x))) (λ k l. b.kept k (omega arith) (omega arith)));
   sifted = sifted_none e.room;
 }
-
--- one that breaks splits
-pub line_broken : {n : ℕ} {cells : List ℕ} {base stride : ℕ} {m m' : Map} {list list' : List ℕ} {count count' : ℕ} → LineParted n cells base stride m m' → Sifted (byte m') list count list' count'
-    → LineSplit n cells base stride m m' list count list' count'
-line_broken u k = record { split = map_said (λ e. absurd e) u.parted; sifted = k }
-
--- an element that is no smallest member is not asked for
-pub chosen_not : {n : ℕ} {cells : List ℕ} {base stride r : ℕ} {m : Map} {list : List ℕ} {count : ℕ} → MapLent n m cells → Elements n list count → ¬ (byte m r ≡ r)
-    → ChosenSplit n cells base stride r m m list count list count
-chosen_not p e h = record { split = map_none p (λ q. absurd (h q)); sifted = sifted_none e.room }
-
-pub chosen_split : {n : ℕ} {cells : List ℕ} {base stride r : ℕ} {m m' : Map} {list list' : List ℕ} {count count' : ℕ} → LineSplit n cells base stride m m' list count list' count'
-    → ChosenSplit n cells base stride r m m' list count list' count'
-chosen_split u = record { split = map_said (λ h e. h) u.split; sifted = u.sifted }
 
 -- the blocks that may still come are fewer
 pub parted_less : {n : ℕ} {cells : List ℕ} {base stride : ℕ} {m m' : Map} → LineParted n cells base stride m m' → n - names n (byte m') < n - names n (byte m)
@@ -306,10 +266,3 @@ parted_less u = rises_less u.parted.split
 -- a listed element is one
 pub listed_below : {n count i : ℕ} {list : List ℕ} → Elements n list count → i < count → byte list i < n
 listed_below {i = i} e l = e.below i l
-
-module _ {t f : ℕ → ℕ} {list : List ℕ} {count start r : ℕ} (b : Broken t f list count start r) (h : ¬ (r ≡ count)) where
-  pub broken_before : r < count
-  broken_before = omega (arith, b.most)
-
-  pub broken_at : Breaks t f (byte list r)
-  broken_at = b.found (omega (arith, b.most))

@@ -3,17 +3,13 @@ use Prim.Native.Nat.{ℕ, ◌+◌, ◌*◌, ◌^◌, ◌≤◌}
 use mathlib.Core.Bool.{true, false}
 use mathlib.Core.List.{List}
 use mathlib.Core.Path.{◌≡◌}
-use native.Mathlib.Nat.{mul_assoc}
 use native.Mathlib.Omega.{arith}
-use lib.Arith.{digits_lt}
-use lib.ListN.{length}
 use Rattle.kernel.specs.InnerKernel.{Listed}
 use Rattle.equivalence.specs.Equivalence.{Map}
-use Rattle.algebra.proofs.Powers.{power_one, power_two, power_three}
-use Rattle.translation.specs.InnerLines.{PlaneInside, SolidInside}
-use Rattle.refinement.specs.InnerSplitting.{LineLent, KeepsOn, Chosen, Planes, LineSplit, Walk, LinesWalked, PlanesWalked, TableWalked}
+use Rattle.algebra.proofs.Powers.{power_one, power_three}
+use Rattle.refinement.specs.InnerSplitting.{KeepsOn, Chosen, Planes, LineSplit, Walk, LinesWalked, PlanesWalked, TableWalked}
 use Rattle.refinement.proofs.Splits.{map_said}
-use Rattle.refinement.proofs.Walks.{walk_none, walk_said, walk_more, line_walked}
+use Rattle.refinement.proofs.Walks.{walk_said, walk_more, line_walked}
 
 -- ---- room
 
@@ -21,56 +17,10 @@ use Rattle.refinement.proofs.Walks.{walk_none, walk_said, walk_more, line_walked
 pub room_one : (n s base size : ℕ) → s ≡ 1 → base + n ^ s ≤ size → base + n ≤ size
 room_one n s base size e h = let k : base + n ^ 1 ≤ size = rw e at h in omega (arith, power_one n)
 
-pub room_two : (n s base size : ℕ) → s ≡ 2 → base + n ^ s ≤ size → base + n * n ≤ size
-room_two n s base size e h = let k : base + n ^ 2 ≤ size = rw e at h in omega (arith, power_two n)
-
 pub room_three : (n s base size : ℕ) → s ≡ 3 → base + n ^ s ≤ size → base + n * n * n ≤ size
 room_three n s base size e h = let k : base + n ^ 3 ≤ size = rw e at h in omega (arith, power_three n)
 
-module _ (n : ℕ) (cells : List ℕ) (base : ℕ) where
-  pub columns_room : base + n * n ≤ length cells → PlaneInside n cells base 1 n
-  columns_room h = record { lines = λ r lr. record { inside = λ x lx. omega (arith, digits_lt {q = x} {m = n} {r = r} {c = n} lx lr) } }
-
-  pub rows_room : base + n * n ≤ length cells → PlaneInside n cells base n 1
-  rows_room h = record { lines = λ r lr. record { inside = λ x lx. omega (arith, digits_lt {q = r} {m = n} {r = x} {c = n} lr lx) } }
-
-  module _ (h : base + n * n * n ≤ length cells) where
-    pub first_room : SolidInside n cells base n 1 (n * n)
-    first_room = record {
-      planes = λ r lr. record {
-        lines = λ s ls. record {
-          inside = λ x lx.
-              omega (arith, digits_lt {q = r} {m = n} {r = s} {c = n} lr ls, digits_lt {q = x} {m = n} {r = r * n + s} {c = n * n} lx (digits_lt {q = r} {m = n} {r = s} {c = n} lr ls), mul_assoc n n n);
-        };
-      };
-    }
-
-    pub second_room : SolidInside n cells base (n * n) 1 n
-    second_room = record {
-      planes = λ r lr. record {
-        lines = λ s ls. record {
-          inside = λ x lx.
-              omega (arith, digits_lt {q = r} {m = n} {r = x * n + s} {c = n * n} lr (digits_lt {q = x} {m = n} {r = s} {c = n} lx ls), mul_assoc n n n);
-        };
-      };
-    }
-
-    pub third_room : SolidInside n cells base (n * n) n 1
-    third_room = record {
-      planes = λ r lr. record {
-        lines = λ s ls. record {
-          inside = λ x lx.
-              omega (arith, digits_lt {q = r} {m = n} {r = s * n + x} {c = n * n} lr (digits_lt {q = s} {m = n} {r = x} {c = n} ls lx), mul_assoc n n n);
-        };
-      };
-    }
-
 -- ---- walks over a table
-
--- the line of a table of arity 1
-pub unary_lent : {n : ℕ} {live : List ℕ} {used : ℕ} {cells : List ℕ} {base : ℕ} {m : Map} {others : List ℕ} {left : ℕ} → Walk n live used cells m others left → base + n ≤ length cells
-    → LineLent n m cells base 1
-unary_lent w r = record { map = w.map; line = record { inside = λ x l. omega arith } }
 
 module _ {n : ℕ} {live : List ℕ} {used : ℕ} {cells : List ℕ} {base : ℕ} {m₀ m : Map} where
   pub table_one : {others others' : List ℕ} {left left' : ℕ} → Walk n live used cells m₀ others left → LineSplit n cells base 1 m₀ m others left others' left'
@@ -96,7 +46,3 @@ module _ {n : ℕ} {live : List ℕ} {used : ℕ} {cells : List ℕ} {base : ℕ
 module _ {n : ℕ} {live : List ℕ} {used : ℕ} {cells : List ℕ} {base s : ℕ} {m : Map} where
   pub table_of : {k : ℕ} {m' : Map} {others' : List ℕ} {left' : ℕ} → TableWalked n live used cells base k m m' others' left' → s ≡ k → TableWalked n live used cells base s m m' others' left'
   table_of u e = rw e u
-
-  -- a constant has no lines
-  pub table_none : {others : List ℕ} {left : ℕ} → Walk n live used cells m others left → s ≤ 3 → ¬ (s ≡ 1) → ¬ (s ≡ 2) → ¬ (s ≡ 3) → TableWalked n live used cells base s m m others left
-  table_none w l p q r = let e : s ≡ 0 = omega arith in rw e (record { walked = walk_none w tt })

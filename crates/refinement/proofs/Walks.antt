@@ -2,20 +2,15 @@
 use Prim.Native.Nat.{ℕ, suc, zero, ◌+◌, ◌*◌, ◌≤◌, ◌<◌}
 use mathlib.Core.Bool.{Bool, true, false}
 use mathlib.Core.List.{List}
-use mathlib.Core.Path.{◌≡◌, refl}
+use mathlib.Core.Path.{◌≡◌}
 use native.Mathlib.Omega.{arith}
-use lib.ListN.{length}
 use Rattle.equivalence.specs.Equivalence.{Map, byte}
 use Rattle.kernel.specs.InnerKernel.{Listed}
 use Rattle.translation.specs.InnerLines.{line_at, PlaneInside, SolidInside}
-use Rattle.refinement.specs.InnerSplitting.{Elements, Keeps, KeepsOn, Any, Chosen, Lines, Planes, Table, MapLent, MapSplit, Sifted, Turned, Walk, Walked, Split, ElementSplit, LineAt, PlaneAt, ChosenSplit, LinesWalked, PlaneWalked, PlanesWalked, ElementKept}
+use Rattle.refinement.specs.InnerSplitting.{Keeps, KeepsOn, Any, Chosen, Lines, Planes, Table, MapLent, MapSplit, Sifted, Turned, Walk, Walked, Split, ElementSplit, PlaneAt, ChosenSplit, LinesWalked, PlaneWalked, PlanesWalked, ElementKept}
 use Rattle.refinement.proofs.Splits.{never, split_none, split_more, split_said, split_next, by_index, names_kept}
 use Rattle.refinement.proofs.Sifting.{kept_after, lists_after, lists_turned, all_names}
 use Rattle.refinement.proofs.Rows.{rows_kept}
-
--- the elements of a list are within a map that is lent
-pub elements_lent : {n count : ℕ} {m cells list : List ℕ} → MapLent n m cells → Elements n list count → Elements (length m) list count
-elements_lent p s = record { room = s.room; below = λ i l. omega (arith, s.below i l, p.room) }
 
 module _ {n : ℕ} {live : List ℕ} {used : ℕ} {cells : List ℕ} where
   -- nothing was split
@@ -81,9 +76,6 @@ pub record Rowing (n : ℕ) (live : List ℕ) (used : ℕ) (cells : List ℕ) (b
   pub split : Split n (Lines (Any n false) (Keeps n) cells base 1 stride) (λ g. (k : ℕ) → k < i → ElementKept live used cells base stride (byte others k) g) m₀ m
 
 module _ {n : ℕ} {live : List ℕ} {used : ℕ} {cells : List ℕ} {base stride : ℕ} {others : List ℕ} {left : ℕ} where
-  pub rowing_none : {m : Map} → Walk n live used cells m others left → PlaneInside n cells base 1 stride → Rowing n live used cells base stride others left 0 m m
-  rowing_none w q = record { most = omega arith; map = w.map; first = w; plane = q; split = split_none w.map.canonical (λ k l. absurd (omega arith)) }
-
   pub rowing_more : {i : ℕ} {m₀ m m' : Map} → Rowing n live used cells base stride others left i m₀ m → i < left → ElementSplit n live used cells base stride (byte others i) m m'
       → Rowing n live used cells base stride others left (i + 1) m₀ m'
   rowing_more s l u = record {
@@ -114,33 +106,8 @@ pub record Lining (n : ℕ) (live : List ℕ) (used : ℕ) (cells : List ℕ) (b
       (λ g. (k : ℕ) → k < i → g (byte live k) ≡ byte live k → KeepsOn (Listed live used) (line_at cells (base + byte live k * row) stride) g) m₀ m others left
 
 module _ {n : ℕ} {live : List ℕ} {used : ℕ} {cells : List ℕ} {base row stride : ℕ} where
-  pub lining_none : {m : Map} {others : List ℕ} {left : ℕ} → Walk n live used cells m others left → PlaneInside n cells base row stride → Lining n live used cells base row stride 0 m m others left
-  lining_none w q = record { most = omega arith; plane = q; walked = walk_none w (λ k l. absurd (omega arith)) }
-
   module _ {i : ℕ} {m₀ m : Map} {others : List ℕ} {left : ℕ} (s : Lining n live used cells base row stride i m₀ m others left) where
-    pub lining_over : left ≡ 0 → LinesWalked n live used cells base true row stride m₀ m others left
-    lining_over z = record { walked = walk_said (λ g good. good) (λ h. lines_named s.walked.walk z (Chosen live used true) base row stride) s.walked }
-
-    pub lining_done : used ≤ i → LinesWalked n live used cells base true row stride m₀ m others left
-    lining_done l = record {
-      walked = walk_said (λ g good. good)
-          (λ h r k. by_index live used (λ (z : ℕ). byte m z ≡ z → KeepsOn (Listed live used) (line_at cells (base + z * row) stride) (byte m)) (λ j lj. h j (omega arith)) r k.0 (k.1 refl))
-          s.walked;
-    }
-
     module _ (l : i < used) where
-      pub lining_at : LineAt n m cells base row stride (byte live i)
-      lining_at =
-          let w = s.walked.walk in
-          let e = w.lists.live_elements.below i l in
-          let q = s.plane.lines (byte live i) e in
-          record {
-            lent = record { map = w.map; line = q };
-            element = e;
-            named = omega (arith, w.map.canonical.below (byte live i) e);
-            begins = omega (arith, q.inside 0 w.map.some);
-          }
-
       pub lining_more : {m' : Map} {others' : List ℕ} {left' : ℕ} → ChosenSplit n cells (base + byte live i * row) stride (byte live i) m m' others left others' left'
           → Lining n live used cells base row stride (i + 1) m₀ m' others' left'
       lining_more u = record {
@@ -159,14 +126,7 @@ pub record Planing (n : ℕ) (live : List ℕ) (used : ℕ) (cells : List ℕ) (
       → Lines (Chosen live used inner) (KeepsOn (Listed live used)) cells (base + byte live k * layer) row stride g) m₀ m others left
 
 module _ {n : ℕ} {live : List ℕ} {used : ℕ} {cells : List ℕ} {base : ℕ} {named inner : Bool} {layer row stride : ℕ} where
-  pub planing_none : {m : Map} {others : List ℕ} {left : ℕ} → Walk n live used cells m others left → SolidInside n cells base layer row stride
-      → Planing n live used cells base named inner layer row stride 0 m m others left
-  planing_none w q = record { most = omega arith; solid = q; walked = walk_none w (λ k l. absurd (omega arith)) }
-
   module _ {i : ℕ} {m₀ m : Map} {others : List ℕ} {left : ℕ} (s : Planing n live used cells base named inner layer row stride i m₀ m others left) where
-    pub planing_over : left ≡ 0 → PlanesWalked n live used cells base named inner layer row stride m₀ m others left
-    planing_over z = record { walked = walk_said (λ g good. good) (λ h. planes_named s.walked.walk z (Chosen live used named) (Chosen live used inner) base layer row stride) s.walked }
-
     pub planing_done : used ≤ i → PlanesWalked n live used cells base named inner layer row stride m₀ m others left
     planing_done l = record {
       walked = walk_said (λ g good. good)
@@ -201,21 +161,7 @@ module _ {n : ℕ} {live : List ℕ} {used : ℕ} {cells : List ℕ} {base : ℕ
 -- ---- one plane
 
 module _ {n : ℕ} {live : List ℕ} {used : ℕ} {cells : List ℕ} {base r : ℕ} {named inner : Bool} {row stride : ℕ} where
-  -- a plane at an element that is no smallest member is not asked for
-  pub plane_not : {m : Map} {others : List ℕ} {left : ℕ} → Walk n live used cells m others left → named ≡ true → ¬ (byte m r ≡ r)
-      → PlaneWalked n live used cells base r named inner row stride m m others left
-  plane_not w e h = record { walked = walk_none w (λ k. absurd (h (k e))) }
-
-  pub plane_lines : {m m' : Map} {others' : List ℕ} {left' : ℕ} → inner ≡ true → LinesWalked n live used cells base true row stride m m' others' left'
-      → PlaneWalked n live used cells base r named inner row stride m m' others' left'
-  plane_lines e u = record { walked = walk_said (λ g good. good) (λ h k z q. h z (q.0, λ o. q.1 e)) u.walked }
-
   -- a plane whose lines begin one after the other, among all elements in use
   pub plane_rows : {m m' : Map} {others' : List ℕ} {left' : ℕ} → (inner ≡ false → row ≡ 1) → inner ≡ false → LinesWalked n live used cells base false 1 stride m m' others' left'
       → PlaneWalked n live used cells base r named inner row stride m m' others' left'
   plane_rows o e u = rw (o e) (record { walked = walk_said (λ g good. good) (λ h k z q. h z (q.0, λ v. never v)) u.walked })
-
--- the lines of a plane begin one after the other
-pub plane_ones : {n : ℕ} {cells : List ℕ} {inner : Bool} {m : Map} {base layer row stride r : ℕ} → PlaneAt n m cells base layer row stride r → (inner ≡ false → row ≡ 1) → inner ≡ false
-    → PlaneInside n cells (base + r * layer) 1 stride
-plane_ones p o e = rw (o e) at p.plane

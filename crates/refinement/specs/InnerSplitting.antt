@@ -1,6 +1,6 @@
 -- Inner vocabulary: no contract of a service and no theorem cites this file.
 -- Splitting a map along translations: what the inner functions of this crate ask of each other and promise.
-use Rattle.std.specs.Prelude.{ℕ, zero, suc, ◌+◌, ◌*◌, ◌≤◌, ◌<◌, ◌≡◌, Bool, true, false, List, length, get_or}
+use Rattle.std.specs.Prelude.{ℕ, zero, suc, ◌+◌, ◌*◌, ◌≤◌, ◌<◌, ◌≡◌, Bool, true, false, List, Option, Some, None, length, get_or}
 use Rattle.equivalence.specs.Equivalence.{Map, byte}
 use Rattle.kernel.specs.InnerKernel.{Listed, Canonical, Within, KeptPast, names}
 use Rattle.algebra.specs.Algebra.{Algebra}
@@ -102,6 +102,11 @@ pub record Broken (t f : ℕ → ℕ) (list : List ℕ) (count i r : ℕ) : Type
   pub most : r ≤ count
   pub kept : (k : ℕ) → i ≤ k → k < r → f (t (byte list k)) ≡ f (t (f (byte list k)))
   pub found : r < count → Breaks t f (byte list r)
+
+-- the same where there is one, and else there is none
+abbrev pub FirstBroken : (ℕ → ℕ) → (ℕ → ℕ) → List ℕ → ℕ → ℕ → Option ℕ → Type 0
+FirstBroken t f list count i None = Broken t f list count i count
+FirstBroken t f list count i (Some r) = (r < count) × Broken t f list count i r
 
 -- y is the first element that f joins with x, and, where In holds of their block, the first that it joins with x after t too
 pub record Alike (t f : ℕ → ℕ) (In : ℕ → Type 0) (x y : ℕ) : Type 0 where
@@ -272,6 +277,11 @@ pub record Apart (live : List ℕ) (used : ℕ) (cells : List ℕ) (base stride 
   pub most : r ≤ used
   pub kept : (k : ℕ) → k < r → f (line_at cells (base + byte live k * 1) stride x) ≡ f (line_at cells (base + byte live k * 1) stride (f x))
   pub found : r < used → Breaks (line_at cells (base + byte live r * 1) stride) f x
+
+-- the same where there is one, and else there is none
+abbrev pub FirstApart : List ℕ → ℕ → List ℕ → ℕ → ℕ → ℕ → (ℕ → ℕ) → Option ℕ → Type 0
+FirstApart live used cells base stride x f None = Apart live used cells base stride x f used
+FirstApart live used cells base stride x f (Some r) = (r < used) × Apart live used cells base stride x f r
 
 -- the listed elements stand for all: they have the smallest members of every block of some congruence within e
 pub record Represented (a : Algebra) (live : List ℕ) (used : ℕ) (e : ℕ → ℕ) : Type 0 where

@@ -17,67 +17,35 @@ use line::Round;
 
 // Passes over all lines follow each other until one splits nothing, or every block has one element. None splits a single block. The list is
 // turned round after each: a split that follows from a later one comes in the next. A single line is gone along block by block from the first round on.
-fn refine_by(
-    m: &mut [u8],
-    n: usize,
-    arities: &[u8],
-    cells: &[u8],
-    live: &[u8],
-    used: usize,
-    others: &mut [u8],
-    start: usize,
-)
+fn refine_by(m: &mut [u8], n: usize, arities: &[u8], cells: &[u8], live: &[u8], others: &mut [u8])
     requires accepted { Accepted (algebra_in n arities cells) }
-    requires walk { Walk n live.now used cells.now m.old others.old start }
-    requires represented { Represented (algebra_in n arities cells) live.now used (byte m.old) }
+    requires walk { Walk n live.now (length live.now) cells.now m.old others.old (length others.old) }
+    requires represented { Represented (algebra_in n arities cells) live.now (length live.now) (byte m.old) }
     ensures { MapRefined (algebra_in n arities.entry cells.entry) m.old m.new }
 {
     let mut again = cells.len() == n;
-    let mut left = start;
+    let mut left = others.len();
     let mut count = equivalence::map::block_count(n, m);
     if count == 1 {
         return;
     }
+    // A `while`: what a round splits decides whether another follows.
     while 0 < left {
-        left = table::split_all(
-            m,
-            Round { n, used, again },
-            arities,
+        let round = Round {
+            n,
             cells,
             live,
-            others,
-            left,
-        );
+            again,
+        };
+        left = table::split_all(m, &round, arities, &mut others[..left]);
         let found = equivalence::map::block_count(n, m);
         if found == count {
             return;
         }
         count = found;
         again = true;
-        line::turn(others, left);
+        others[..left].reverse();
     }
-}
-
-// `refine_above` with room for the list of those elements in use that are no smallest members.
-fn refine_in(
-    m: &mut [u8],
-    n: usize,
-    arities: &[u8],
-    cells: &[u8],
-    live: &[u8],
-    used: usize,
-    others: &mut [u8],
-)
-    requires accepted { Accepted (algebra_in n arities cells) }
-    requires n_in_bounds { n ≤ length m.old }
-    requires canonical { Canonical n (byte m.old) }
-    requires represented { Represented (algebra_in n arities cells) live.now used (byte m.old) }
-    requires used_in_bounds { used ≤ length others.old }
-    ensures { MapRefined (algebra_in n arities.entry cells.entry) m.old m.new }
-{
-    equivalence::blocks::copy(used, live, others);
-    let left = line::sift(m, others, used);
-    refine_by(m, n, arities, cells, live, used, others, left);
 }
 
 // The first n bytes of m become the greatest congruence inside the map that they write; those past n keep their value. Only listed
@@ -91,11 +59,15 @@ pub fn refine_above(m: &mut [u8], n: usize, arities: &[u8], cells: &[u8], live: 
     ensures refined { Refined (algebra_in n arities.entry cells.entry) (byte m.old) (byte m.new) }
     ensures kept_past { KeptPast n (byte m.old) (byte m.new) }
 {
-    if arities.len() == 0 {
+    if arities.is_empty() {
         return;
     }
+    let live = &live[..used];
     let mut others = [0u8; 64];
-    refine_in(m, n, arities, cells, live, used, &mut others);
+    let others = &mut others[..used];
+    others.copy_from_slice(live);
+    let left = line::sift(m, others);
+    refine_by(m, n, arities, cells, live, &mut others[..left]);
 }
 
 // The first n bytes of m become the greatest congruence inside the map that they write; those past n keep their value.

@@ -23,154 +23,72 @@ struct Solid {
 }
 
 // The plane of the solid that begins at r times its layer; where that argument is before the varied one, only if r is a smallest member.
-fn split_plane(
-    m: &mut [u8],
-    round: Round,
-    cells: &[u8],
-    solid: Solid,
-    r: usize,
-    live: &[u8],
-    others: &mut [u8],
-    left: usize,
-) -> usize
-    requires walk { Walk round.n live.now round.used cells.now m.old others.old left }
-    requires plane_at { PlaneAt round.n m.old cells.now solid.base solid.layer solid.row solid.stride r }
+fn split_plane(m: &mut [u8], round: &Round, solid: Solid, r: usize, others: &mut [u8]) -> usize
+    requires walk { Walk round.now.n round.now.live.now (length round.now.live.now) round.now.cells.now m.old others.old (length others.old) }
+    requires plane_at { PlaneAt round.now.n m.old round.now.cells.now solid.base solid.layer solid.row solid.stride r }
     requires row_value { solid.inner ≡ false → solid.row ≡ 1 }
-    ensures { PlaneWalked round.n live.now round.used cells.now (solid.base + r * solid.layer) r solid.named solid.inner solid.row solid.stride m.old m.new others.new result }
+    ensures { PlaneWalked round.now.n round.now.live.now (length round.now.live.now) round.now.cells.now (solid.base + r * solid.layer) r solid.named solid.inner solid.row solid.stride m.old m.new others.new result }
 {
-    if solid.named {
-        if m[r] as usize != r {
-            return left;
-        }
+    if solid.named && m[r] as usize != r {
+        return others.len();
     }
     let base = solid.base + r * solid.layer;
+    let stride = solid.stride;
     if solid.inner {
-        return split_lines(
-            m,
-            round,
-            cells,
-            Plane {
-                base,
-                row: solid.row,
-                stride: solid.stride,
-            },
-            live,
-            others,
-            left,
-        );
+        let row = solid.row;
+        return split_lines(m, round, Plane { base, row, stride }, others);
     }
-    split_rows(
-        m,
-        round,
-        cells,
-        Line {
-            base,
-            stride: solid.stride,
-        },
-        live,
-        others,
-        left,
-    )
+    split_rows(m, round, Line { base, stride }, others)
 }
 
 // The planes of the solid that begin at an element in use.
-fn split_planes(
-    m: &mut [u8],
-    round: Round,
-    cells: &[u8],
-    solid: Solid,
-    live: &[u8],
-    others: &mut [u8],
-    left: usize,
-) -> usize
-    requires walk { Walk round.n live.now round.used cells.now m.old others.old left }
-    requires solid_inside { SolidInside round.n cells.now solid.base solid.layer solid.row solid.stride }
+fn split_planes(m: &mut [u8], round: &Round, solid: Solid, others: &mut [u8]) -> usize
+    requires walk { Walk round.now.n round.now.live.now (length round.now.live.now) round.now.cells.now m.old others.old (length others.old) }
+    requires solid_inside { SolidInside round.now.n round.now.cells.now solid.base solid.layer solid.row solid.stride }
     requires row_value { solid.inner ≡ false → solid.row ≡ 1 }
-    ensures { PlanesWalked round.n live.now round.used cells.now solid.base solid.named solid.inner solid.layer solid.row solid.stride m.old m.new others.new result }
+    ensures { PlanesWalked round.now.n round.now.live.now (length round.now.live.now) round.now.cells.now solid.base solid.named solid.inner solid.layer solid.row solid.stride m.old m.new others.new result }
 {
-    let used = round.used;
-    let mut found = left;
-    let mut i = 0;
-    while i < used {
-        if found == 0 {
-            return found;
+    let mut left = others.len();
+    for r in round.live {
+        if left == 0 {
+            return 0;
         }
-        let r = live[i] as usize;
-        found = split_plane(m, round, cells, solid, r, live, others, found);
-        i += 1;
+        left = split_plane(m, round, solid, *r as usize, &mut others[..left]);
     }
-    found
+    left
 }
 
 // The line of a table of arity 1.
-fn split_unary(
-    m: &mut [u8],
-    round: Round,
-    cells: &[u8],
-    base: usize,
-    live: &[u8],
-    others: &mut [u8],
-    left: usize,
-) -> usize
-    requires walk { Walk round.n live.now round.used cells.now m.old others.old left }
-    requires n_in_bounds { base + round.n ≤ length cells.now }
-    ensures { TableWalked round.n live.now round.used cells.now base 1 m.old m.new others.new result }
+fn split_unary(m: &mut [u8], round: &Round, base: usize, others: &mut [u8]) -> usize
+    requires walk { Walk round.now.n round.now.live.now (length round.now.live.now) round.now.cells.now m.old others.old (length others.old) }
+    requires n_in_bounds { base + round.now.n ≤ length round.now.cells.now }
+    ensures { TableWalked round.now.n round.now.live.now (length round.now.live.now) round.now.cells.now base 1 m.old m.new others.new result }
 {
-    split_line(m, round, cells, Line { base, stride: 1 }, others, left)
+    split_line(m, round, Line { base, stride: 1 }, others)
 }
 
 // The lines of a table of arity 2.
-fn split_binary(
-    m: &mut [u8],
-    round: Round,
-    cells: &[u8],
-    base: usize,
-    live: &[u8],
-    others: &mut [u8],
-    left: usize,
-) -> usize
-    requires walk { Walk round.n live.now round.used cells.now m.old others.old left }
-    requires n_in_bounds { base + round.n * round.n ≤ length cells.now }
-    ensures { TableWalked round.n live.now round.used cells.now base 2 m.old m.new others.new result }
+fn split_binary(m: &mut [u8], round: &Round, base: usize, others: &mut [u8]) -> usize
+    requires walk { Walk round.now.n round.now.live.now (length round.now.live.now) round.now.cells.now m.old others.old (length others.old) }
+    requires n_in_bounds { base + round.now.n * round.now.n ≤ length round.now.cells.now }
+    ensures { TableWalked round.now.n round.now.live.now (length round.now.live.now) round.now.cells.now base 2 m.old m.new others.new result }
 {
     let n = round.n;
-    let first = split_rows(
-        m,
-        round,
-        cells,
-        Line { base, stride: n },
-        live,
-        others,
-        left,
-    );
-    split_lines(
-        m,
-        round,
-        cells,
-        Plane {
-            base,
-            row: n,
-            stride: 1,
-        },
-        live,
-        others,
-        first,
-    )
+    let columns = Line { base, stride: n };
+    let rows = Plane {
+        base,
+        row: n,
+        stride: 1,
+    };
+    let left = split_rows(m, round, columns, others);
+    split_lines(m, round, rows, &mut others[..left])
 }
 
 // The lines of a table of arity 3.
-fn split_ternary(
-    m: &mut [u8],
-    round: Round,
-    cells: &[u8],
-    base: usize,
-    live: &[u8],
-    others: &mut [u8],
-    left: usize,
-) -> usize
-    requires walk { Walk round.n live.now round.used cells.now m.old others.old left }
-    requires n_in_bounds { base + round.n * round.n * round.n ≤ length cells.now }
-    ensures { TableWalked round.n live.now round.used cells.now base 3 m.old m.new others.new result }
+fn split_ternary(m: &mut [u8], round: &Round, base: usize, others: &mut [u8]) -> usize
+    requires walk { Walk round.now.n round.now.live.now (length round.now.live.now) round.now.cells.now m.old others.old (length others.old) }
+    requires n_in_bounds { base + round.now.n * round.now.n * round.now.n ≤ length round.now.cells.now }
+    ensures { TableWalked round.now.n round.now.live.now (length round.now.live.now) round.now.cells.now base 3 m.old m.new others.new result }
 {
     let n = round.n;
     let area = n * n;
@@ -182,7 +100,7 @@ fn split_ternary(
         named: false,
         inner: false,
     };
-    let first = split_planes(m, round, cells, firsts, live, others, left);
+    let first = split_planes(m, round, firsts, others);
     let seconds = Solid {
         base,
         layer: area,
@@ -191,7 +109,7 @@ fn split_ternary(
         named: true,
         inner: false,
     };
-    let second = split_planes(m, round, cells, seconds, live, others, first);
+    let second = split_planes(m, round, seconds, &mut others[..first]);
     let thirds = Solid {
         base,
         layer: area,
@@ -200,64 +118,40 @@ fn split_ternary(
         named: true,
         inner: true,
     };
-    split_planes(m, round, cells, thirds, live, others, second)
+    split_planes(m, round, thirds, &mut others[..second])
 }
 
 // The lines of the operation of arity s whose table begins at `base`.
-fn split_table(
-    m: &mut [u8],
-    round: Round,
-    cells: &[u8],
-    base: usize,
-    s: usize,
-    live: &[u8],
-    others: &mut [u8],
-    left: usize,
-) -> usize
-    requires walk { Walk round.n live.now round.used cells.now m.old others.old left }
+fn split_table(m: &mut [u8], round: &Round, base: usize, s: usize, others: &mut [u8]) -> usize
+    requires walk { Walk round.now.n round.now.live.now (length round.now.live.now) round.now.cells.now m.old others.old (length others.old) }
     requires s_bound { s ≤ 3 }
-    requires s_in_bounds { base + round.n ^ s ≤ length cells.now }
-    ensures { TableWalked round.n live.now round.used cells.now base s m.old m.new others.new result }
+    requires s_in_bounds { base + round.now.n ^ s ≤ length round.now.cells.now }
+    ensures { TableWalked round.now.n round.now.live.now (length round.now.live.now) round.now.cells.now base s m.old m.new others.new result }
 {
-    if s == 1 {
-        return split_unary(m, round, cells, base, live, others, left);
+    match s {
+        1 => split_unary(m, round, base, others),
+        2 => split_binary(m, round, base, others),
+        3 => split_ternary(m, round, base, others),
+        _ => others.len(),
     }
-    if s == 2 {
-        return split_binary(m, round, cells, base, live, others, left);
-    }
-    if s == 3 {
-        return split_ternary(m, round, cells, base, live, others, left);
-    }
-    left
 }
 
 // The lines of every table of an accepted algebra.
-pub fn split_all(
-    m: &mut [u8],
-    round: Round,
-    arities: &[u8],
-    cells: &[u8],
-    live: &[u8],
-    others: &mut [u8],
-    left: usize,
-) -> usize
-    requires accepted { Accepted (algebra_in round.n arities cells) }
-    requires walk { Walk round.n live.now round.used cells.now m.old others.old left }
-    requires represented { Represented (algebra_in round.n arities cells) live.now round.used (byte m.old) }
-    ensures { AllWalked (algebra_in round.n arities.entry cells.entry) live.now round.used m.old m.new others.new result }
+pub fn split_all(m: &mut [u8], round: &Round, arities: &[u8], others: &mut [u8]) -> usize
+    requires accepted { Accepted (algebra_in round.now.n arities round.now.cells) }
+    requires walk { Walk round.now.n round.now.live.now (length round.now.live.now) round.now.cells.now m.old others.old (length others.old) }
+    requires represented { Represented (algebra_in round.now.n arities round.now.cells) round.now.live.now (length round.now.live.now) (byte m.old) }
+    ensures { AllWalked (algebra_in round.now.n arities.entry round.now.cells) round.now.live.now (length round.now.live.now) m.old m.new others.new result }
 {
-    let n = round.n;
-    let mut found = left;
+    let mut left = others.len();
     let mut base = 0;
-    let mut j = 0;
-    while j < arities.len() {
-        if found == 0 {
-            return found;
+    for s in arities {
+        if left == 0 {
+            return 0;
         }
-        let s = arities[j] as usize;
-        found = split_table(m, round, cells, base, s, live, others, found);
-        base = base + algebra::power(n, s);
-        j += 1;
+        let s = *s as usize;
+        left = split_table(m, round, base, s, &mut others[..left]);
+        base += algebra::power(round.n, s);
     }
-    found
+    left
 }

@@ -1,6 +1,7 @@
 -- The records of the search, as the functions hand them on: what each step asks for, and where the search stands after it.
 use Prim.Native.Nat.{ℕ, ◌+◌, ◌-◌, ◌*◌, ◌≤◌, ◌<◌}
 use mathlib.Core.List.{List}
+use Rattle.std.specs.Prelude.{None}
 use mathlib.Core.Path.{◌≡◌, refl, sym, ap, ◌∙◌}
 use native.Mathlib.Decide.{ℕ_discrete}
 use native.Mathlib.Omega.{arith}
@@ -18,14 +19,15 @@ use Rattle.algebra.proofs.Accepted.{accepted_well_formed}
 use Rattle.translation.specs.InnerTranslations.{Closed}
 use Rattle.translation.proofs.Translations.{identity_compatible}
 use Rattle.closure.specs.InnerStarts.{Extends, NamesListed}
-use Rattle.closure.specs.InnerClosing.{NamesInUse, Apart}
+use Rattle.closure.specs.InnerClosing.{NamesInUse, ApartMade, ApartIn}
+use Rattle.closure.specs.declared.Congruence.{Congruence}
 use Rattle.closure.proofs.Collections.{collected_most, count_of_names}
 use Rattle.closure.proofs.Starting.{identity_use}
 use Rattle.bounding.specs.InnerSettled.{Refused, Earliest}
 use Rattle.bounding.specs.InnerBounds.{RowSettled, BoundLent, Tightened}
 use Rattle.bounding.proofs.Settling.{settled_start, settled_pass, settled_take, settled_skip, settled_row, settled_skip_row}
 use Rattle.bounding.proofs.Bounding.{bound_up, bound_refuses, bound_end}
-use Rattle.separation.specs.InnerSearch.{Standing, Marks, Unused, ThreeLent, ThreeCopied}
+use Rattle.separation.specs.InnerSearch.{Standing, StandingIn, Marks}
 use Rattle.separation.proofs.Marking.{refusals_none, refusals_up, refusals_mark}
 
 -- every element is a name of the identity, listed in its own place
@@ -133,27 +135,28 @@ module _ {n : ℕ} {arities cells m names places : List ℕ} {marked : Pair} whe
   standing_next x s = let e : x + 2 ≡ x + 1 + 1 = omega arith in rw e at s
 
   -- the search starts at the identity
-  pub standing_start : {table : List ℕ} (m₀ names₀ places₀ : List ℕ) → Accepted (algebra_of n arities cells) → Unused m₀ names₀ places₀ table → marked.x < n → marked.y < n → ¬ (marked.x ≡ marked.y)
-      → length m ≡ length m₀ → length names ≡ length names₀ → length places ≡ length places₀
+  pub standing_start : Accepted (algebra_of n arities cells) → marked.x < n → marked.y < n → ¬ (marked.x ≡ marked.y) → length m ≡ 64 → length names ≡ 64 → length places ≡ 64
       → ((x : ℕ) → x < 64 → byte m x ≡ x) → ((x : ℕ) → x < 64 → byte names x ≡ x) → ((x : ℕ) → x < 64 → byte places x ≡ x) → Standing n arities cells m names places marked 0 1 n
-  standing_start m₀ names₀ places₀ ok u lv lw d e f g i j k =
+  standing_start ok lv lw d e f g i j k =
       let small : n ≤ 64 = (accepted_well_formed _ ok).most in
       let same : (x : ℕ) → x < n → byte m x ≡ x = λ x lx. i x (omega arith) in
       record {
         accepted = ok;
         size = small;
-        map_room = e ∙ u.map_room;
+        map_room = e;
         padded = λ z lz l64. i z l64;
         left = lv;
         right = lw;
         settled = settled_start (algebra_of n arities cells) _ _ (byte m) lv lw d same (identity_compatible (algebra_of n arities cells) (byte m) same);
-        names_in_use = record { in_use = identity_use small (f ∙ u.names_room) (g ∙ u.places_room) j k; listed = identity_listed n (byte m) names same (λ x lx. j x (omega arith)) };
+        names_in_use = record { in_use = identity_use small f g j k; listed = identity_listed n (byte m) names same (λ x lx. j x (omega arith)) };
       }
 
-module _ {n : ℕ} {arities cells : List ℕ} {marked : Pair} {f : ℕ → ℕ} (ok : Accepted (algebra_of n arities cells)) where
-  pub marks_start : {table m₀ names₀ places₀ : List ℕ} → Unused m₀ names₀ places₀ table → Marks (algebra_of n arities cells) table marked f
-  marks_start {table} u =
-      record { room = u.table_room; rightly = refusals_none (algebra_of n arities cells) _ _ f table (accepted_well_formed _ ok).most u.unmarked }
+-- no mark is set
+pub marks_start : {n : ℕ} {arities cells : List ℕ} {marked : Pair} {f : ℕ → ℕ} → Accepted (algebra_of n arities cells) → Marks (algebra_of n arities cells) (replicate 4096 0) marked f
+marks_start {n} {arities} {cells} {f = f} ok = record {
+  room = length-replicate {A = ℕ} 4096 0;
+  rightly = refusals_none (algebra_of n arities cells) _ _ f (replicate 4096 0) (accepted_well_formed _ ok).most (λ i l. get_or-replicate 4096 i 0 0 l);
+}
 
 -- a larger map
 module _ {n : ℕ} {arities cells : List ℕ} (m m' : List ℕ) {marked : Pair} (w : Within n (byte m) (byte m')) where
@@ -166,36 +169,19 @@ module _ {n : ℕ} {arities cells : List ℕ} (m m' : List ℕ) {marked : Pair} 
 
 -- ---- a try
 
-module _ {n : ℕ} {arities cells m names places : List ℕ} {marked : Pair} {x y count : ℕ} (s : Standing n arities cells m names places marked x y count) where
-  pub standing_lent : ThreeLent m names places
-  standing_lent = record { map_room = s.map_room; names_room = s.names_in_use.in_use.live_room; places_room = s.names_in_use.in_use.places_room }
+module _ {n : ℕ} {arities cells : List ℕ} {marked : Pair} {x y : ℕ} {c : Congruence} (s : StandingIn n arities cells c marked x y) (lx : x < y) (ly : y < n) {table : List ℕ}
+    (k : Marks (algebra_of n arities cells) table marked (byte c.map)) where
+  -- the marked elements stay apart
+  pub try_taken : (d : Congruence) → ApartMade (algebra_of n arities cells) x y marked.x marked.y (byte c.map) d → length d.map ≡ 64
+      → StandingIn n arities cells d marked x (y + 1) × Marks (algebra_of n arities cells) table marked (byte d.map) × Within n (byte c.map) (byte d.map)
+  try_taken d e long = (standing_take s lx ly d.map d.names.list d.names.places d.names.count long e.closed e.apart e.left e.rest, marks_up c.map d.map e.closed.good.0 k, e.closed.good.0)
 
-  module _ (lx : x < y) (ly : y < n) {table names' places' : List ℕ} {left : ℕ} (m' : List ℕ) (k : Marks (algebra_of n arities cells) table marked (byte m))
-      (e : Apart (algebra_of n arities cells) x y marked.x marked.y (byte m) (byte m') names' places' left) where
-    -- the marked elements stay apart
-    pub try_taken : ¬ (left ≡ 0) → length m' ≡ 64 → KeptPast n (byte m) (byte m')
-        → Standing n arities cells m' names' places' marked x (y + 1) left × Marks (algebra_of n arities cells) table marked (byte m') × Within n (byte m) (byte m')
-    try_taken some long past =
-        let d = e.closed some in
-        (standing_take s lx ly m' names' places' left long d (e.apart some) (e.left some) past, marks_up m m' d.good.0 k, d.good.0)
-
-    -- they do not: what was copied before the try is copied back
-    pub try_refused : {m₁ names₁ places₁ m₂ names₂ places₂ : List ℕ} → left ≡ 0 → ThreeCopied m names places m₁ names₁ places₁ → ThreeCopied m₁ names₁ places₁ m₂ names₂ places₂
-        → Standing n arities cells m₂ names₂ places₂ marked x (y + 1) count × Marks (algebra_of n arities cells) (set table (x * 64 + y) 1) marked (byte m₂) × Within n (byte m) (byte m₂)
-    try_refused none a b =
-        let refused : Refused (algebra_of n arities cells) marked.x marked.y (byte m) x y = λ g good up h. e.joined none g good (up, h) in
-        rw (b.map, b.listed, b.placed, a.map, a.listed, a.placed)
-        (standing_pass s lx ly refused, marks_refused s lx ly table k refused, λ p q lp lq i. i)
-
--- arrays of zeros
-pub all_unused : Unused (replicate 64 0) (replicate 64 0) (replicate 64 0) (replicate 4096 0)
-all_unused = record {
-  map_room = length-replicate {A = ℕ} 64 0;
-  names_room = length-replicate {A = ℕ} 64 0;
-  places_room = length-replicate {A = ℕ} 64 0;
-  table_room = length-replicate {A = ℕ} 4096 0;
-  unmarked = λ i l. get_or-replicate 4096 i 0 0 l;
-}
+  -- they do not
+  pub try_refused : ApartIn (algebra_of n arities cells) x y marked.x marked.y (byte c.map) None
+      → StandingIn n arities cells c marked x (y + 1) × Marks (algebra_of n arities cells) (set table (x * 64 + y) 1) marked (byte c.map) × Within n (byte c.map) (byte c.map)
+  try_refused e =
+      let refused : Refused (algebra_of n arities cells) marked.x marked.y (byte c.map) x y = λ g good up h. e g good (up, h) in
+      (standing_pass s lx ly refused, marks_refused s lx ly table k refused, λ p q lp lq i. i)
 
 -- ---- row after row
 
@@ -224,15 +210,8 @@ module _ {n : ℕ} {arities cells : List ℕ} {marked : Pair} where
     pub row_less : byte up v ≡ byte up w → v + 1 - (x + 1) < v + 1 - x
     row_less e = omega (arith, r.row e)
 
-    -- the sum of trials stays small
-    pub trials_fit : byte up v ≡ byte up w → (tried : ℕ) → tried ≤ n → Fits w64 (trials + tried)
-    trials_fit e tried l = omega (arith, r.few, row_below e, r.standing.size)
-
     pub row_fits : byte up v ≡ byte up w → Fits w64 (x + 1)
     row_fits e = omega (arith, row_below e, r.standing.size)
-
-    pub trials_few : byte up v ≡ byte up w → (tried : ℕ) → tried ≤ n → trials + tried ≤ 4096
-    trials_few e tried l = omega (arith, r.few, row_below e, r.standing.size)
 
     pub rows_more : {m' names' places' table' up' : List ℕ} {count' : ℕ} (tried : ℕ) → byte up v ≡ byte up w → tried ≤ n → Standing n arities cells m' names' places' marked (x + 1) (x + 2) count'
         → Marks (algebra_of n arities cells) table' marked (byte m') → length up' ≡ length up → Tightened (algebra_of n arities cells) marked.x marked.y x (byte m') (byte up) (byte up')
@@ -252,9 +231,6 @@ module _ {n : ℕ} {arities cells : List ℕ} {marked : Pair} where
       marks = marks;
       bound = record { room = omega (arith, r.bound.room); bound = t.bound };
     }
-
-    pub trials_most : trials ≤ 4096
-    trials_most = omega (arith, r.few, r.behind, r.standing.size)
 
     pub rows_end : ¬ (byte up v ≡ byte up w) → Earliest (algebra_of n arities cells) marked.x marked.y (byte up)
     rows_end d =

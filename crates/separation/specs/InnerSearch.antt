@@ -5,6 +5,7 @@ use Rattle.equivalence.specs.declared.Pair.{Pair}
 use Rattle.algebra.specs.Algebra.{Algebra, algebra_of}
 use Rattle.algebra.specs.Accepted.{Accepted}
 use Rattle.sweep.specs.InnerQueue.{Padded}
+use Rattle.closure.specs.declared.Congruence.{Congruence}
 use Rattle.closure.specs.InnerStarts.{RefusedRightlyAbove}
 use Rattle.closure.specs.InnerClosing.{NamesInUse}
 use Rattle.bounding.specs.InnerSettled.{Settled}
@@ -20,27 +21,11 @@ pub record Standing (n : ℕ) (arities cells m names places : List ℕ) (marked 
   pub settled : Settled (algebra_of n arities cells) marked.x marked.y x y (byte m)
   pub names_in_use : NamesInUse n (byte m) names places count
 
+-- the same of a congruence with its names
+abbrev pub StandingIn : ℕ → List ℕ → List ℕ → Congruence → Pair → ℕ → ℕ → Type 0
+StandingIn n arities cells c marked x y = Standing n arities cells c.map c.names.list c.names.places marked x y c.names.count
+
 -- the table has 64 rows of 64 marks, and every congruence above f joins the marked elements where it joins a pair that has a mark
 pub record Marks (a : Algebra) (table : List ℕ) (marked : Pair) (f : ℕ → ℕ) : Type 0 where
   pub room : length table ≡ 4096
   pub rightly : RefusedRightlyAbove a table marked.x marked.y f
-
--- room for a map, for the list of its names and their places, and for marks, none of which is set
-pub record Unused (m names places table : List ℕ) : Type 0 where
-  pub map_room : length m ≡ 64
-  pub names_room : length names ≡ 64
-  pub places_room : length places ≡ 64
-  pub table_room : length table ≡ 4096
-  pub unmarked : (i : ℕ) → i < 4096 → byte table i ≡ 0
-
--- 64 bytes each for a map, for the list of its names, and for their places
-pub record ThreeLent (m names places : List ℕ) : Type 0 where
-  pub map_room : length m ≡ 64
-  pub names_room : length names ≡ 64
-  pub places_room : length places ≡ 64
-
--- the three are copied whole
-pub record ThreeCopied (m names places m' names' places' : List ℕ) : Type 0 where
-  pub map : m' ≡ m
-  pub listed : names' ≡ names
-  pub placed : places' ≡ places

@@ -2,19 +2,20 @@
 use Prim.Native.Nat.{ℕ, ◌≤◌, ◌<◌}
 use mathlib.Core.Bool.{Bool, true, false, not, ◌&&◌}
 use mathlib.Core.List.{List}
-use mathlib.Core.Path.{◌≡◌, sym, ◌∙◌}
+use mathlib.Core.Path.{◌≡◌, refl, sym, ◌∙◌}
 use native.Mathlib.Decide.{dec_lt}
 use native.Mathlib.Omega.{arith}
 use lib.Dec.{T, leb, leb→le, T_not, not_T}
-use lib.ListN.{take}
-use borrow.Author.Tests.{le-leb, lt-leb, not-true, not-false}
+use lib.ListN.{length, take}
+use lib.Seq.{length-take-le}
+use borrow.Author.Tests.{le-leb, lt-leb, le-ltb, lt-ltb, not-true, not-false}
 use Rattle.equivalence.specs.Equivalence.{is_map}
 use Rattle.equivalence.specs.Lists.{up_to, every}
-use Rattle.equivalence.proofs.Lists.{of_below}
+use Rattle.equivalence.proofs.Lists.{of_below, of_up_to}
 use Rattle.equivalence.proofs.Tests.{both, left, right, T_of, not_T_of, false_is}
-use Rattle.sheet.specs.Points.{point_in, is_named_below, is_point, is_faultless}
+use Rattle.sheet.specs.Points.{point_in, is_named_below, first_named, is_point, is_faultless}
 use Rattle.sheet.specs.Sheet.{map_on}
-use Rattle.sheet.proofs.Places.{Named, named_below_of, of_named_below}
+use Rattle.sheet.proofs.Places.{Named, named_below_of, first_ltb, named_below_front, point_in_front, every_same}
 use Rattle.sheet.specs.declared.Point.{Point}
 use Rattle.sheet.specs.declared.Sheet.{Sheet}
 
@@ -33,10 +34,10 @@ module _ (n : ℕ) (places : List Point) (i : ℕ) where
     unfolding is_point
     unmapped f t = not_T_of (sym s ∙ not-true flag f) (left mapped (not named) t)
 
-    pub point_right : not flag ≡ false → ((j : ℕ) → j < i → ¬ Named (point_in places i).name places j) → T (is_point n places i)
+    pub point_right : not flag ≡ false → {r : ℕ} → r ≡ first_named (point_in places i).name places i → i ≤ r → T (is_point n places i)
     unfolding is_point
-    point_right f h =
-        both mapped (not named) (T_of (sym s ∙ not-false flag f)) (not_T named (λ t. let r = of_named_below _ places i t in h r.0 r.1 r.2))
+    point_right f {r} e h =
+        both mapped (not named) (T_of (sym s ∙ not-false flag f)) (not_T named (not_T_of (sym (first_ltb _ places i r e) ∙ le-ltb r i h)))
 
   alike : (j : ℕ) → j < i → Named (point_in places i).name places j → ¬ T (is_point n places i)
   unfolding is_point
@@ -49,8 +50,16 @@ module _ (n : ℕ) (places : List Point) (i : ℕ) where
     pub points_unmapped : {flag : Bool} → flag ≡ mapped → not flag ≡ true → false ≡ every (is_point n places) (up_to count)
     points_unmapped s f = not_every (unmapped s f)
 
-    pub points_alike : (j : ℕ) → j < i → Named (point_in places i).name places j → false ≡ every (is_point n places) (up_to count)
-    points_alike j l e = not_every (alike j l e)
+    pub points_alike : {r : ℕ} → r ≡ first_named (point_in places i).name places i → r < i → false ≡ every (is_point n places) (up_to count)
+    unfolding is_point
+    points_alike {r} e l = not_every (λ t. T_not named (right mapped (not named) t) (T_of (sym (first_ltb _ places i r e) ∙ lt-ltb r i l)))
+
+-- the front of the places, by its own places
+pub points_front : (n : ℕ) (places : List Point) (k : ℕ) → k ≤ length places → every (is_point n (take k places)) (up_to (length (take k places))) ≡ every (is_point n places) (up_to k)
+unfolding is_point
+points_front n places k h =
+    rw (length-take-le k places h) (every_same _ _ (up_to k) (λ i m. let l : i < k = of_up_to k i m in
+    rw (point_in_front places k i l, named_below_front places k (point_in places i).name i (omega arith)) refl))
 
 module _ (n : ℕ) (s : Sheet) {flag : Bool} (e : flag ≡ is_map n (take n s.map)) where
   pub sheet_unmapped : not flag ≡ true → false ≡ is_faultless n s
@@ -62,9 +71,9 @@ module _ (n : ℕ) (s : Sheet) {flag : Bool} (e : flag ≡ is_map n (take n s.ma
     unfolding is_faultless map_on
     sheet_crowded h = simp (sym e ∙ not-false flag f, lt-leb s.count 8 h)
 
-    pub sheet_last : s.count ≤ 8 → {rest : Bool} → rest ≡ every (is_point n s.points) (up_to s.count) → rest ≡ is_faultless n s
+    pub sheet_last : s.count ≤ 8 → s.count ≤ length s.points → {rest : Bool} → rest ≡ every (is_point n (take s.count s.points)) (up_to (length (take s.count s.points))) → rest ≡ is_faultless n s
     unfolding is_faultless map_on
-    sheet_last h g = g ∙ simp (sym e ∙ not-false flag f, le-leb s.count 8 h)
+    sheet_last h k g = g ∙ points_front n s.points s.count k ∙ simp (sym e ∙ not-false flag f, le-leb s.count 8 h)
 
 -- ---- what they leave
 

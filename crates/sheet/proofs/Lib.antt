@@ -4,4 +4,3 @@ pub mod Names
 pub mod Places
 pub mod Faults
 pub mod Storing
-pub mod Copying

@@ -21,9 +21,6 @@ pub sum_more : (f : ℕ → ℕ) (x : ℕ) {total r : ℕ} → total ≡ sum x f
 unfolding sum
 sum_more f x e g = rw (add-one x, sum, e, g) refl
 
-pub sum_all : (n : ℕ) (f : ℕ → ℕ) {x total : ℕ} → x ≤ n → n ≤ x → total ≡ sum x f → total ≡ sum n f
-sum_all n f {x} l k e = let d : x ≡ n = omega arith in rw d at e
-
 -- ---- sums compared
 
 module _ (f g : ℕ → ℕ) where

@@ -1,4 +1,4 @@
--- A sheet with a new map: the map that is then on it, and the bytes past it; a loop that leaves the identity, or a copy, in the first n bytes.
+-- A sheet with a new map: the map that is then on it, and the bytes past it; a loop that leaves the identity in the first n bytes.
 use Prim.Native.Nat.{ℕ}
 use mathlib.Core.List.{List}
 use mathlib.Core.Path.{◌≡◌, sym, ap, ◌∙◌}
@@ -23,7 +23,3 @@ module _ (n : ℕ) (m : Map) (s : Sheet) (e : length m ≡ n) where
 -- a pass that writes each element's own number leaves the identity
 pub filled_identity : (n : ℕ) (f f' : ℕ → ℕ) → Filled n (λ x. x) f f' → Filled n (byte (identity n)) f f'
 filled_identity n f f' h = record { first = λ x l. h.first x l ∙ sym (identity_at n x l); rest = h.rest }
-
--- a pass that copies the first n bytes leaves them there
-pub filled_front : (n : ℕ) (from : List ℕ) (f f' : ℕ → ℕ) → Filled n (byte from) f f' → Filled n (byte (take n from)) f f'
-filled_front n from f f' h = record { first = λ x l. h.first x l ∙ sym (get_or-take n from x 0 l); rest = h.rest }

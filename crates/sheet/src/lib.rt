@@ -67,9 +67,7 @@ pub fn with_identity(sheet: Sheet, n: usize) -> Sheet
 {
     let mut map = sheet.map;
     write_identity(n, &mut map);
-    let mut next = sheet;
-    next.map = map;
-    next
+    Sheet { map, ..sheet }
 }
 
 // Whether the first n bytes are a map over n. Of 64 elements the compiler makes code of its own.
@@ -77,11 +75,10 @@ pub fn has_map(n: usize, map: &[u8; MAP_BYTES]) -> bool
     requires { n ≤ 64 }
     ensures { result ≡ is_map n (take n map.now) }
 {
-    let bytes = &map[..];
     if n == MAP_BYTES {
-        return maps::is_map(MAP_BYTES, bytes);
+        return maps::is_map(map);
     }
-    maps::is_map(n, &bytes[0..n])
+    maps::is_map(&map[..n])
 }
 
 // Whether the sheet is without fault over n.
@@ -89,14 +86,11 @@ pub fn is_faultless(n: usize, sheet: Sheet) -> bool
     requires { n ≤ 64 }
     ensures { result ≡ is_faultless n sheet }
 {
-    let map = sheet.map;
-    if !has_map(n, &map) {
+    if !has_map(n, &sheet.map) {
         return false;
     }
-    let count = sheet.count;
-    if count > PLACES {
+    if sheet.count > PLACES {
         return false;
     }
-    let places = sheet.points;
-    points::all_right(n, places, count)
+    points::all_right(n, &sheet.points[..sheet.count])
 }

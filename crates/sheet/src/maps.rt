@@ -5,69 +5,51 @@ ghost use Rattle.kernel.specs.InnerKernel.{bit};
 ghost use Rattle.equivalence.specs.Equivalence.{byte, is_map};
 ghost use Rattle.sheet.specs.InnerSums.{sum, exceeding};
 
-// 1 where the byte is above x, 0 where it is not.
-fn is_above(byte: u8, x: u8) -> u8
-    ensures { (result ≡ bit (ltb x byte)) × (result ≤ 1) }
+// How many bytes are above their own index.
+fn count_above(m: &[u8]) -> u8
+    requires { length m.now ≤ 64 }
+    ensures { result ≡ sum (length m.now) (exceeding (byte m.now)) }
 {
-    if x < byte { 1 } else { 0 }
-}
-
-// How many of the first n bytes are above their own index.
-fn count_above(n: usize, m: &[u8]) -> u8
-    requires n_bound { n ≤ 64 }
-    requires n_in_bounds { n ≤ length m.now }
-    ensures { result ≡ sum n (exceeding (byte m.now)) }
-{
-    let mut count: u8 = 0;
-    let mut x = 0;
-    while x < n {
-        count += is_above(m[x], x as u8);
-        x += 1;
+    let mut count = 0;
+    for (x, &byte) in m.iter().enumerate() {
+        count += u8::from((x as u8) < byte);
     }
     count
 }
 
-// The sum of the first n bytes.
-fn sum_bytes(n: usize, m: &[u8]) -> u32
-    requires n_bound { n ≤ 64 }
-    requires n_in_bounds { n ≤ length m.now }
-    ensures { result ≡ sum n (byte m.now) }
+// The sum of the bytes.
+fn sum_bytes(m: &[u8]) -> u32
+    requires { length m.now ≤ 64 }
+    ensures { result ≡ sum (length m.now) (byte m.now) }
 {
-    let mut total: u32 = 0;
-    let mut x = 0;
-    while x < n {
-        total += m[x] as u32;
-        x += 1;
+    let mut total = 0;
+    for &byte in m {
+        total += u32::from(byte);
     }
     total
 }
 
-// The sum of the bytes of the elements that the first n bytes name.
-fn sum_named(n: usize, m: &[u8]) -> u32
-    requires n_bound { n ≤ 64 }
-    requires n_in_bounds { n ≤ length m.now }
-    requires by_index { (x : ℕ) → x < n → byte m.now x ≤ x }
-    ensures { result ≡ sum n (λ x. byte m.now (byte m.now x)) }
+// The sum of the bytes of the elements that the bytes name.
+fn sum_named(m: &[u8]) -> u32
+    requires bound { length m.now ≤ 64 }
+    requires by_index { (x : ℕ) → x < length m.now → byte m.now x ≤ x }
+    ensures { result ≡ sum (length m.now) (λ x. byte m.now (byte m.now x)) }
 {
-    let mut total: u32 = 0;
-    let mut x = 0;
-    while x < n {
-        let name = m[x] as usize;
-        total += m[name] as u32;
-        x += 1;
+    let mut total = 0;
+    for &name in m {
+        total += u32::from(m[name as usize]);
     }
     total
 }
 
-// Whether m, of n bytes, is a map over n. Where no byte is above its index, the byte of each name is at most the name, and so the sums are equal only
+// Whether m is a map over as many elements as it has bytes. Where no byte is above its index, the byte of each name is at most the name, and so the sums are equal only
 // where each is the name.
-pub fn is_map(n: usize, m: &[u8]) -> bool
-    requires n_bound { n ≤ 64 }
-    requires n_value { n ≡ length m.now }
-    ensures { result ≡ is_map n m.now }
+pub fn is_map(m: &[u8]) -> bool
+    requires { length m.now ≤ 64 }
+    ensures { result ≡ is_map (length m.now) m.now }
 {
-    if count_above(n, m) != 0 {
+    if count_above(m) != 0 {
         return false;
     }
-    sum_named(n, m) == sum_bytes(n, m)
+    sum_named(m) == sum_bytes(m)
 }

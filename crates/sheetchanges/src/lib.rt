@@ -1,10 +1,9 @@
 // Sheets changed where the tests passed: by a point, and by a pair.
 #![tactic(auto)]
 
-ghost use Rattle.std.specs.Prelude.{◌≡◌, ◌<◌, take, T};
+ghost use Rattle.std.specs.Prelude.{◌≡◌, ◌<◌, take, T, Ok};
 ghost use Rattle.equivalence.specs.Equivalence.{is_map};
 ghost use Rattle.equivalence.specs.Refusal.{lowest};
-ghost use Rattle.equivalence.specs.declared.Check.TheVariants.{Passed};
 ghost use Rattle.algebra.specs.Algebra.{algebra_in};
 ghost use Rattle.algebra.specs.Accepted.{Accepted};
 ghost use Rattle.sheet.specs.Sheet.{map_on};
@@ -18,7 +17,7 @@ use sheet::{MAP_BYTES, NAME_BYTES, Sheet};
 
 // The bench with the map of one sheet stored under a name.
 pub fn with_point(bench: Bench, k: usize, name: [u8; NAME_BYTES]) -> Bench
-    requires { lowest (set_tests bench k name) ≡ Passed }
+    requires { lowest (set_tests bench k name) ≡ Ok tt }
     ensures { result ≡ with_sheet bench k (with_point name (sheet_of bench k)) }
 {
     let old = benchsheets::nth(bench, k);
@@ -28,7 +27,7 @@ pub fn with_point(bench: Bench, k: usize, name: [u8; NAME_BYTES]) -> Bench
 
 // The bench with the map that one sheet has stored under a name on that sheet.
 pub fn returned(bench: Bench, k: usize, name: [u8; NAME_BYTES]) -> Bench
-    requires { lowest (known_tests bench k name) ≡ Passed }
+    requires { lowest (known_tests bench k name) ≡ Ok tt }
     ensures { result ≡ with_map bench k (map_under bench.n name (sheet_of bench k)) }
 {
     let old = benchsheets::nth(bench, k);
@@ -38,7 +37,7 @@ pub fn returned(bench: Bench, k: usize, name: [u8; NAME_BYTES]) -> Bench
 
 // The bench without the point of a name on one sheet.
 pub fn without_point(bench: Bench, k: usize, name: [u8; NAME_BYTES]) -> Bench
-    requires { lowest (known_tests bench k name) ≡ Passed }
+    requires { lowest (known_tests bench k name) ≡ Ok tt }
     ensures { result ≡ with_sheet bench k (without_point name (sheet_of bench k)) }
 {
     let old = benchsheets::nth(bench, k);
@@ -81,7 +80,6 @@ pub fn extended(sheet: Sheet, n: usize, arities: &[u8], cells: &[u8], x: usize, 
 {
     let mut map = sheet.map;
     let lost = extend_map(n, arities, cells, x, y, &mut map);
-    let mut next = sheet;
-    next.map = map;
+    let next = Sheet { map, ..sheet };
     Grown { sheet: next, lost }
 }

@@ -1,14 +1,12 @@
 -- The laws of the passes over lines: the cells read, what was joined stays joined, one index more, the stop at one block; first for two lines, then for two pairs of
 -- lines at once.
 use Prim.Native.Nat.{ℕ, ◌+◌, ◌*◌, ◌≤◌, ◌<◌}
-use mathlib.Core.Bool.{Bool, true, false, not}
+use mathlib.Core.Bool.{Bool, true}
 use mathlib.Core.List.{List}
 use mathlib.Core.Path.{◌≡◌, sym, ap, subst, ◌∙◌}
 use native.Mathlib.Decide.{dec_lt, ℕ_discrete}
 use native.Mathlib.Omega.{arith}
-use lib.Dec.{eqb}
 use lib.ListN.{length}
-use borrow.Author.Tests.{eqb-true, not-false}
 use Rattle.equivalence.specs.Equivalence.{byte}
 use Rattle.kernel.specs.InnerKernel.{Within}
 use Rattle.translation.specs.InnerLines.{line_at, LineInside}
@@ -46,26 +44,6 @@ module _ {n : ℕ} {cells live : List ℕ} {count : ℕ} (x : Contexts n cells l
   line_cell : {base stride : ℕ} → LineInside n cells base stride → (i : ℕ) → i < count → line_at cells base stride (byte live i) < n
   line_cell {base} {stride} h i l = x.cells_below (base + byte live i * stride) (line_place h i l)
 
-  module _ {lines : LinePair} (h : LinesInside n cells lines) {i : ℕ} (l : i < count) where
-    pub left_place : lines.p + byte live i * lines.stride < length cells
-    left_place = line_place h.left i l
-
-    pub right_place : lines.q + byte live i * lines.stride < length cells
-    right_place = line_place h.right i l
-
-    pub left_cell : {a : ℕ} → a ≡ line_at cells lines.p lines.stride (byte live i) → a < n
-    left_cell e = omega (arith, line_cell h.left i l)
-
-    pub right_cell : {a : ℕ} → a ≡ line_at cells lines.q lines.stride (byte live i) → a < n
-    right_cell e = omega (arith, line_cell h.right i l)
-
-    -- they are bytes of a map
-    pub left_named : {a k : ℕ} → a ≡ line_at cells lines.p lines.stride (byte live i) → n ≤ k → a < k
-    left_named e m = omega (arith, left_cell e)
-
-    pub right_named : {a k : ℕ} → a ≡ line_at cells lines.q lines.stride (byte live i) → n ≤ k → a < k
-    right_named e m = omega (arith, right_cell e)
-
   pub line_kept : {lines : LinePair} {k : ℕ} {f f' : ℕ → ℕ} → LinesInside n cells lines → Within n f f' → k ≤ count → JoinsLine cells live k lines f → JoinsLine cells live k lines f'
   line_kept {lines} h w lk o = record {
     each = λ i l. record {
@@ -80,11 +58,6 @@ module _ {n : ℕ} {cells live : List ℕ} {count : ℕ} (x : Contexts n cells l
       joined = e (line_at cells lines.p lines.stride (byte live i)) (line_cell h.left i l) ∙ sym (e (line_at cells lines.q lines.stride (byte live i)) (line_cell h.right i l));
     };
   }
-
--- two cells, read one by one and compared
-pub joins_yes : {cells : List ℕ} {lines : LinePair} {c a b : ℕ} {f : ℕ → ℕ} → a ≡ line_at cells lines.p lines.stride c → b ≡ line_at cells lines.q lines.stride c
-    → Yes (eqb (f a) (f b)) (JoinsAt cells lines c f)
-joins_yes {a = a} {b} {f} p q = record { says = λ s. record { joined = ap f (sym p) ∙ eqb-true (f a) (f b) s ∙ ap f q } }
 
 -- a step that joins them
 pub joins_step : {n : ℕ} {refused : List ℕ} {stop : Stop} {cells : List ℕ} {lines : LinePair} {c a b : ℕ} {s t : QueueState} → a ≡ line_at cells lines.p lines.stride c
@@ -109,11 +82,6 @@ module _ {n : ℕ} {refused : List ℕ} {stop : Stop} {cells live : List ℕ} {c
   pub line_none : {s : QueueState} → Sweeping n stop s → SweptTo n refused stop (JoinsLine cells live count lines) (JoinsLine cells live 0 lines) s s
   line_none k = swept_none k (record { each = λ i l. absurd (omega arith) })
 
-  -- the rest of the line is joined already
-  pub line_rest : {i r : ℕ} {s t : QueueState} → SweptTo n refused stop (JoinsLine cells live count lines) (JoinsLine cells live i lines) s t
-      → Passed cells live count lines i r t.map → count ≤ r → Swept n refused stop (JoinsLine cells live count lines) s t
-  line_rest a p l = swept_as a (λ o. record { each = λ i li. (line_passed o p).each i (omega arith) })
-
   -- the line is joined up to r, and a step joins it there
   pub line_more : {i r : ℕ} {s t u : QueueState} → Contexts n cells live count → LinesInside n cells lines
       → SweptTo n refused stop (JoinsLine cells live count lines) (JoinsLine cells live i lines) s t → Passed cells live count lines i r t.map → r < count
@@ -131,25 +99,6 @@ module _ {n : ℕ} {refused : List ℕ} {stop : Stop} {cells live : List ℕ} {c
   line_all a l = swept_as a (λ o. record { each = λ i li. o.each i (omega arith) })
 
 -- ---- two pairs of lines at once
-
-module _ {cells live : List ℕ} {count : ℕ} {last first : LinePair} where
-  pub both_none : {i : ℕ} {f : ℕ → ℕ} → i ≤ count → PassedBoth cells live count last first i i f
-  both_none l = record { last_passed = passed_none l; first_passed = passed_none l }
-
-  pub both_more : {i r : ℕ} {f : ℕ → ℕ} {b : Bool} → PassedBoth cells live count last first i r f → r < count → Yes b (JoinsBoth cells last first (byte live r) f) → b ≡ true
-      → PassedBoth cells live count last first i (r + 1) f
-  both_more s l e y = record {
-    last_passed = passed_more s.last_passed l (record { says = λ h. (e.says h).last_at }) y;
-    first_passed = passed_more s.first_passed l (record { says = λ h. (e.says h).first_at }) y;
-  }
-
-  pub both_all : {i r : ℕ} {f : ℕ → ℕ} → PassedBoth cells live count last first i r f → count ≤ r → PassedBoth cells live count last first i count f
-  both_all s l = record { last_passed = passed_all s.last_passed l; first_passed = passed_all s.first_passed l }
-
--- the second test is made where the first says yes
-pub both_yes : {cells : List ℕ} {last first : LinePair} {c : ℕ} {f : ℕ → ℕ} {a b : Bool} → Yes a (JoinsAt cells last c f) → not a ≡ false → Yes b (JoinsAt cells first c f)
-    → Yes b (JoinsBoth cells last first c f)
-both_yes {a = a} h y k = record { says = λ s. record { last_at = h.says (not-false a y); first_at = k.says s } }
 
 module _ {n : ℕ} {cells live : List ℕ} {count : ℕ} (x : Contexts n cells live count) {last first : LinePair} (h : LinesInside n cells last) (k : LinesInside n cells first) where
   at_kept : {lines : LinePair} {i : ℕ} {f f' : ℕ → ℕ} → LinesInside n cells lines → i < count → Within n f f' → JoinsAt cells lines (byte live i) f → JoinsAt cells lines (byte live i) f'
@@ -190,9 +139,6 @@ module _ {n : ℕ} {cells live : List ℕ} {count : ℕ} (x : Contexts n cells l
     cross_halted a e y = swept_halted a e y cross_whole
 
 module _ {n : ℕ} {refused : List ℕ} {stop : Stop} {cells live : List ℕ} {count : ℕ} {last first : LinePair} where
-  pub cross_none : {s : QueueState} → Sweeping n stop s → SweptTo n refused stop (JoinsCross cells live count last first) (JoinsCross cells live 0 last first) s s
-  cross_none k = swept_none k (record { last_line = record { each = λ i l. absurd (omega arith) }; first_line = record { each = λ i l. absurd (omega arith) } })
-
   -- the rest is joined already
   pub cross_rest : {i r : ℕ} {s t : QueueState} → SweptTo n refused stop (JoinsCross cells live count last first) (JoinsCross cells live i last first) s t
       → PassedBoth cells live count last first i r t.map → count ≤ r → Swept n refused stop (JoinsCross cells live count last first) s t
@@ -200,7 +146,3 @@ module _ {n : ℕ} {refused : List ℕ} {stop : Stop} {cells live : List ℕ} {c
     last_line = record { each = λ i li. (line_passed o.last_line p.last_passed).each i (omega arith) };
     first_line = record { each = λ i li. (line_passed o.first_line p.first_passed).each i (omega arith) };
   })
-
-  pub cross_all : {i : ℕ} {s t : QueueState} → SweptTo n refused stop (JoinsCross cells live count last first) (JoinsCross cells live i last first) s t → count ≤ i
-      → Swept n refused stop (JoinsCross cells live count last first) s t
-  cross_all a l = swept_as a (λ o. record { last_line = record { each = λ i li. o.last_line.each i (omega arith) }; first_line = record { each = λ i li. o.first_line.each i (omega arith) } })

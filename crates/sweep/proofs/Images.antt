@@ -17,10 +17,10 @@ use Rattle.translation.proofs.Translations.{result_below}
 use Rattle.algebra.proofs.Tables.{start_room}
 use Rattle.sweep.specs.declared.Stop.{Stop}
 use Rattle.sweep.specs.declared.ImagePair.{ImagePair}
-use Rattle.sweep.specs.InnerContexts.{All, ImagesIn, OperationsIn, JoinsAt, JoinsLine, JoinsRows, JoinsCells, JoinsTable, Contexts, TableInside, lines_of}
+use Rattle.sweep.specs.InnerContexts.{All, ImagesIn, OperationsIn, JoinsCells, JoinsTable, Contexts, TableInside}
 use Rattle.sweep.specs.InnerQueue.{QueueState}
 use Rattle.sweep.specs.InnerSweeps.{Yes, Halts, Sweeping, SweptTo, Swept}
-use Rattle.sweep.proofs.Sweeps.{each_more, swept_none, swept_more, swept_halted, swept_as}
+use Rattle.sweep.proofs.Sweeps.{each_more, swept_none, swept_more, swept_halted}
 
 -- ---- tables and images
 
@@ -237,7 +237,3 @@ module _ {n : ℕ} {refused : List ℕ} {stop : Stop} (arities : List ℕ) {cell
       → SweptTo n refused stop (Images n arities cells live count x y (length arities)) (Images n arities cells live count x y j) s t → Yes r (Halts stop t.size t.map) → r ≡ true
       → Swept n refused stop (Images n arities cells live count x y (length arities)) s t
   operations_halted h a e says = swept_halted a e says (λ z. record { each = λ j l. images_whole (algebra_of n arities cells) (accepted_well_formed (algebra_of n arities cells) h) j (Listed live count) x y z })
-
-  pub operations_all : {j : ℕ} {s t : QueueState} → SweptTo n refused stop (Images n arities cells live count x y (length arities)) (Images n arities cells live count x y j) s t
-      → length arities ≤ j → Swept n refused stop (Images n arities cells live count x y (length arities)) s t
-  operations_all a l = swept_as a (λ o. record { each = λ k lk. o.each k (omega arith) })

@@ -1,15 +1,14 @@
 -- The laws of the passes: a pass begins, goes on, ends early, since one block is left; and refused pairs. Those over lines are in `Crossings`, those over tables in
 -- `TableLaws`.
-use Prim.Native.Nat.{ℕ, zero, suc, ◌+◌, ◌-◌, ◌*◌, ◌≤◌, ◌<◌}
-use mathlib.Core.Bool.{Bool, true, false, not}
+use Prim.Native.Nat.{ℕ, zero, suc, ◌+◌, ◌-◌, ◌≤◌, ◌<◌}
+use mathlib.Core.Bool.{Bool, true, false}
 use mathlib.Core.List.{List}
-use mathlib.Core.Logic.{◌⊎◌, inl, inr}
+use mathlib.Core.Logic.{inl, inr}
 use mathlib.Core.Path.{◌≡◌, refl, sym, ap, subst, subst₂, ◌∙◌}
 use native.Mathlib.Decide.{dec_lt, ℕ_discrete}
 use native.Mathlib.Omega.{arith}
 use lib.Dec.{eqb}
 use borrow.Author.Tests.{eq-eqb, eqb-true}
-use Rattle.equivalence.specs.Equivalence.{byte}
 use Rattle.kernel.specs.InnerKernel.{Canonical, Within, bit, names}
 use Rattle.kernel.proofs.Kernels.{names_positive}
 use Rattle.sweep.specs.declared.Stop.{Stop}
@@ -85,21 +84,9 @@ each_more J f f' {i} w h e j l = elim (ℕ_discrete j i) [
 
 -- ---- marks
 
--- a mark at one of the two places of a pair of names
-pub refused_at : {v w a b place : ℕ} {f : ℕ → ℕ} {table : List ℕ} → (v ≡ w → ⊥) → (place ≡ f a * 64 + f b) ⊎ (place ≡ f b * 64 + f a)
-    → Yes (not (eqb (byte table place) 0)) (NamesRefused table v w a b f)
-refused_at {place = place} {table = table} two p = record {
-  says = λ s.
-      let h : byte table place ≡ 0 → ⊥ = λ j. let z : true ≡ false = sym s ∙ ap not (eq-eqb (byte table place) 0 j) in absurd (omega (arith, ap bit z)) in
-      record { two = two; refused = elim p [ inl e ↦ inl (λ z. h (ap (byte table) e ∙ z)) | inr e ↦ inr (λ z. h (ap (byte table) e ∙ z)) ] };
-}
-
 -- a test that says no
 pub yes_not : {P : Type 0} → Yes false P
 yes_not = record { says = λ s. absurd (omega (arith, ap bit s)) }
-
-pub halted_limit : {stop : Stop} {len : ℕ} {f : ℕ → ℕ} → stop.limit ≤ len → Yes true (Halts stop len f)
-halted_limit l = record { says = λ s. inl l }
 
 pub halted_joined : {stop : Stop} {len : ℕ} {f : ℕ → ℕ} → (stop.v ≡ stop.w → ⊥) → Yes (eqb (f stop.v) (f stop.w)) (Halts stop len f)
 halted_joined {stop} {f = f} h = record { says = λ s. inr (record { two = h; one = eqb-true (f stop.v) (f stop.w) s }) }
@@ -135,7 +122,3 @@ module _ {n a b : ℕ} {refused : List ℕ} {stop : Stop} {s t : QueueState} (k 
   pub swept_step : {r : Bool} {p q : ℕ} → Yes r (NamesRefused refused stop.v stop.w a b s.map) → p ≡ chosen_of r stop.v a → q ≡ chosen_of r stop.w b
       → Grown n (λ g. g p ≡ g q) s t → t.map p ≡ t.map q → Swept n refused stop (λ g. g a ≡ g b) s t
   swept_step {r} x e f d j = swept_chosen r x (subst₂ (λ (p q : ℕ). Grown n (λ g. g p ≡ g q) s t) e f d) (ap t.map (sym e) ∙ j ∙ ap t.map f)
-
-pub chosen_below : {n p x y : ℕ} (r : Bool) → x < n → y < n → p ≡ chosen_of r x y → p < n
-chosen_below true l k e = omega arith
-chosen_below false l k e = omega arith

@@ -1,10 +1,10 @@
 -- The laws of the passes over a table: its rows lie within the cells; a row from its lines, all rows one by one, the stop at one block; and the table from its rows.
-use Prim.Native.Nat.{ℕ, suc, ◌+◌, ◌*◌, ◌^◌, ◌≤◌, ◌<◌}
+use Prim.Native.Nat.{ℕ, ◌+◌, ◌*◌, ◌^◌, ◌≤◌, ◌<◌}
 use mathlib.Core.Bool.{Bool, true, false}
 use mathlib.Core.List.{List}
-use mathlib.Core.Path.{◌≡◌, refl, sym, ap, subst, subst₂, ◌∙◌}
+use mathlib.Core.Path.{◌≡◌, sym, ap, subst, subst₂, ◌∙◌}
 use native.Mathlib.Decide.{ℕ_discrete}
-use native.Mathlib.Nat.{mul-le-mul_right, pow-zero}
+use native.Mathlib.Nat.{mul-le-mul_right}
 use native.Mathlib.Omega.{arith}
 use lib.Dec.{eqb}
 use lib.ListN.{length}
@@ -15,7 +15,7 @@ use Rattle.translation.specs.InnerLines.{LineInside}
 use Rattle.sweep.specs.declared.Stop.{Stop}
 use Rattle.sweep.specs.declared.LinePair.{LinePair}
 use Rattle.sweep.specs.declared.ImagePair.{ImagePair}
-use Rattle.sweep.specs.InnerContexts.{JoinsLine, JoinsCross, JoinsRow, JoinsRows, JoinsTable, Contexts, LinesInside, RowInside, RowsInside, TableInside, lines_of, shifted, last_of, middle_of, first_of, row_at, rows_of}
+use Rattle.sweep.specs.InnerContexts.{JoinsLine, JoinsCross, JoinsRow, JoinsRows, JoinsTable, Contexts, LinesInside, RowInside, RowsInside, TableInside, lines_of, shifted, last_of, middle_of, row_at, rows_of}
 use Rattle.sweep.specs.InnerQueue.{QueueState}
 use Rattle.sweep.specs.InnerSweeps.{Yes, Halts, Sweeping, SweptTo, Swept}
 use Rattle.sweep.proofs.Queues.{grown_first}
@@ -30,23 +30,10 @@ two_digits n c d lc ld = omega (arith, mul-le-mul_right n lc)
 three_digits : (n c d e : ℕ) → c < n → d < n → e < n → c * (n * n) + d * n + e < n * n * n
 three_digits n c d e lc ld le = omega (arith, mul-le-mul_right (n * n) lc, two_digits n d e ld le)
 
--- a table of up to 64 elements
-pub area_small : {n : ℕ} → n ≤ 64 → n * n ≤ 4096
-area_small {n} l = omega (arith, mul-le-mul_right n l)
-
-pub cube_small : {n : ℕ} → n ≤ 64 → n * n * n ≤ 262144
-cube_small {n} l = omega (arith, mul-le-mul_right n (area_small l))
-
 -- how many cells a table has
 module _ (n : ℕ) {s : ℕ} where
-  pub nullary_cells : s ≡ 0 → 1 ≡ n ^ s
-  nullary_cells e = rw e (sym (pow-zero n))
-
   pub unary_cells : s ≡ 1 → n ≡ n ^ s
   unary_cells e = rw e (sym (power_one n))
-
-  pub binary_cells : s ≡ 2 → n * n ≡ n ^ s
-  binary_cells e = rw e (sym (power_two n))
 
   pub ternary_cells : s ≡ 3 → n * n * n ≡ n ^ s
   ternary_cells e = rw e (sym (power_three n))
@@ -104,10 +91,6 @@ module _ {n : ℕ} {stop : Stop} {cells live : List ℕ} {count : ℕ} {deep : B
     some : 0 < n
     some = omega (arith, k.left)
 
-    -- where the lines begin
-    pub plane_start : images.o + c * (n * n) < 32768
-    plane_start = omega (arith, h.last.left.inside 0 some, x.cells_most)
-
     pub last_fits : {plane : ImagePair} → plane ≡ shifted images (c * (n * n)) → (plane.o + plane.x * 1 < 32768) × (plane.o + plane.y * 1 < 32768)
     last_fits e = rw e (omega (arith, h.last.left.inside 0 some, x.cells_most), omega (arith, h.last.right.inside 0 some, x.cells_most))
 
@@ -123,9 +106,6 @@ module _ {n : ℕ} {stop : Stop} {cells live : List ℕ} {count : ℕ} {deep : B
 module _ {n : ℕ} {cells : List ℕ} {deep : Bool} {images : ImagePair} {c : ℕ} (h : RowInside n cells deep images c) where
   pub last_inside : {plane : ImagePair} {lines : LinePair} → plane ≡ shifted images (c * (n * n)) → lines ≡ lines_of plane 1 n → LinesInside n cells lines
   last_inside e f = subst (LinesInside n cells) (sym (f ∙ ap (λ (z : ImagePair). lines_of z 1 n) e)) h.last
-
-  pub middle_inside : {plane : ImagePair} {lines : LinePair} → plane ≡ shifted images (c * (n * n)) → lines ≡ lines_of plane n 1 → LinesInside n cells lines
-  middle_inside e f = subst (LinesInside n cells) (sym (f ∙ ap (λ (z : ImagePair). lines_of z n 1) e)) h.middle
 
   pub first_inside : {across : ImagePair} {lines : LinePair} → deep ≡ true → across ≡ shifted images (c * n) → lines ≡ lines_of across (n * n) 1 → LinesInside n cells lines
   first_inside d e f = subst (LinesInside n cells) (sym (f ∙ ap (λ (z : ImagePair). lines_of z (n * n) 1) e)) (h.first d)
@@ -160,10 +140,6 @@ module _ {n : ℕ} {cells live : List ℕ} {count : ℕ} {deep : Bool} {images :
   row_whole : {f : ℕ → ℕ} → ((z : ℕ) → z < n → f z ≡ 0) → JoinsRow n cells live count deep images c f
   row_whole e = record { plane = cross_whole x h.last h.middle e; across = λ d. line_whole x (h.first d) e }
 
-pub rows_row : {n : ℕ} {cells live : List ℕ} {count : ℕ} {deep : Bool} {images : ImagePair} {i c all : ℕ} → RowsInside n cells live count deep images → all ≡ rows_of deep count → i < all
-    → c ≡ row_at deep live i → RowInside n cells deep images c
-rows_row {n} {cells} {deep = deep} {images} {i} h e l q = subst (RowInside n cells deep images) (sym q) (h.rows i (subst (λ (z : ℕ). i < z) e l))
-
 module _ {n : ℕ} {refused : List ℕ} {stop : Stop} {cells live : List ℕ} {count : ℕ} {deep : Bool} {images : ImagePair} where
   pub rows_none : {k : ℕ} {s : QueueState} → Sweeping n stop s → SweptTo n refused stop (JoinsRows n cells live count deep images k) (JoinsRows n cells live count deep images 0) s s
   rows_none k = swept_none k (record { each = λ i l. absurd (omega arith) })
@@ -184,28 +160,11 @@ module _ {n : ℕ} {refused : List ℕ} {stop : Stop} {cells live : List ℕ} {c
       → Swept n refused stop (JoinsRows n cells live count deep images (rows_of deep count)) s t
   rows_halted x h a e y = swept_halted a e y (λ z. record { each = λ i l. row_whole x (h.rows i l) z })
 
-  pub rows_all : {i all : ℕ} {s t : QueueState} → SweptTo n refused stop (JoinsRows n cells live count deep images (rows_of deep count)) (JoinsRows n cells live count deep images i) s t
-      → all ≡ rows_of deep count → all ≤ i → Swept n refused stop (JoinsRows n cells live count deep images (rows_of deep count)) s t
-  rows_all a e l = swept_as a (λ o. record { each = λ i li. o.each i (omega (arith, e)) })
-
--- where the row is read
-pub row_place : {n : ℕ} {cells live : List ℕ} {count all i : ℕ} {deep : Bool} → Contexts n cells live count → all ≡ rows_of deep count → i < all → deep ≡ true → i < length live
-row_place {count = count} x e l d = let f : rows_of true count ≡ count = refl in let e' = rw d at e in omega (arith, e', l, x.live_room)
-
-pub row_read : {deep : Bool} {i k : ℕ} → (deep ≡ true → i < k) → deep ≡ true → i < k
-row_read h d = h d
-
-pub row_deep_at : {deep : Bool} (live : List ℕ) (i : ℕ) → deep ≡ true → byte live i ≡ row_at deep live i
-row_deep_at live i d = rw d refl
-
 -- ---- the table, from what was passed over
 
 module _ {n : ℕ} {refused : List ℕ} {stop : Stop} {cells live : List ℕ} {count : ℕ} {images : ImagePair} where
   swept_arity : {k r : ℕ} {s t : QueueState} → k ≡ r → Swept n refused stop (JoinsTable n cells live count r images) s t → Swept n refused stop (JoinsTable n cells live count k images) s t
   swept_arity {s = s} {t} e d = subst (λ (z : ℕ). Swept n refused stop (JoinsTable n cells live count z images) s t) (sym e) d
-
-  pub nullary_swept : {k : ℕ} {s : QueueState} → (k ≡ 1 → ⊥) → k < 2 → Sweeping n stop s → Swept n refused stop (JoinsTable n cells live count k images) s s
-  nullary_swept {k} u l d = let e : k ≡ 0 = omega arith in swept_arity e (swept_none d (record { joined = tt }))
 
   pub unary_swept : {k : ℕ} {s t : QueueState} → k ≡ 1 → Swept n refused stop (λ g. g (byte cells (images.o + images.x)) ≡ g (byte cells (images.o + images.y))) s t
       → Swept n refused stop (JoinsTable n cells live count k images) s t

@@ -4,6 +4,7 @@ use Rattle.equivalence.specs.Equivalence.{byte}
 use Rattle.algebra.specs.Algebra.{Algebra}
 use Rattle.translation.specs.InnerLines.{line_at, LineInside}
 use Rattle.translation.specs.InnerTranslations.{result}
+use Rattle.sweep.specs.declared.Pass.{Pass}
 use Rattle.sweep.specs.declared.LinePair.{LinePair}
 use Rattle.sweep.specs.declared.ImagePair.{ImagePair}
 
@@ -132,3 +133,7 @@ pub record Contexts (n : ℕ) (cells live : List ℕ) (count : ℕ) : Type 0 whe
   pub cells_below : (i : ℕ) → i < length cells → byte cells i < n
   pub live_room : count ≤ length live
   pub live_below : (i : ℕ) → i < count → byte live i < n
+
+-- those of a pass are
+abbrev pub ContextsIn : Pass → Type 0
+ContextsIn p = Contexts p.n p.cells.now p.live.now (length p.live.now)

@@ -2,6 +2,7 @@
 use Rattle.std.specs.Prelude.{ℕ, ◌+◌, ◌≤◌, ◌<◌, ◌≡◌, ◌⊎◌, List, length}
 use Rattle.equivalence.specs.Equivalence.{byte}
 use Rattle.kernel.specs.InnerKernel.{Canonical, Within, KeptPast, names}
+use Rattle.sweep.specs.declared.queue.Merging.{Merging}
 
 -- the map and the queue, how many bytes each has, and how many elements are queued
 pub record QueueState : Type 0 where
@@ -14,6 +15,10 @@ pub record QueueState : Type 0 where
 -- the state that two slices and a count hold
 abbrev pub state : List ℕ → List ℕ → ℕ → QueueState
 state m q k = record { map = byte m; map_bytes = length m; queue = byte q; queue_bytes = length q; size = k }
+
+-- the state that they hold
+abbrev pub state_of : Merging → QueueState
+state_of s = state s.map s.queue s.len
 
 -- x is queued
 abbrev pub InQueue : QueueState → ℕ → Type 0

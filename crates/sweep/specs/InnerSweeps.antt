@@ -2,8 +2,10 @@
 use Rattle.std.specs.Prelude.{ℕ, ◌+◌, ◌*◌, ◌≤◌, ◌<◌, ◌≡◌, Bool, true, false, ◌⊎◌, List}
 use Rattle.equivalence.specs.Equivalence.{byte}
 use Rattle.kernel.specs.InnerKernel.{names}
-use Rattle.sweep.specs.InnerQueue.{QueueState, Ready, Grown}
+use Rattle.sweep.specs.InnerQueue.{QueueState, state_of, Ready, Grown}
+use Rattle.sweep.specs.declared.Pass.{Pass}
 use Rattle.sweep.specs.declared.Stop.{Stop}
+use Rattle.sweep.specs.declared.queue.Merging.{Merging}
 
 -- v and w are two, and f joins them
 pub record TwoJoined (v w : ℕ) (f : ℕ → ℕ) : Type 0 where
@@ -57,3 +59,10 @@ pub record SweptTo (n : ℕ) (refused : List ℕ) (stop : Stop) (Good Done : (�
 -- what a pass leaves: t's map is Good itself, unless it joins v and w
 abbrev pub Swept : ℕ → List ℕ → Stop → ((ℕ → ℕ) → Type 0) → QueueState → QueueState → Type 0
 Swept n refused stop Good s t = SweptTo n refused stop Good Good s t
+
+-- the same of a pass and of what it changes
+abbrev pub SweepingIn : Pass → Merging → Type 0
+SweepingIn p s = Sweeping p.n p.stop (state_of s)
+
+abbrev pub SweptIn : Pass → ((ℕ → ℕ) → Type 0) → Merging → Merging → Type 0
+SweptIn p Good s t = Swept p.n p.refused.now p.stop Good (state_of s) (state_of t)

@@ -15,6 +15,17 @@ pub struct Stop {
     pub w: usize,
 }
 
+// A pass over the cells of an algebra of n elements. The other arguments run through `live`. `refused` is a table of pairs, with rows of 64: whatever joins one of them joins
+// v and w.
+#[derive(Clone, Copy)]
+pub struct Pass<'a> {
+    pub n: usize,
+    pub cells: &'a [u8],
+    pub live: &'a [u8],
+    pub refused: &'a [u8],
+    pub stop: Stop,
+}
+
 // Two lines of a table that are compared: they begin at p and q, and their cells are `stride` apart.
 #[derive(Clone, Copy)]
 pub struct LinePair {

@@ -1,15 +1,13 @@
 // The images of two elements x and y under all translations of an operation, and of every operation, joined in the map.
 ghost use Rattle.std.specs.Prelude.{◌≡◌, true, ◌+◌, ◌*◌, ◌^◌, ◌<◌, ◌≤◌, length};
 ghost use Rattle.kernel.specs.InnerKernel.{Listed};
-ghost use Rattle.algebra.specs.Algebra.{algebra_in};
+ghost use Rattle.algebra.specs.Algebra.{algebra_of};
 ghost use Rattle.algebra.specs.Accepted.{Accepted};
-ghost use Rattle.sweep.specs.InnerQueue.{state};
-ghost use Rattle.sweep.specs.InnerContexts.{OperationsIn, JoinsRow, JoinsRows, JoinsTable, Contexts, RowInside, RowsInside, TableInside, lines_of, shifted, row_at, rows_of};
-ghost use Rattle.sweep.specs.InnerSweeps.{Sweeping, Swept};
+ghost use Rattle.sweep.specs.InnerContexts.{OperationsIn, JoinsRow, JoinsRows, JoinsTable, ContextsIn, RowInside, RowsInside, TableInside, lines_of, shifted, row_at, rows_of};
+ghost use Rattle.sweep.specs.InnerSweeps.{SweepingIn, SweptIn};
 
-use crate::lines::{cross, line};
-use crate::step::{halted, step};
-use crate::{ImagePair, LinePair, Stop};
+use crate::queue::Merging;
+use crate::{ImagePair, LinePair, Pass};
 
 // The lines on which the compared argument counts `scale`.
 fn lines_of(images: ImagePair, scale: usize, stride: usize) -> LinePair
@@ -36,41 +34,6 @@ fn shifted_by(images: ImagePair, shift: usize) -> ImagePair
     }
 }
 
-// Row c of a table: the plane in which c stands first, with its last and its middle argument varied at once; and if the table is deep, the line in which c stands
-// second, with the first argument varied.
-fn row(
-    m: &mut [u8],
-    n: usize,
-    queue: &mut [u8],
-    start: usize,
-    cells: &[u8],
-    live: &[u8],
-    count: usize,
-    deep: bool,
-    images: ImagePair,
-    c: u8,
-    refused: &[u8],
-    stop: Stop,
-) -> usize
-    requires sweeping { Sweeping n stop (state m.old queue.old start) }
-    requires contexts { Contexts n cells.now live.now count }
-    requires row_inside { RowInside n cells.now deep images c }
-    ensures { Swept n refused.now stop (JoinsRow n cells.now live.now count deep images c) (state m.old queue.old start) (state m.new queue.new result) }
-{
-    let area = n * n;
-    let plane = shifted_by(images, c as usize * area);
-    let last = lines_of(plane, 1, n);
-    let middle = lines_of(plane, n, 1);
-    let len = cross(
-        m, n, queue, start, cells, live, count, last, middle, refused, stop,
-    );
-    if !deep {
-        return len;
-    }
-    let first = lines_of(shifted_by(images, c as usize * n), area, 1);
-    line(m, n, queue, len, cells, live, count, first, refused, stop)
-}
-
 // How many rows a table has.
 fn rows_of(deep: bool, count: usize) -> usize
     ensures { result ≡ rows_of deep count }
@@ -87,84 +50,6 @@ fn row_at(deep: bool, live: &[u8], i: usize) -> u8
         return live[i];
     }
     0
-}
-
-// A table of arity 2, or 3 if it is deep, row by row: there is one place for all that calls `cross`, so that it can stand within the loop.
-fn rows(
-    m: &mut [u8],
-    n: usize,
-    queue: &mut [u8],
-    start: usize,
-    cells: &[u8],
-    live: &[u8],
-    count: usize,
-    deep: bool,
-    images: ImagePair,
-    refused: &[u8],
-    stop: Stop,
-) -> usize
-    requires sweeping { Sweeping n stop (state m.old queue.old start) }
-    requires contexts { Contexts n cells.now live.now count }
-    requires rows_inside { RowsInside n cells.now live.now count deep images }
-    ensures { Swept n refused.now stop (JoinsRows n cells.now live.now count deep images (rows_of deep count)) (state m.old queue.old start) (state m.new queue.new result) }
-{
-    let all = rows_of(deep, count);
-    let mut len = start;
-    let mut i = 0;
-    while i < all {
-        if halted(m, len, stop) {
-            return len;
-        }
-        let c = row_at(deep, live, i);
-        len = row(
-            m, n, queue, len, cells, live, count, deep, images, c, refused, stop,
-        );
-        i += 1;
-    }
-    len
-}
-
-// The table of an operation of arity s.
-fn table(
-    m: &mut [u8],
-    n: usize,
-    queue: &mut [u8],
-    start: usize,
-    cells: &[u8],
-    live: &[u8],
-    count: usize,
-    s: usize,
-    images: ImagePair,
-    refused: &[u8],
-    stop: Stop,
-) -> usize
-    requires sweeping { Sweeping n stop (state m.old queue.old start) }
-    requires contexts { Contexts n cells.now live.now count }
-    requires table_inside { TableInside n cells.now s images }
-    requires s_bound { s ≤ 3 }
-    ensures { Swept n refused.now stop (JoinsTable n cells.now live.now count s images) (state m.old queue.old start) (state m.new queue.new result) }
-{
-    if s == 1 {
-        let a = cells[images.o + images.x];
-        let b = cells[images.o + images.y];
-        return step(m, n, queue, start, a, b, refused, stop);
-    }
-    if s < 2 {
-        return start;
-    }
-    rows(
-        m,
-        n,
-        queue,
-        start,
-        cells,
-        live,
-        count,
-        s == 3,
-        images,
-        refused,
-        stop,
-    )
 }
 
 // How many cells the table of an operation of arity s has.
@@ -185,51 +70,82 @@ fn cells_of(n: usize, s: usize) -> usize
     1
 }
 
-// Every operation.
-pub fn operations(
-    m: &mut [u8],
-    n: usize,
-    queue: &mut [u8],
-    start: usize,
-    arities: &[u8],
-    cells: &[u8],
-    live: &[u8],
-    count: usize,
-    x: usize,
-    y: usize,
-    refused: &[u8],
-    stop: Stop,
-) -> usize
-    requires sweeping { Sweeping n stop (state m.old queue.old start) }
-    requires contexts { Contexts n cells.now live.now count }
-    requires accepted { Accepted (algebra_in n arities cells) }
-    requires x_lt_n { x < n }
-    requires y_lt_n { y < n }
-    ensures { Swept n refused.now stop (OperationsIn (algebra_in n arities.entry cells.entry) (length arities.now) (Listed live.now count) x y) (state m.old queue.old start) (state m.new queue.new result) }
-{
-    let mut len = start;
-    let mut o = 0;
-    let mut j = 0;
-    while j < arities.len() {
-        if halted(m, len, stop) {
-            return len;
+impl<'a> Pass<'a> {
+    // Row c of a table: the plane in which c stands first, with its last and its middle argument varied at once; and if the table is deep, the line in which c stands
+    // second, with the first argument varied.
+    fn row(&self, merging: &mut Merging, deep: bool, images: ImagePair, c: u8)
+        requires sweeping { SweepingIn self.now merging.old }
+        requires contexts { ContextsIn self.now }
+        requires row_inside { RowInside self.now.n self.now.cells.now deep images c }
+        ensures { SweptIn self.now (JoinsRow self.now.n self.now.cells.now self.now.live.now (length self.now.live.now) deep images c) merging.old merging.new }
+    {
+        let n = self.n;
+        let area = n * n;
+        let plane = shifted_by(images, c as usize * area);
+        let last = lines_of(plane, 1, n);
+        let middle = lines_of(plane, n, 1);
+        self.cross(merging, last, middle);
+        if !deep {
+            return;
         }
-        let s = arities[j] as usize;
-        len = table(
-            m,
-            n,
-            queue,
-            len,
-            cells,
-            live,
-            count,
-            s,
-            ImagePair { o, x, y },
-            refused,
-            stop,
-        );
-        o = o + cells_of(n, s);
-        j += 1;
+        let first = lines_of(shifted_by(images, c as usize * n), area, 1);
+        self.line(merging, first);
     }
-    len
+
+    // A table of arity 2, or 3 if it is deep, row by row: there is one place for all that calls `cross`, so that it can stand within the loop.
+    fn rows(&self, merging: &mut Merging, deep: bool, images: ImagePair)
+        requires sweeping { SweepingIn self.now merging.old }
+        requires contexts { ContextsIn self.now }
+        requires rows_inside { RowsInside self.now.n self.now.cells.now self.now.live.now (length self.now.live.now) deep images }
+        ensures { SweptIn self.now (JoinsRows self.now.n self.now.cells.now self.now.live.now (length self.now.live.now) deep images (rows_of deep (length self.now.live.now))) merging.old merging.new }
+    {
+        let all = rows_of(deep, self.live.len());
+        for i in 0..all {
+            if self.halted(merging) {
+                return;
+            }
+            let c = row_at(deep, self.live, i);
+            self.row(merging, deep, images, c);
+        }
+    }
+
+    // The table of an operation of arity s.
+    fn table(&self, merging: &mut Merging, s: usize, images: ImagePair)
+        requires sweeping { SweepingIn self.now merging.old }
+        requires contexts { ContextsIn self.now }
+        requires table_inside { TableInside self.now.n self.now.cells.now s images }
+        requires s_bound { s ≤ 3 }
+        ensures { SweptIn self.now (JoinsTable self.now.n self.now.cells.now self.now.live.now (length self.now.live.now) s images) merging.old merging.new }
+    {
+        if s == 1 {
+            let a = self.cells[images.o + images.x];
+            let b = self.cells[images.o + images.y];
+            self.step(merging, a, b);
+            return;
+        }
+        if s < 2 {
+            return;
+        }
+        self.rows(merging, s == 3, images);
+    }
+
+    // Every operation.
+    pub fn operations(&self, merging: &mut Merging, arities: &[u8], x: usize, y: usize)
+        requires sweeping { SweepingIn self.now merging.old }
+        requires contexts { ContextsIn self.now }
+        requires accepted { Accepted (algebra_of self.now.n arities.now self.now.cells.now) }
+        requires x_lt_n { x < self.now.n }
+        requires y_lt_n { y < self.now.n }
+        ensures { SweptIn self.now (OperationsIn (algebra_of self.now.n arities.now self.now.cells.now) (length arities.now) (Listed self.now.live.now (length self.now.live.now)) x y) merging.old merging.new }
+    {
+        let mut o = 0;
+        for j in 0..arities.len() {
+            if self.halted(merging) {
+                return;
+            }
+            let s = arities[j] as usize;
+            self.table(merging, s, ImagePair { o, x, y });
+            o += cells_of(self.n, s);
+        }
+    }
 }

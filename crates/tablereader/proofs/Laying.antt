@@ -1,12 +1,10 @@
--- Bytes laid in a lent list from a place on: one, none, some after others, all bytes of a word in turn, and what the rest keeps.
-use Prim.Native.Nat.{ℕ, suc, ◌+◌, ◌-◌, ◌≤◌, ◌<◌}
+-- Bytes laid in a lent list from a place on: one, none, some after others, and what the rest keeps.
+use Prim.Native.Nat.{ℕ, ◌+◌, ◌-◌, ◌≤◌, ◌<◌}
 use mathlib.Core.List.{List, [], ◌∷◌, ◌++◌, append_assoc}
 use mathlib.Core.Path.{◌≡◌, refl, sym, ◌∙◌}
-use native.Mathlib.Nat.{add-zero}
-use native.Mathlib.Numerals.{add-one}
 use native.Mathlib.Omega.{arith}
-use lib.ListN.{length, get_or, take, drop, set, length-append, length-set}
-use lib.Seq.{take_at, drop_at, take-suc, length-take-le, take_all}
+use lib.ListN.{length, take, drop, set, length-append, length-set}
+use lib.Seq.{take_at, drop_at, length-take-le}
 use Rattle.equivalence.proofs.Laying.{laid_parts, laid_nothing, laid_byte, laid_laid}
 use Rattle.tablereader.specs.Laying.{Laid}
 
@@ -26,29 +24,6 @@ laid_more lent put a mid at b after end p q =
       long = q.long ∙ p.long;
       bytes = q.bytes ∙ rw (p.place, p.bytes) (laid_laid lent put a b (omega (arith, p.place, p.within)));
     }
-
--- the first i bytes of a word are laid
-pub record LaidSoFar (lent : List ℕ) (put : ℕ) (word out : List ℕ) (i : ℕ) : Type 0 where
-  pub passed : i ≤ length word
-  pub laid : Laid lent put (take i word) out (put + i)
-
-module _ (lent : List ℕ) (put : ℕ) (word : List ℕ) (room : put + length word ≤ length lent) where
-  pub laid_so_far_none : LaidSoFar lent put word lent 0
-  laid_so_far_none = record { passed = omega arith; laid = rw add-zero (laid_none lent put (omega arith)) }
-
-  pub laid_so_far_more : (out : List ℕ) (i : ℕ) → LaidSoFar lent put word out i → i < length word → LaidSoFar lent put word (set out (put + i) (get_or word i 0)) (i + 1)
-  laid_so_far_more out i p h =
-      let e : put + i + 1 ≡ put + suc i = omega arith in
-      record {
-        passed = omega arith;
-        laid =
-            rw (add-one i, take-suc word i 0 h, ← e)
-            (laid_more lent put (take i word) out (put + i) (get_or word i 0 ∷ []) (set out (put + i) (get_or word i 0)) (put + i + 1) p.laid
-            (laid_one out (put + i) (get_or word i 0) (omega (arith, p.laid.long))));
-      }
-
-  pub laid_so_far_all : (out : List ℕ) (i : ℕ) → LaidSoFar lent put word out i → length word ≤ i → Laid lent put word out (put + i)
-  laid_so_far_all out i p h = rw take_all at p.laid
 
 -- what was laid, what stands before its end, and what stood there before
 module _ {lent : List ℕ} {put : ℕ} {new after : List ℕ} {end : ℕ} (p : Laid lent put new after end) where

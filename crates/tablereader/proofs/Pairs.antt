@@ -2,6 +2,7 @@
 use Prim.Native.Nat.{ℕ, ◌+◌, ◌-◌, ◌*◌, ◌≤◌, ◌<◌}
 use mathlib.Core.Bool.{Bool, true, false, not}
 use mathlib.Core.List.{List}
+use Rattle.std.specs.Prelude.{Option, Some, None}
 use mathlib.Core.Path.{◌≡◌, refl, ap, sym, ◌∙◌}
 use native.Mathlib.Omega.{arith}
 use borrow.Author.Tests.{not-true, not-false, eqb-false}
@@ -11,7 +12,7 @@ use Rattle.kernel.specs.InnerKernel.{bit}
 use Rattle.numberreader.specs.Reading.{byte_at}
 use Rattle.numberreader.specs.Numbers.{digit_at}
 use Rattle.numberreader.specs.InnerPromises.{is_digit}
-use Rattle.tablereader.specs.InnerRows.{RowWithin, RowBegun, Digit, LongNumber, Item, TwoItems, PairRead, PairBy, choose, ItemLength, value_of, Fits}
+use Rattle.tablereader.specs.InnerRows.{RowWithin, RowBegun, Digit, LongNumber, Item, TwoItems, PairRead, PairFound, PairBy, choose, ItemLength, value_of, Fits}
 use Rattle.tablereader.specs.declared.rows.Pair.{Pair}
 use Rattle.numberreader.proofs.Digits.{digit_below, digit_here, digit_low, digit_high, number_one, number_two}
 use Rattle.numberreader.proofs.Readers.{within_text}
@@ -118,7 +119,7 @@ module _ (text : List ℕ) (at : ℕ) where
 
     pub pair_found : (f : Bool) → (f ≡ true → Fits wide a (byte_at text (at + l - 1))) → not f ≡ false
         → (g : Bool) → (g ≡ true → Fits wide-too c (byte_at text (at + l + m - 1))) → not g ≡ false
-        → (v w : ℕ) → v ≡ value_of wide a b → w ≡ value_of wide-too c d → PairRead text at (record { ok = true; first = v; second = w; next = at + l + m })
+        → (v w : ℕ) → v ≡ value_of wide a b → w ≡ value_of wide-too c d → TwoItems text at (record { first = v; second = w; next = at + l + m })
     pair_found f ef hf g eg hg v w ev ewv =
         let e₁ : at + l - 1 ≡ mid = omega arith in
         let e₂ : at + (2 + bit wide) ≡ mid + 1 = omega arith in
@@ -130,17 +131,11 @@ module _ (text : List ℕ) (at : ℕ) where
         (item_by text (mid + 1) wide-too c d (byte_at text (at + l + m - 1)) (ec ∙ behind_first text at wide 2 ∙ ap (byte_at text) e₂)
         (ed ∙ behind_first text at wide 3 ∙ ap (byte_at text) e₃) et (ap (byte_at text) e₄) (eg (not-false g hg)))
         in
-        record { some = λ _. record { mid = mid; end = end; one = one; two = two; last = omega arith } }
-
-  pub pair_none : (v w next : ℕ) → PairRead text at (record { ok = false; first = v; second = w; next = next })
-  pair_none v w next = record { some = λ e. untrue e }
+        record { mid = mid; end = end; one = one; two = two; last = omega arith }
 
 -- a row with two numbers more
 module _ (n : ℕ) (text : List ℕ) (at : ℕ) (lent : List ℕ) (put : ℕ) (cells : List ℕ) (more next so_far : ℕ) (b : RowBegun n text at lent put cells more next so_far)
-    (p : 2 < more) (r : Pair) (q : PairRead text next r) (h : not r.ok ≡ false) where
-  t : TwoItems text next r.first r.second r.next
-  t = q.some (not-false r.ok h)
-
+    (p : 2 < more) (r : Pair) (t : TwoItems text next r) where
   after : RowBegun n text at lent put (set cells so_far r.first) (more - 1) (t.mid + 1) (so_far + 1)
   after = begun_more n text at lent put cells more next so_far b (omega arith) r.first t.mid t.one
 
@@ -163,45 +158,35 @@ pub long_number : (a b behind : ℕ) (d : Bool) → d ≡ is_digit b → not d �
     → LongNumber a b behind (10 * (a - 48) + (b - 48))
 long_number a b behind d ed hd f ef hf =
     let t : Fits true a behind = ef (not-false f hf) in
+    record { first = t.digit; some = t.some refl; second = digit_of d b ed (not-false d hd); gap = t.gap; value = refl }
+
+-- numbers of two digits
+long_item : (text : List ℕ) (at r : ℕ) → LongNumber (byte_at text at) (byte_at text (at + 1)) (byte_at text (at + 2)) r → Item text at r (at + 2)
+long_item text at r d =
+    let f : Fits true (byte_at text at) (byte_at text (at + 2)) = record { digit = d.first; some = λ _. d.some; gap = d.gap } in
+    rw d.value (wide_item text at d.second f)
+
+pub long_found : (text : List ℕ) (at v w : ℕ) → LongNumber (byte_at text at) (byte_at text (at + 1)) (byte_at text (at + 2)) v
+    → LongNumber (byte_at text (at + 3)) (byte_at text (at + 4)) (byte_at text (at + 5)) w
+    → PairFound true text at (record { first = v; second = w; next = at + 6 })
+long_found text at v w d e =
+    let a : at + 3 ≡ at + 2 + 1 = omega arith in
+    let b : at + 4 ≡ at + 2 + 1 + 1 = omega arith in
+    let c : at + 5 ≡ at + 2 + 1 + 2 = omega arith in
+    let two : Item text (at + 2 + 1) w (at + 2 + 1 + 2) = long_item text (at + 2 + 1) w (rw (a, b, c) at e) in
     record {
-      first = λ _. t.digit;
-      some = λ _. t.some refl;
-      second = λ _. digit_of d b ed (not-false d hd);
-      gap = λ _. t.gap;
-      value = λ _. refl;
+      read = record { mid = at + 2; end = at + 2 + 1 + 2; one = long_item text at v d; two = two; last = omega arith };
+      within = λ _. omega arith;
     }
-
--- numbers of one digit, and of two
-module _ (text : List ℕ) (at r : ℕ) where
-  long_item : LongNumber (byte_at text at) (byte_at text (at + 1)) (byte_at text (at + 2)) r → 0 < r → Item text at r (at + 2)
-  long_item d h =
-      let f : Fits true (byte_at text at) (byte_at text (at + 2)) = record { digit = d.first h; some = λ _. d.some h; gap = d.gap h } in
-      rw (d.value h) (wide_item text at (d.second h) f)
-
-module _ (text : List ℕ) (at : ℕ) where
-  pub long_none : (v w : ℕ) → PairBy true text at (record { ok = false; first = v; second = w; next = at })
-  long_none v w = record { read = pair_none text at v w at; within = λ _. omega arith }
-
-  pub long_found : (v w : ℕ) → LongNumber (byte_at text at) (byte_at text (at + 1)) (byte_at text (at + 2)) v → (v ≡ 0 → ⊥)
-      → LongNumber (byte_at text (at + 3)) (byte_at text (at + 4)) (byte_at text (at + 5)) w → (w ≡ 0 → ⊥)
-      → PairBy true text at (record { ok = true; first = v; second = w; next = at + 6 })
-  long_found v w d h e k =
-      let a : at + 3 ≡ at + 2 + 1 = omega arith in
-      let b : at + 4 ≡ at + 2 + 1 + 1 = omega arith in
-      let c : at + 5 ≡ at + 2 + 1 + 2 = omega arith in
-      let two : Item text (at + 2 + 1) w (at + 2 + 1 + 2) = long_item text (at + 2 + 1) w (rw (a, b, c) at e) (omega (arith, k)) in
-      record {
-        read = record { some = λ _. record { mid = at + 2; end = at + 2 + 1 + 2; one = long_item text at v d (omega (arith, h)); two = two; last = omega arith } };
-        within = λ _. omega arith;
-      }
 
 -- pairs of a row whose numbers each have two digits, or not
 module _ (long : Bool) (text : List ℕ) where
-  pub pair_long : (at : ℕ) (r : Pair) → long ≡ true → PairBy true text at r → PairBy long text at r
+  pub pair_long : (at : ℕ) (r : Option Pair) → long ≡ true → PairBy true text at r → PairBy long text at r
   pair_long at r e p = rw e p
 
-  pub pair_mixed : (at : ℕ) (r : Pair) → long ≡ false → PairRead text at r → PairBy long text at r
-  pair_mixed at r e p = record { read = p; within = λ f. untrue (sym e ∙ f) }
+  pub pair_mixed : (at : ℕ) (r : Option Pair) → long ≡ false → PairRead text at r → PairBy long text at r
+  pair_mixed at None e p = tt
+  pair_mixed at (Some r) e p = record { read = p; within = λ f. untrue (sym e ∙ f) }
 
   pub long_within : (at : ℕ) → RowWithin long 2 text at → long ≡ true → at + 6 ≤ length text
   long_within at w e = omega (arith, w.end e)
@@ -212,7 +197,7 @@ module _ (long : Bool) (text : List ℕ) where
     within_two = record { start = w.start; end = λ e. omega (arith, w.end e) }
 
     -- and so are those behind them
-    pub within_more : (r : Pair) → PairBy long text next r → not r.ok ≡ false → RowWithin long (more - 2) text r.next
-    within_more r q h =
-        let t = q.read.some (not-false r.ok h) in
+    pub within_more : (r : Pair) → PairFound long text next r → RowWithin long (more - 2) text r.next
+    within_more r q =
+        let t = q.read in
         record { start = omega (arith, t.last, within_text text t.end (omega (arith, t.two.gap))); end = λ e. omega (arith, w.end e, q.within e) }

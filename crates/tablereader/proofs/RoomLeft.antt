@@ -2,17 +2,17 @@
 use Prim.Native.Nat.{ℕ, zero, suc, ◌+◌, ◌-◌, ◌*◌, ◌^◌, ◌≤◌, ◌<◌}
 use mathlib.Core.Bool.{Bool, true}
 use mathlib.Core.List.{List}
-use mathlib.Core.Path.{◌≡◌, refl, ap, sym, ◌∙◌, subst}
+use mathlib.Core.Path.{◌≡◌, refl, sym, ◌∙◌, subst}
 use native.Mathlib.Nat.{mul-one, suc-mul, pow-zero, pow-succ'}
 use native.Mathlib.Numerals.{sub-one}
 use native.Mathlib.Omega.{arith}
 use lib.Dec.{T, ltb}
 use lib.ListN.{length}
 use Rattle.equivalence.specs.Lists.{every}
-use Rattle.numberreader.specs.Reading.{Reader, begins}
+use Rattle.numberreader.specs.Reading.{found, Reader, begins}
 use Rattle.tablereader.specs.Tables.{cell, table}
 use Rattle.tablereader.specs.Laying.{Laid}
-use Rattle.numberreader.specs.InnerPromises.{read_of, GapRead}
+use Rattle.numberreader.specs.InnerPromises.{GapFound}
 use Rattle.tablereader.specs.InnerPromises.{RoomFor, RoomForText, Stored}
 use Rattle.tablereader.specs.declared.Spot.{Spot}
 use Rattle.tablereader.proofs.Lengths.{IfFound, Finds, Long, cell_long, table_long}
@@ -40,6 +40,10 @@ module _ {need : ℕ} {text : List ℕ} {at : ℕ} {lent : List ℕ} {put : ℕ}
             omega (arith, w.fits (length new + k) (f k a b) (omega (arith, l.place)), l.place, l.long);
       }
 
+-- the same room, for as many cells
+pub room_same : {need less : ℕ} {text : List ℕ} {at : ℕ} {lent : List ℕ} {put : ℕ} → less ≡ need → RoomFor need text at lent put → RoomFor less text at lent put
+room_same e w = rw e w
+
 -- behind a word that stands in the text
 pub room_behind : (word : List ℕ) → T (every (ltb 0) word) → {need : ℕ} {text : List ℕ} {at : ℕ} {lent : List ℕ} {put : ℕ} (b : Bool) → b ≡ begins text at word → b ≡ true
     → RoomFor need text at lent put → RoomFor need text (at + length word) lent put
@@ -48,18 +52,18 @@ room_behind word t {need} {text} {at} b e h w =
 
 -- an item that was found is as long as all that its reader finds
 module _ (item : Reader (List ℕ)) (w : ℕ) (long : Finds (Long w) item) (text : List ℕ) (at : ℕ) where
-  item_count : (new : List ℕ) (next : ℕ) (ok : Bool) → item text at ≡ read_of ok new next → ok ≡ true → length new ≡ w
-  item_count new next ok e h = subst (λ r. IfFound (Long w) r) (e ∙ ap (λ (b : Bool). read_of b new next) h) (long text at)
+  item_count : (new : List ℕ) (next : ℕ) → item text at ≡ found new next → length new ≡ w
+  item_count new next e = subst (IfFound (Long w)) e (long text at)
 
   -- behind an item and a gap there is room for what is left
   room_behind_item : (need left : ℕ) (lent : List ℕ) (put : ℕ) → RoomFor need text at lent put → w + left ≤ need → (after : List ℕ) (r : Spot)
-      → Stored text at lent put (item text at) after r → r.ok ≡ true → (end : ℕ) → GapRead text r.at end → RoomFor left text end after r.put
-  room_behind_item need left lent put room l after r q e end g =
-      room_on room q.new after r.put r.at end left q.laid q.paced g.reached.past g.reached.within
-      (λ k a b. omega (arith, item_count q.new r.at r.ok q.value e))
+      → Stored text at lent put (item text at) after r → (end : ℕ) → GapFound text r.at end → RoomFor left text end after r.put
+  room_behind_item need left lent put room l after r q end g =
+      room_on room q.new after r.put r.at end left q.laid q.paced (omega (arith, g.past)) g.within
+      (λ k a b. omega (arith, item_count q.new r.at q.value))
 
 -- a table that was found has n^s cells
-pub table_count : (n s : ℕ) (text : List ℕ) (at : ℕ) (new : List ℕ) (next : ℕ) (ok : Bool) → table n s text at ≡ read_of ok new next → ok ≡ true → length new ≡ n ^ s
+pub table_count : (n s : ℕ) (text : List ℕ) (at : ℕ) (new : List ℕ) (next : ℕ) → table n s text at ≡ found new next → length new ≡ n ^ s
 table_count n s = item_count (table n s) (n ^ s) (table_long n s)
 
 -- a row of cells: room for one, and behind it for the others
@@ -67,9 +71,9 @@ module _ (text : List ℕ) (at : ℕ) (lent : List ℕ) (put left : ℕ) (p : 0 
   pub room_first : RoomFor 1 text at lent put
   room_first = room_less w at 1 (omega arith) w.within (omega arith)
 
-  pub room_others : (after : List ℕ) (r : Spot) → Stored text at lent put (cell text at) after r → r.ok ≡ true → (end : ℕ) → GapRead text r.at end
-      → RoomFor (left - 1) text end after r.put
-  room_others = room_behind_item cell 1 cell_long text at left (left - 1) lent put w (omega arith)
+  pub room_others : (after : List ℕ) (r : Spot) → Stored text at lent put (cell text at) after r → (end : ℕ) → GapFound text r.at end
+      → (more : ℕ) → more ≡ left - 1 → RoomFor more text end after r.put
+  room_others after r s end g more e = room_behind_item cell 1 cell_long text at left more lent put w (omega arith) after r s end g
 
 module _ (n s : ℕ) (text : List ℕ) (at : ℕ) (lent : List ℕ) (put : ℕ) where
   -- a table of s 0 is one cell
@@ -96,17 +100,18 @@ module _ (n s : ℕ) (text : List ℕ) (at : ℕ) (lent : List ℕ) (put : ℕ) 
     room_row = room_less w at (n ^ (s - 1)) (omega arith) w.within (omega (arith, part_less left (n ^ (s - 1)) p))
 
     -- behind one row there is room for the others
-    pub room_rest : (after : List ℕ) (r : Spot) → Stored text at lent put (table n (s - 1) text at) after r → r.ok ≡ true → (end : ℕ) → GapRead text r.at end
-        → RoomFor ((left - 1) * n ^ (s - 1)) text end after r.put
-    room_rest =
-        room_behind_item (table n (s - 1)) (n ^ (s - 1)) (table_long n (s - 1)) text at (left * n ^ (s - 1)) ((left - 1) * n ^ (s - 1)) lent put w
-        (omega (arith, part_less left (n ^ (s - 1)) p))
+    pub room_rest : (after : List ℕ) (r : Spot) → Stored text at lent put (table n (s - 1) text at) after r → (end : ℕ) → GapFound text r.at end
+        → (more : ℕ) → more ≡ left - 1 → RoomFor (more * n ^ (s - 1)) text end after r.put
+    room_rest after r q end g more e =
+        rw e
+        (room_behind_item (table n (s - 1)) (n ^ (s - 1)) (table_long n (s - 1)) text at (left * n ^ (s - 1)) ((left - 1) * n ^ (s - 1)) lent put w
+        (omega (arith, part_less left (n ^ (s - 1)) p)) after r q end g)
 
 -- behind some items of a list there is room for whatever comes
 pub room_for_item : (text : List ℕ) (at : ℕ) (lent : List ℕ) (put : ℕ) → RoomForText text at lent put → (new after : List ℕ) (so_far next end need : ℕ) → Laid lent put new after so_far
-    → so_far + at ≤ put + next → GapRead text next end → RoomFor need text end after so_far
+    → so_far + at ≤ put + next → GapFound text next end → RoomFor need text end after so_far
 room_for_item text at lent put w new after so_far next end need l p g =
-    room_on w new after so_far next end need l p g.reached.past g.reached.within (λ k a b. omega (arith, l.place, g.reached))
+    room_on w new after so_far next end need l p (omega (arith, g.past)) g.within (λ k a b. omega (arith, l.place, g))
 
 -- storage that is as long as the text has room for whatever comes, if no more is stored than is read
 pub room_of_text : (need : ℕ) (text : List ℕ) (at : ℕ) (lent : List ℕ) (put : ℕ) → at ≤ length text → put ≤ at → length text ≤ length lent → RoomFor need text at lent put

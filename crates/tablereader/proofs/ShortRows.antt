@@ -23,17 +23,15 @@ pub record Between (text : List ℕ) (at low high : ℕ) : Type 0 where
 module _ (count : ℕ) (text : List ℕ) (at : ℕ) where
   -- so do the first i items
   pub record ItemsBetween (i low high : ℕ) : Type 0 where
-    pub passed : i ≤ count
     pub each : (j : ℕ) → j < i → Between text (at + 2 * j) low high
 
   pub between_none : (low high : ℕ) → ItemsBetween 0 low high
-  between_none low high = record { passed = omega arith; each = λ j l. absurd (omega arith) }
+  between_none low high = record { each = λ j l. absurd (omega arith) }
 
-  pub between_more : (i low high : ℕ) → ItemsBetween i low high → i < count → (r : ℕ) → TwoBytes text (at + 2 * i) r
+  pub between_more : (i low high : ℕ) → ItemsBetween i low high → (r : ℕ) → TwoBytes text (at + 2 * i) r
       → (low' high' : ℕ) → (low' ≤ low) × (low' ≤ r) → (high ≤ high') × (r ≤ high') → ItemsBetween (i + 1) low' high'
-  between_more i low high p h r b low' high' l g =
+  between_more i low high p r b low' high' l g =
       record {
-        passed = omega arith;
         each = λ j s. elim (ℕ_discrete j i) [
           | yes e ↦ rw e (record { above = omega (arith, l.1, b.value); below = omega (arith, g.1, b.value); first = b.first })
           | no e ↦ let o = p.each j (omega arith) in
@@ -44,7 +42,7 @@ module _ (count : ℕ) (text : List ℕ) (at : ℕ) where
   -- between a 0 and a 9, each with a gap behind it, lie numbers of one digit
   pub between_all : (i low high : ℕ) → ItemsBetween i low high → count ≤ i → 8240 ≤ low → leb high 8249 ≡ true → ShortItems count text at
   between_all i low high p h l g j s =
-      let o = p.each j (omega (arith, p.passed)) in
+      let o = p.each j (omega arith) in
       let t = leb-true high 8249 g in
       let e : byte_at text (at + 2 * j + 1) ≡ 32 = omega (arith, o.above, o.below, o.first) in
       record {

@@ -1,14 +1,15 @@
 -- Inner vocabulary of rows of numbers: how far one is read, and what is read of it two numbers at a time.
-use Rattle.std.specs.Prelude.{ℕ, ◌+◌, ◌-◌, ◌*◌, ◌≤◌, ◌<◌, Bool, true, false, List, ◌++◌, ◌≡◌, length}
+use Rattle.std.specs.Prelude.{ℕ, ◌+◌, ◌-◌, ◌*◌, ◌≤◌, ◌<◌, Bool, true, false, List, ◌++◌, ◌≡◌, Option, IfSome, length}
 use Rattle.std.specs.Borrow.{Bor, MutBor}
 use Rattle.kernel.specs.InnerKernel.{bit}
 use Rattle.numberreader.specs.Reading.{found, Reader, byte_at, onward}
 use Rattle.numberreader.specs.Numbers.{number}
 use Rattle.tablereader.specs.Tables.{cell, parted}
 use Rattle.tablereader.specs.Laying.{Laid}
-use Rattle.numberreader.specs.InnerPromises.{Reached, NumberRead}
+use Rattle.numberreader.specs.InnerPromises.{Reached, NumberFound}
 use Rattle.tablereader.specs.InnerPromises.{RoomFor}
 use Rattle.numberreader.specs.declared.Number.{Number}
+use Rattle.tablereader.specs.declared.Spot.{Spot}
 use Rattle.tablereader.specs.declared.rows.Pair.{Pair}
 use Rattle.tablereader.specs.declared.rows.RowSoFar.{RowSoFar}
 
@@ -27,52 +28,60 @@ pub record RowBegun (n : ℕ) (text : List ℕ) (at : ℕ) (lent : List ℕ) (pu
   pub room : RoomFor more text next after so_far
 
 -- the same of a reader over lent slices: the text, and the storage before and after
-abbrev pub RowBegunBy : ℕ → Bor (List ℕ) → ℕ → MutBor (List ℕ) → ℕ → MutBor (List ℕ) → RowSoFar → Type 0
-RowBegunBy n text at lent put after r = RowBegun n text.now at lent.now put after.now r.more r.at r.put
+abbrev pub RowBegunBy : ℕ → Bor (List ℕ) → Spot → MutBor (List ℕ) → MutBor (List ℕ) → RowSoFar → Type 0
+RowBegunBy n text from lent after r = RowBegun n text.now from.at lent.now from.put after.now r.more r.here.at r.here.put
 
 -- a byte is a digit
 pub record Digit (b : ℕ) : Type 0 where
   pub low : 48 ≤ b
   pub high : b ≤ 57
 
--- r is the number of the digits a and b, if a gap is behind them and a is not 0; it is 0 else
+-- r is the number of the digits a and b; a is not 0, and a gap is behind them
 pub record LongNumber (a b behind r : ℕ) : Type 0 where
-  pub first : 0 < r → Digit a
-  pub some : 0 < r → a ≡ 48 → ⊥
-  pub second : 0 < r → Digit b
-  pub gap : 0 < r → behind ≡ 32
-  pub value : 0 < r → r ≡ 10 * (a - 48) + (b - 48)
+  pub first : Digit a
+  pub some : a ≡ 48 → ⊥
+  pub second : Digit b
+  pub gap : behind ≡ 32
+  pub value : r ≡ 10 * (a - 48) + (b - 48)
+
+-- such a number was looked for
+abbrev pub LongRead : ℕ → ℕ → ℕ → Option ℕ → Type 0
+LongRead a b behind r = IfSome r (LongNumber a b behind)
 
 -- a number that was read, and the place after it
 abbrev pub number_found : ℕ → ℕ → Number
-number_found v next = record { ok = true; value = v; next = next }
+number_found v next = record { value = v; next = next }
 
 -- a number, with a gap behind it
 pub record Item (text : List ℕ) (at v next : ℕ) : Type 0 where
-  pub read : NumberRead text at (number text at) (number_found v next)
+  pub read : NumberFound text at (number text at) (number_found v next)
   pub gap : byte_at text next ≡ 32
 
 -- two numbers, each with a gap behind it
-pub record TwoItems (text : List ℕ) (at first second next : ℕ) : Type 0 where
+pub record TwoItems (text : List ℕ) (at : ℕ) (p : Pair) : Type 0 where
   pub mid : ℕ
   pub end : ℕ
-  pub one : Item text at first mid
-  pub two : Item text (mid + 1) second end
-  pub last : next ≡ end + 1
+  pub one : Item text at p.first mid
+  pub two : Item text (mid + 1) p.second end
+  pub last : p.next ≡ end + 1
 
 -- two numbers were looked for
-pub record PairRead (text : List ℕ) (at : ℕ) (r : Pair) : Type 0 where
-  pub some : r.ok ≡ true → TwoItems text at r.first r.second r.next
+abbrev pub PairRead : List ℕ → ℕ → Option Pair → Type 0
+PairRead text at r = IfSome r (TwoItems text at)
 
 -- a row of k numbers ends within the text, if it stands here and each has two digits
 pub record RowWithin (long : Bool) (k : ℕ) (text : List ℕ) (at : ℕ) : Type 0 where
   pub start : at ≤ length text
   pub end : long ≡ true → at + 3 * k ≤ length text
 
--- two numbers, each of two digits or not, were looked for
-pub record PairBy (long : Bool) (text : List ℕ) (at : ℕ) (r : Pair) : Type 0 where
-  pub read : PairRead text at r
-  pub within : long ≡ true → r.next ≤ at + 6
+-- two numbers, each of two digits or not, as a flag tells
+pub record PairFound (long : Bool) (text : List ℕ) (at : ℕ) (p : Pair) : Type 0 where
+  pub read : TwoItems text at p
+  pub within : long ≡ true → p.next ≤ at + 6
+
+-- such numbers were looked for
+abbrev pub PairBy : Bool → List ℕ → ℕ → Option Pair → Type 0
+PairBy long text at r = IfSome r (PairFound long text at)
 
 -- one of two, as a flag tells
 unfoldable pub choose : Bool → ℕ → ℕ → ℕ

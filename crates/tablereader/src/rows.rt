@@ -2,24 +2,22 @@
 ghost use Rattle.std.specs.Prelude.{true, ◌≡◌, ◌+◌, ◌*◌, ◌≤◌, ◌<◌, length};
 ghost use Rattle.tablereader.specs.Tables.{cell, parted};
 ghost use Rattle.tablereader.specs.InnerPromises.{RoomFor, StoredBy};
-ghost use Rattle.tablereader.specs.InnerRows.{RowWithin, RowBegunBy, Digit, LongNumber, PairRead, PairBy, choose, ItemLength, value_of, Fits};
+ghost use Rattle.tablereader.specs.InnerRows.{RowWithin, RowBegunBy, Digit, LongRead, PairRead, PairBy, choose, ItemLength, value_of, Fits};
 
 use crate::short_rows::read_short;
 use crate::{Spot, read_cell};
 use numberreader::{gap_end, is_digit};
 
-// How far a row is read: how many numbers are left, and their places in the text and in the storage.
-#[derive(Clone, Copy)]
+// How far a row is read: how many numbers are left, and where the next one is and goes.
+#[derive(Clone, Copy, Debug, PartialEq, Eq)]
 pub struct RowSoFar {
     pub more: u8,
-    pub at: usize,
-    pub put: usize,
+    pub here: Spot,
 }
 
-// Two numbers, each with a gap behind it, and the place after them; where `ok` is false, nothing.
-#[derive(Clone, Copy)]
+// Two numbers, each with a gap behind it, and the place after them.
+#[derive(Clone, Copy, Debug, PartialEq, Eq)]
 pub struct Pair {
-    pub ok: bool,
     pub first: u8,
     pub second: u8,
     pub next: usize,
@@ -68,59 +66,40 @@ fn fits(wide: bool, a: u8, behind: u8) -> bool
     a != b'0'
 }
 
-// A number of two digits with a gap behind it; 0 where other bytes stand.
-fn long_number(a: u8, b: u8, behind: u8) -> u8
-    ensures { LongNumber a b behind result }
+// A number of two digits with a gap behind it, if such bytes stand here.
+fn long_number(a: u8, b: u8, behind: u8) -> Option<u8>
+    ensures { LongRead a b behind result }
 {
     if !is_digit(b) {
-        return 0;
+        return None;
     }
     if !fits(true, a, behind) {
-        return 0;
+        return None;
     }
-    10 * (a - b'0') + (b - b'0')
+    Some(10 * (a - b'0') + (b - b'0'))
 }
 
 // Two numbers of two digits, if they stand here, each with a gap behind it.
-fn long_pair(text: &[u8], at: usize) -> Pair
+fn long_pair(text: &[u8], at: usize) -> Option<Pair>
     requires { at + 6 ≤ length text.now }
     ensures { PairBy true text.now at result }
 {
-    let none = Pair {
-        ok: false,
-        first: 0,
-        second: 0,
-        next: at,
-    };
-    let first = long_number(text[at], text[at + 1], text[at + 2]);
-    if first == 0 {
-        return none;
-    }
-    let second = long_number(text[at + 3], text[at + 4], text[at + 5]);
-    if second == 0 {
-        return none;
-    }
-    Pair {
-        ok: true,
+    let first = long_number(text[at], text[at + 1], text[at + 2])?;
+    let second = long_number(text[at + 3], text[at + 4], text[at + 5])?;
+    Some(Pair {
         first,
         second,
         next: at + 6,
-    }
+    })
 }
 
 // Two numbers below 100, if they stand here, each with a gap behind it. How many digits each has cannot be foreseen, so nothing branches on it.
-fn mixed_pair(text: &[u8], at: usize) -> Pair
+fn mixed_pair(text: &[u8], at: usize) -> Option<Pair>
     requires { at ≤ length text.now }
     ensures { PairRead text.now at result }
 {
-    let none = Pair {
-        ok: false,
-        first: 0,
-        second: 0,
-        next: at,
-    };
     if text.len() - at < 7 {
-        return none;
+        return None;
     }
     let a = text[at];
     let b = text[at + 1];
@@ -131,61 +110,53 @@ fn mixed_pair(text: &[u8], at: usize) -> Pair
     let mid = at + item_length(wide);
     let next = mid + item_length(wide_too);
     if !fits(wide, a, text[mid - 1]) {
-        return none;
+        return None;
     }
     if !fits(wide_too, c, text[next - 1]) {
-        return none;
+        return None;
     }
-    Pair {
-        ok: true,
+    Some(Pair {
         first: value(wide, a, b),
         second: value(wide_too, c, d),
         next,
-    }
+    })
 }
 
 // Two numbers of two digits, or of one or two, if they stand here, each with a gap behind it.
-fn next_pair(long: bool, text: &[u8], at: usize) -> Pair
+fn next_pair(long: bool, text: &[u8], at: usize) -> Option<Pair>
     requires { RowWithin long 2 text.now at }
     ensures { PairBy long text.now at result }
 {
     if long {
-        return long_pair(text, at);
+        long_pair(text, at)
+    } else {
+        mixed_pair(text, at)
     }
-    mixed_pair(text, at)
 }
 
 // The numbers two by two, as long as they have two digits, or one or two, and more than two are left. The compiler makes two loops of this one.
-fn read_pairs(long: bool, n: u8, text: &[u8], at: usize, cells: &mut [u8], put: usize) -> RowSoFar
-    requires room_for { RoomFor n text.now at cells.old put }
+fn read_pairs(long: bool, n: u8, text: &[u8], from: Spot, cells: &mut [u8]) -> RowSoFar
+    requires room_for { RoomFor n text.now from.at cells.old from.put }
     requires n_nonzero { 0 < n }
-    requires row_within { RowWithin long n text.now at }
-    ensures { RowBegunBy n text.entry at cells.entry put cells.exit result }
+    requires row_within { RowWithin long n text.now from.at }
+    ensures { RowBegunBy n text.entry from cells.entry cells.exit result }
 {
     let mut more = n;
-    let mut next = at;
-    let mut so_far = put;
+    let mut here = from;
+    // A `while`: it takes two at a time, and ends where they are no pair.
     while 2 < more {
-        let pair = next_pair(long, text, next);
-        let after = pair.next;
-        if !pair.ok {
-            return RowSoFar {
-                more,
-                at: next,
-                put: so_far,
-            };
-        }
-        cells[so_far] = pair.first;
-        cells[so_far + 1] = pair.second;
+        let Some(pair) = next_pair(long, text, here.at) else {
+            return RowSoFar { more, here };
+        };
+        cells[here.put] = pair.first;
+        cells[here.put + 1] = pair.second;
         more -= 2;
-        next = after;
-        so_far += 2;
+        here = Spot {
+            at: pair.next,
+            put: here.put + 2,
+        };
     }
-    RowSoFar {
-        more,
-        at: next,
-        put: so_far,
-    }
+    RowSoFar { more, here }
 }
 
 // Whether a bracket is the last of so many bytes.
@@ -200,58 +171,39 @@ fn is_closed(count: usize, text: &[u8], at: usize) -> bool
 }
 
 // Most numbers of a row. Where it ends shows whether each has one digit, or each two: only then their lengths can be foreseen.
-fn read_most(n: u8, text: &[u8], at: usize, cells: &mut [u8], put: usize) -> RowSoFar
-    requires room_for { RoomFor n text.now at cells.old put }
+fn read_most(n: u8, text: &[u8], from: Spot, cells: &mut [u8]) -> RowSoFar
+    requires room_for { RoomFor n text.now from.at cells.old from.put }
     requires n_nonzero { 0 < n }
-    ensures { RowBegunBy n text.entry at cells.entry put cells.exit result }
+    ensures { RowBegunBy n text.entry from cells.entry cells.exit result }
 {
-    if is_closed(2 * (n as usize), text, at) {
-        return read_short(n, text, at, cells, put);
+    if is_closed(2 * (n as usize), text, from.at) {
+        return read_short(n, text, from, cells);
     }
-    let long = is_closed(3 * (n as usize), text, at);
-    read_pairs(long, n, text, at, cells, put)
+    let long = is_closed(3 * (n as usize), text, from.at);
+    read_pairs(long, n, text, from, cells)
 }
 
 // n numbers one by one.
-fn read_one_by_one(n: u8, text: &[u8], at: usize, cells: &mut [u8], put: usize) -> Spot
-    requires room_for { RoomFor n text.now at cells.old put }
+fn read_one_by_one(n: u8, text: &[u8], from: Spot, cells: &mut [u8]) -> Option<Spot>
+    requires room_for { RoomFor n text.now from.at cells.old from.put }
     requires n_nonzero { 0 < n }
-    ensures { StoredBy (parted cell n) text.entry at cells.entry put cells.exit result }
+    ensures { StoredBy (parted cell n) text.entry from cells.entry cells.exit result }
 {
-    let mut more = n;
-    let mut next = at;
-    let mut so_far = put;
-    while 1 < more {
-        let item = read_cell(text, next, cells, so_far);
-        next = item.at;
-        so_far = item.put;
-        if !item.ok {
-            return Spot {
-                ok: false,
-                at: next,
-                put: so_far,
-            };
-        }
-        let after = gap_end(text, next);
-        if after == next {
-            return Spot {
-                ok: false,
-                at: next,
-                put: so_far,
-            };
-        }
-        next = after;
-        more -= 1;
+    let mut here = from;
+    for _i in 1..n {
+        let item = read_cell(text, here, cells)?;
+        let next = gap_end(text, item.at)?;
+        here = Spot { at: next, ..item };
     }
-    read_cell(text, next, cells, so_far)
+    read_cell(text, here, cells)
 }
 
 // n numbers, parted by gaps: `read_rows` over tables of arity 0, without a call for each.
-pub fn read_row(n: u8, text: &[u8], at: usize, cells: &mut [u8], put: usize) -> Spot
-    requires room_for { RoomFor n text.now at cells.old put }
+pub fn read_row(n: u8, text: &[u8], from: Spot, cells: &mut [u8]) -> Option<Spot>
+    requires room_for { RoomFor n text.now from.at cells.old from.put }
     requires n_nonzero { 0 < n }
-    ensures { StoredBy (parted cell n) text.entry at cells.entry put cells.exit result }
+    ensures { StoredBy (parted cell n) text.entry from cells.entry cells.exit result }
 {
-    let most = read_most(n, text, at, cells, put);
-    read_one_by_one(most.more, text, most.at, cells, most.put)
+    let most = read_most(n, text, from, cells);
+    read_one_by_one(most.more, text, most.here, cells)
 }

@@ -3,6 +3,7 @@ ghost use Rattle.std.specs.Prelude.{true, ◌≡◌, ◌+◌, ◌*◌, ◌≤◌
 ghost use Rattle.tablereader.specs.InnerPromises.{RoomFor};
 ghost use Rattle.tablereader.specs.InnerRows.{RowBegunBy, TwoBytes, ShortItems};
 
+use crate::Spot;
 use crate::rows::RowSoFar;
 
 // A 0 and a 9, each with a gap behind it: `0` and `9`, and 256 times a space.
@@ -15,23 +16,7 @@ fn two_bytes(text: &[u8], at: usize) -> u16
     requires { at + 2 ≤ length text.now }
     ensures { TwoBytes text.now at result }
 {
-    let first = text[at];
-    let second = text[at + 1];
-    first as u16 + 256 * (second as u16)
-}
-
-// The lower of two.
-fn lower(a: u16, b: u16) -> u16
-    ensures { (result ≤ a) × (result ≤ b) }
-{
-    if b < a { b } else { a }
-}
-
-// The higher of two.
-fn higher(a: u16, b: u16) -> u16
-    ensures { (a ≤ result) × (b ≤ result) }
-{
-    if a < b { b } else { a }
+    u16::from_le_bytes([text[at], text[at + 1]])
 }
 
 // Whether so many numbers of one digit stand here, each with a gap behind it. All are looked at, without an early exit, so that the loop can take many at a time.
@@ -41,12 +26,10 @@ fn is_short(count: usize, text: &[u8], at: usize) -> bool
 {
     let mut low = FIRST_ITEM;
     let mut high = LAST_ITEM;
-    let mut i = 0;
-    while i < count {
+    for i in 0..count {
         let item = two_bytes(text, at + 2 * i);
-        low = lower(low, item);
-        high = higher(high, item);
-        i += 1;
+        low = low.min(item);
+        high = high.max(item);
     }
     if low < FIRST_ITEM {
         return false;
@@ -55,23 +38,27 @@ fn is_short(count: usize, text: &[u8], at: usize) -> bool
 }
 
 // All numbers of a row but the last, if they have one digit; else none.
-pub fn read_short(n: u8, text: &[u8], at: usize, cells: &mut [u8], put: usize) -> RowSoFar
-    requires room_for { RoomFor n text.now at cells.old put }
-    requires n_nonzero { (0 < n) × (at + 2 * n ≤ length text.now) }
-    ensures { RowBegunBy n text.entry at cells.entry put cells.exit result }
+pub fn read_short(n: u8, text: &[u8], from: Spot, cells: &mut [u8]) -> RowSoFar
+    requires room_for { RoomFor n text.now from.at cells.old from.put }
+    requires n_nonzero { (0 < n) × (from.at + 2 * n ≤ length text.now) }
+    ensures { RowBegunBy n text.entry from cells.entry cells.exit result }
 {
     let count = n as usize - 1;
+    let Spot { at, put } = from;
     if !is_short(count, text, at) {
-        return RowSoFar { more: n, at, put };
+        return RowSoFar {
+            more: n,
+            here: from,
+        };
     }
-    let mut i = 0;
-    while i < count {
+    for i in 0..count {
         cells[put + i] = (two_bytes(text, at + 2 * i) - FIRST_ITEM) as u8;
-        i += 1;
     }
     RowSoFar {
         more: 1,
-        at: at + 2 * count,
-        put: put + count,
+        here: Spot {
+            at: at + 2 * count,
+            put: put + count,
+        },
     }
 }

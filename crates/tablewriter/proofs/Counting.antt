@@ -1,21 +1,20 @@
 -- The text's length, summed up: digits of the first numbers, brackets and gaps of the first arities.
-use Prim.Native.Nat.{ℕ, zero, suc, ◌+◌, ◌-◌, ◌*◌, ◌≤◌, ◌<◌}
+use Prim.Native.Nat.{ℕ, zero, suc, ◌+◌, ◌*◌, ◌≤◌, ◌<◌}
 use mathlib.Core.List.{List, [], ◌∷◌, ◌++◌}
-use mathlib.Core.Path.{◌≡◌, refl, ap}
+use mathlib.Core.Path.{◌≡◌, refl, ap, ◌∙◌}
 use native.Mathlib.Decide.{dec_lt}
 use native.Mathlib.Nat.{mul-zero, mul-le-mul}
 use native.Mathlib.Numerals.{add-one}
 use native.Mathlib.Omega.{arith}
-use lib.ListN.{length, get_or, take, drop}
-use lib.Seq.{take-suc, take_all}
+use lib.ListN.{length, get_or, take, length-append, get_or-append}
+use lib.Seq.{take-suc, take_all, get_or-append-add}
 use Rattle.writer.specs.InnerRoom.{NumbersBelow}
 use Rattle.algebra.specs.Algebra.{algebra_of, cell_count}
 use Rattle.writer.specs.Numerals.{decimal}
 use Rattle.writer.proofs.Lengths.{one_digit_long, two_digits_long}
 use Rattle.tablewriter.specs.Texts.{algebra_text}
-use Rattle.tablewriter.specs.InnerLengths.{frame, frames, figures, PartEnd, Measurable}
-use Rattle.tablewriter.proofs.TextLengths.{figures_append, figures_parts, text_length}
-use Rattle.tablewriter.proofs.Parts.{part_length, part_member}
+use Rattle.tablewriter.specs.InnerLengths.{frame, frames, figures, Measurable}
+use Rattle.tablewriter.proofs.TextLengths.{figures_append, text_length}
 
 -- two digits at most below 100
 pub digits_few : (v : ℕ) → v < 100 → length (decimal v) ≤ 2
@@ -54,31 +53,43 @@ module _ (m : List ℕ) (short : NumbersBelow 100 m) where
   pub second_short : (i : ℕ) → i < length m → get_or m i 0 < 100
   second_short i h = short i h
 
-  -- those of a part more
-  module _ (from to : ℕ) (b : PartEnd from (length m) to) where
-    abbrev part : List ℕ
-    part = take (to - from) (drop from m)
-
-    pub part_short : NumbersBelow 100 part
-    part_short i l =
-        let h : i < to - from = omega (arith, part_length m from to b.within) in
-        rw (part_member m from to i h) (short (from + i) (omega (arith, b.within)))
-
-    pub part_few : length part ≤ 128
-    part_few = omega (arith, part_length m from to b.within, b.few)
-
-    pub second_part : (count d : ℕ) → Counted m count from → d + length part ≡ figures part → Counted m (count + d) to
-    second_part count d p e =
-        let k : to ≡ from + (to - from) = omega (arith, b.some) in
-        let long = part_length m from to b.within in
-        record {
-          passed = b.within;
-          value = omega (arith, p.value, e, long, k, ap (λ (j : ℕ). figures (take j m)) k, figures_parts from (to - from) m);
-          few = omega (arith, p.few, e, long, k, figures_few part part_short);
-        }
-
   pub second_all : (count i : ℕ) → Counted m count i → length m ≤ i → count + length m ≡ figures m
   second_all count i p h = let e : i ≡ length m = omega (arith, p.passed) in omega (arith, p.value, ap figures (take_all i m h))
+
+-- the second digits of all numbers are counted but those of the rest
+pub record CountedBefore (m : List ℕ) (count : ℕ) (rest : List ℕ) : Type 0 where
+  pub value : count + length m + figures rest ≡ figures m + length rest
+  pub few : count + length rest ≤ length m
+  pub short : NumbersBelow 100 rest
+
+-- the rest begins with a part
+module _ (m : List ℕ) (count : ℕ) (rest part next : List ℕ) (p : CountedBefore m count rest) (e : rest ≡ part ++ next) where
+  long : length rest ≡ length part + length next
+  long = ap length e ∙ length-append part next
+
+  pub part_short : NumbersBelow 100 part
+  part_short i l =
+      let h : get_or rest i 0 < 100 = p.short i (omega (arith, long)) in
+      rw (e, get_or-append part next 0 i l) at h
+
+  next_short : NumbersBelow 100 next
+  next_short i l =
+      let h : get_or rest (length part + i) 0 < 100 = p.short (length part + i) (omega (arith, long)) in
+      rw (e, get_or-append-add part next i 0) at h
+
+  -- the numbers with two digits of a part more
+  pub parts_more : (d : ℕ) → d + length part ≡ figures part → CountedBefore m (count + d) next
+  parts_more d g =
+      record {
+        value = omega (arith, p.value, g, long, ap figures e, figures_append part next);
+        few = omega (arith, p.few, g, long, figures_few part part_short);
+        short = next_short;
+      }
+
+pub parts_all : (m : List ℕ) (count : ℕ) (rest : List ℕ) → CountedBefore m count rest → length rest ≡ 0 → count + length m ≡ figures m
+unfolding figures
+parts_all m count [] p z = omega (arith, p.value)
+parts_all m count (x ∷ rest) p z = absurd (omega arith)
 
 -- the brackets and gaps of a table stay small
 frame_next : (n s b : ℕ) → n ≤ 64 → frame n s ≤ b → frame n (suc s) ≤ 64 * b + 65

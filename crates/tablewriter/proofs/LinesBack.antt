@@ -9,7 +9,7 @@ use lib.ListN.{length, get_or, take, length-append}
 use lib.Seq.{take_all}
 use Rattle.equivalence.specs.Lists.{every}
 use Rattle.equivalence.specs.Refusal.{lowest, size_test}
-use Rattle.equivalence.specs.declared.Check.TheVariants.{Passed}
+use Rattle.std.specs.Prelude.{Ok}
 use Rattle.equivalence.proofs.Refusals.{lowest_none, lowest_next, size_test_of}
 use Rattle.algebra.specs.Algebra.{Algebra, Operation, algebra_of}
 use Rattle.algebra.proofs.Accepted.{every_by, not_yes}
@@ -77,7 +77,7 @@ size_line_back text at n m e =
 pub sized_back : (text : List ℕ) (at n : ℕ) → 1 ≤ n → n ≤ 64 → begins text at (size_text n) ≡ true → sized text at ≡ defined (algebra_of n [] []) (at + length (size_text n))
 unfolding sized after_size tested
 sized_back text at n l m e =
-    let t : lowest (size_test n ∷ []) ≡ Passed = lowest_next (size_test n) [] (size_test_of n l m) ∙ lowest_none in
+    let t : lowest (size_test n ∷ []) ≡ Ok tt = lowest_next (size_test n) [] (size_test_of n l m) ∙ lowest_none in
     rw (size_line_back text at n (omega arith) e, t)
 
 -- the arity of an operation line
@@ -99,11 +99,11 @@ pub record MayFollow (a : Algebra) (f : Operation) : Type 0 where
   pub below : NumbersBelow a.size f.table
 
 -- 2, 3 and 4 pass over what fits
-fitting_passes : (n operations cells s : ℕ) → Fitting n operations cells s → lowest (operation_tests n operations cells s) ≡ Passed
+fitting_passes : (n operations cells s : ℕ) → Fitting n operations cells s → lowest (operation_tests n operations cells s) ≡ Ok tt
 fitting_passes n operations cells s f = sym (passed n operations cells s f.few f.arity (n ^ s) refl f.room)
 
 -- 6 passes over cells below n
-cell_test_passes : (n : ℕ) (cells : List ℕ) → NumbersBelow n cells → lowest (cell_test n cells ∷ []) ≡ Passed
+cell_test_passes : (n : ℕ) (cells : List ℕ) → NumbersBelow n cells → lowest (cell_test n cells ∷ []) ≡ Ok tt
 unfolding cell_test
 cell_test_passes n cells h =
     lowest_next (cell_test n cells) [] (not_yes (every (λ c. ltb c n) cells) (every_by (λ c. ltb c n) cells (λ i l. lt→ltb (get_or cells i 0) n (h i l)))) ∙ lowest_none

@@ -201,8 +201,8 @@ pub record RowsLeft (n left : ℕ) (cells lent : List ℕ) (put : ℕ) (out : Li
   pub joins : (after : List ℕ) (end : ℕ) → Laid out at (parted_texts (table_text n 1) (n ^ 1) more (drop from cells)) after end
       → Laid lent put (parted_texts (table_text n 1) (n ^ 1) left cells) after end
 
-pub rows_left_all : (n left : ℕ) (cells lent : List ℕ) (put : ℕ) → RowsFit n 1 left cells put lent → RowsLeft n left cells lent put lent put 0 left
-rows_left_all n left cells lent put f = record { within = omega arith; behind = omega arith; long = refl; fit = f; joins = λ after end l. l }
+pub rows_left_all : (n left : ℕ) (cells lent : List ℕ) (put : ℕ) → RowsFit n 1 left cells put lent → (more : ℕ) → more ≡ left → RowsLeft n left cells lent put lent put 0 more
+rows_left_all n left cells lent put f more e = rw e record { within = omega arith; behind = omega arith; long = refl; fit = f; joins = λ after end l. l }
 
 pow_one : (n : ℕ) → n ^ 1 ≡ n
 pow_one n = pow-succ' n 0 ∙ ap (λ (k : ℕ). n * k) (pow-zero n) ∙ mul-one n
@@ -258,12 +258,14 @@ module _ (n left : ℕ) (cells lent : List ℕ) (put : ℕ) (out : List ℕ) (at
           ∙ drop-drop (n ^ 1) from cells
           ∙ ap (λ (k : ℕ). drop (from + k) cells) (pow_one n)
 
-      pub rows_left_more : (mid' : List ℕ) (at' : ℕ) → Laid mid end gap_bytes mid' at' → RowsLeft n left cells lent put mid' at' (from + n) (more - 1)
-      rows_left_more mid' at' r =
+      pub rows_left_more : (mid' : List ℕ) (at' : ℕ) → Laid mid end gap_bytes mid' at' → (others : ℕ) → others ≡ more - 1
+          → RowsLeft n left cells lent put mid' at' (from + n) others
+      rows_left_more mid' at' r others less =
           let f = p.fit in
           let d = drop from cells in
           let g : more ≡ 1 → ⊥ = λ e. omega arith in
-          record {
+          rw less
+          (record {
             within = next_row_within;
             behind = omega (arith, p.behind, part_less more n f.shape.rows);
             long = r.long ∙ q.long ∙ p.long;
@@ -271,7 +273,7 @@ module _ (n left : ℕ) (cells lent : List ℕ) (put : ℕ) (out : List ℕ) (at
             joins =
                 λ after last l.
                 p.joins after last (others_written n 1 more d at out f mid end row_laid g (n ^ 1) refl mid' at' r after last (rw (← rest_same) at l));
-          }
+          })
 
 -- rows of arity 1 are rows of numbers
 module _ (n s left : ℕ) (cells : List ℕ) (put : ℕ) (lent : List ℕ) (e : s ≡ 1) where

@@ -1,5 +1,5 @@
 -- How long the text of an algebra is, by its tables' brackets and gaps and its cells' digits.
-use Rattle.std.specs.Prelude.{ℕ, zero, suc, ◌+◌, ◌*◌, ◌≤◌, ◌<◌, List, [], ◌∷◌, ◌≡◌, length}
+use Rattle.std.specs.Prelude.{ℕ, zero, suc, ◌+◌, ◌*◌, ◌≤◌, List, [], ◌∷◌, ◌≡◌, length}
 use Rattle.algebra.specs.Algebra.{cell_count}
 use Rattle.writer.specs.Numerals.{decimal}
 use Rattle.writer.specs.InnerRoom.{NumbersBelow}
@@ -19,12 +19,6 @@ frames n (s ∷ rest) = 8 + frame n s + frames n rest
 unfoldable pub figures : List ℕ → ℕ
 figures [] = 0
 figures (x ∷ rest) = length (decimal x) + figures rest
-
--- a part of 128 numbers at most ends here
-pub record PartEnd (from end to : ℕ) : Type 0 where
-  pub some : from < to
-  pub within : to ≤ end
-  pub few : to ≤ from + 128
 
 -- the tables of an algebra whose elements have two digits at most, and no cell behind them
 pub record Measurable (n : ℕ) (arities cells : List ℕ) : Type 0 where

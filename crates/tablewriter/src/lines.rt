@@ -47,13 +47,10 @@ fn write_operations(n: usize, arities: &[u8], cells: &[u8], out: &mut [u8], put:
 {
     let mut at = put;
     let mut from = 0;
-    let mut j = 0;
-    while j < arities.len() {
-        let arity = arities[j];
-        let to = from + power(n, arity as usize);
-        at = write_operation(n, arity, &cells[from..to], out, at);
+    for arity in arities {
+        let to = from + power(n, *arity as usize);
+        at = write_operation(n, *arity, &cells[from..to], out, at);
         from = to;
-        j += 1;
     }
     at
 }

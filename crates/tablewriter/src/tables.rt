@@ -16,13 +16,11 @@ fn write_number_rows(n: usize, left: usize, cells: &[u8], out: &mut [u8], put: u
     let top = largest(&cells[0..all]);
     let mut at = put;
     let mut from = 0;
-    let mut more = left;
-    while 1 < more {
+    for _i in 1..left {
         let to = from + n;
         let end = write_row(top, &cells[from..to], out, at);
         at = write_gap(out, end);
         from = to;
-        more -= 1;
     }
     let to = from + n;
     write_row(top, &cells[from..to], out, at)

@@ -2,7 +2,7 @@
 use Prim.Native.Nat.{ℕ, ◌+◌, ◌-◌, ◌*◌, ◌/◌, ◌%◌, ◌≤◌, ◌<◌}
 use mathlib.Core.List.{List, [], ◌∷◌, ◌++◌, map, append_assoc, append-nil, map-append}
 use mathlib.Core.Path.{◌≡◌, refl, ap, sym, ◌∙◌}
-use native.Mathlib.Nat.{zero-mul, suc-mul, mul-le-mul_right}
+use native.Mathlib.Nat.{suc-mul, mul-le-mul_right}
 use native.Mathlib.Numerals.{add-one}
 use native.Mathlib.Omega.{arith}
 use lib.ListN.{length, get_or, take, drop, length-take}
@@ -203,8 +203,7 @@ pub part_more : (i count w : ℕ) → i < count → i * w + w ≤ count * w
 part_more i count w h = rw (← suc-mul i w) (mul-le-mul_right w h)
 
 -- the first i maps are written
-pub record MapsWritten (lent : List ℕ) (put n : ℕ) (maps out : List ℕ) (at from i : ℕ) : Type 0 where
-  pub place : from ≡ i * n
+pub record MapsWritten (lent : List ℕ) (put n : ℕ) (maps out : List ℕ) (at i : ℕ) : Type 0 where
   pub short : at ≤ put + i * (4 * n + 2)
   pub laid : Laid lent put (brackets_up_to n maps i) out at
 
@@ -214,25 +213,24 @@ pub record OneMore (n : ℕ) (maps out : List ℕ) (at from : ℕ) : Type 0 wher
   pub room : at + 4 * n + 3 ≤ length out
 
 module _ (lent : List ℕ) (put n : ℕ) (maps : List ℕ) where
-  pub maps_written_none : put ≤ length lent → MapsWritten lent put n maps lent put 0 0
+  pub maps_written_none : put ≤ length lent → MapsWritten lent put n maps lent put 0
   unfolding brackets_up_to up_to spaced_brackets
-  maps_written_none h = record { place = omega (arith, zero-mul n); short = omega arith; laid = laid_none lent put h }
+  maps_written_none h = record { short = omega arith; laid = laid_none lent put h }
 
-  module _ (out : List ℕ) (at from i : ℕ) (p : MapsWritten lent put n maps out at from i) where
-    pub maps_written_room : (count : ℕ) → i < count → put + count * (4 * n + 2) + 1 ≤ length lent → count * n ≤ length maps → OneMore n maps out at from
+  module _ (out : List ℕ) (at i : ℕ) (p : MapsWritten lent put n maps out at i) where
+    pub maps_written_room : (count : ℕ) → i < count → put + count * (4 * n + 2) + 1 ≤ length lent → count * n ≤ length maps → OneMore n maps out at (i * n)
     maps_written_room count h r s =
-        omega (arith, p.place, p.short, p.laid.long, part_more i count n h, part_more i count (4 * n + 2) h)
+        omega (arith, p.short, p.laid.long, part_more i count n h, part_more i count (4 * n + 2) h)
 
-    pub maps_written_more : (out' : List ℕ) (at' : ℕ) → Laid out at (spaced_brackets (take (from + n - from) (drop from maps) ∷ [])) out' at'
-        → at' ≤ at + 4 * length (take (from + n - from) (drop from maps)) + 2 → MapsWritten lent put n maps out' at' (from + n) (i + 1)
+    pub maps_written_more : (out' : List ℕ) (at' : ℕ) → Laid out at (spaced_brackets (take (i * n + n - i * n) (drop (i * n) maps) ∷ [])) out' at'
+        → at' ≤ at + 4 * length (take (i * n + n - i * n) (drop (i * n) maps)) + 2 → MapsWritten lent put n maps out' at' (i + 1)
     maps_written_more out' at' q s =
-        let e : from + n - from ≡ n = omega arith in
+        let e : i * n + n - i * n ≡ n = omega arith in
         record {
-          place = rw (add-one i, suc-mul i n) (omega (arith, p.place));
           short = rw (add-one i, suc-mul i (4 * n + 2)) (omega (arith, p.short, simp (e, length-take) at s));
           laid =
-              rw (brackets_next n maps i, ← p.place)
-              (laid_more lent put (brackets_up_to n maps i) out at (spaced_brackets (take n (drop from maps) ∷ [])) out' at' p.laid (rw e at q));
+              rw (brackets_next n maps i)
+              (laid_more lent put (brackets_up_to n maps i) out at (spaced_brackets (take n (drop (i * n) maps) ∷ [])) out' at' p.laid (rw e at q));
         }
 
     pub maps_written_all : (count : ℕ) → i ≤ count → count ≤ i → Laid lent put (spaced_brackets (map (stretch n maps) (up_to count))) out at

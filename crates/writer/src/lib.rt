@@ -26,15 +26,12 @@ pub fn write_word(word: &[u8], out: &mut [u8], put: usize) -> usize
     requires { put + length word.now ≤ length out.old }
     ensures { Laid out.old put word.now out.new result }
 {
-    let mut i = 0;
-    while i < word.len() {
-        out[put + i] = word[i];
-        i += 1;
-    }
-    put + i
+    let end = put + word.len();
+    out[put..end].copy_from_slice(word);
+    end
 }
 
-// A number in base ten.
+// A number in base ten. No Display: it goes into lent bytes, and there is no heap.
 pub fn write_number(v: u8, out: &mut [u8], put: usize) -> usize
     requires { put + 3 ≤ length out.old }
     ensures laid { Laid out.old put (decimal v) out.new result }
@@ -100,10 +97,8 @@ fn write_by_table(m: &[u8], digits: &[u8], out: &mut [u8], put: usize) -> usize
     ensures short { result ≤ put + 4 * length m.now }
 {
     let mut at = put;
-    let mut i = 0;
-    while i < m.len() {
-        at = write_small(m[i], digits, out, at);
-        i += 1;
+    for v in m {
+        at = write_small(*v, digits, out, at);
     }
     at
 }
@@ -127,10 +122,8 @@ fn write_numbers(m: &[u8], out: &mut [u8], put: usize) -> usize
     ensures short { result ≤ put + 4 * length m.now }
 {
     let mut at = put;
-    let mut i = 0;
-    while i < m.len() {
-        at = write_spaced_number(m[i], out, at);
-        i += 1;
+    for v in m {
+        at = write_spaced_number(*v, out, at);
     }
     at
 }

@@ -24,10 +24,8 @@ pub fn write_digits(m: &[u8], out: &mut [u8], put: usize) -> usize
     ensures short { result ≤ put + 4 * length m.now }
 {
     let mut at = put;
-    let mut i = 0;
-    while i < m.len() {
-        at = write_digit(m[i], out, at);
-        i += 1;
+    for v in m {
+        at = write_digit(*v, out, at);
     }
     at
 }

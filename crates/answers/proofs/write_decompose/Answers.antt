@@ -3,13 +3,13 @@ use Rattle.answers.proofs.Answering.{factors_room, line_of_factors, line_of_irre
 use Rattle.answers.proofs.write_decompose.Goals as goal
 
 pub write_factors-requires : goal.write_factors-requires
-write_factors-requires c = search factors_room
+write_factors-requires c = search (factors_room, c.in-Ok-Factors.is, c.in-Ok-Factors.field-0-is)
 
-pub returns-in-Factors : goal.returns-in-Factors
-returns-in-Factors c = search line_of_factors
+pub returns-in-Ok-Factors : goal.returns-in-Ok-Factors
+returns-in-Ok-Factors c = search (line_of_factors, c.in-Ok-Factors.is, c.in-Ok-Factors.field-0-is)
 
-pub returns-in-Irreducible : goal.returns-in-Irreducible
-returns-in-Irreducible c = search line_of_irreducible
+pub returns-in-Ok-Irreducible : goal.returns-in-Ok-Irreducible
+returns-in-Ok-Irreducible c = search (line_of_irreducible, c.in-Ok-Irreducible.is, c.in-Ok-Irreducible.field-0-is)
 
-pub returns-in-Refused : goal.returns-in-Refused
-returns-in-Refused c = search line_of_decompose_refused
+pub returns-in-Err : goal.returns-in-Err
+returns-in-Err c = search line_of_decompose_refused

@@ -2,8 +2,8 @@
 use Rattle.answers.proofs.Answering.{line_of_merges, line_of_generate_refused}
 use Rattle.answers.proofs.write_generate.Goals as goal
 
-pub returns-in-Merges : goal.returns-in-Merges
-returns-in-Merges c = search line_of_merges
+pub returns-in-Ok : goal.returns-in-Ok
+returns-in-Ok c = search line_of_merges
 
-pub returns-in-Refused : goal.returns-in-Refused
-returns-in-Refused c = search line_of_generate_refused
+pub returns-in-Err : goal.returns-in-Err
+returns-in-Err c = search line_of_generate_refused

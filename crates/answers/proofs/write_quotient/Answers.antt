@@ -5,8 +5,8 @@ use Rattle.answers.proofs.write_quotient.Goals as goal
 pub write_lines-requires : goal.write_lines-requires
 write_lines-requires c = search blocks_fit
 
-pub returns-in-Blocks : goal.returns-in-Blocks
-returns-in-Blocks c = search lines_of_blocks
+pub returns-in-Ok : goal.returns-in-Ok
+returns-in-Ok c = search lines_of_blocks
 
-pub returns-in-Refused : goal.returns-in-Refused
-returns-in-Refused c = search line_of_divide_refused
+pub returns-in-Err : goal.returns-in-Err
+returns-in-Err c = search line_of_divide_refused

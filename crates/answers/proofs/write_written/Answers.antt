@@ -2,8 +2,8 @@
 use Rattle.answers.proofs.Answering.{line_of_done, line_of_write_refused}
 use Rattle.answers.proofs.write_written.Goals as goal
 
-pub returns-in-Done : goal.returns-in-Done
-returns-in-Done c = search line_of_done
+pub returns-in-Ok : goal.returns-in-Ok
+returns-in-Ok c = search line_of_done
 
-pub returns-in-Refused : goal.returns-in-Refused
-returns-in-Refused c = search line_of_write_refused
+pub returns-in-Err : goal.returns-in-Err
+returns-in-Err c = search line_of_write_refused

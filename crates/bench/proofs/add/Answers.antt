@@ -5,9 +5,6 @@ use Rattle.bench.specs.Calls.{add_call}
 use Rattle.bench.proofs.Calling.{benched_failed}
 use Rattle.bench.proofs.add.Goals as goal
 
-pub extend-requires : goal.extend-requires
-extend-requires c = sym c.handed_check-check.ensures ∙ c.in-Passed.is
-
-pub returns-in-Failed : goal.returns-in-Failed
+pub returns-in-Err : goal.returns-in-Err
 unfolding add_call
-returns-in-Failed c = sym (benched_failed _ _ _ _ (lowest_failed _ _ _ (sym c.handed_check-check.ensures ∙ c.in-Failed.is)))
+returns-in-Err c = sym (benched_failed _ _ _ _ (lowest_failed _ _ _ (sym c.handed_check.ensures ∙ c.in-Err.is)))

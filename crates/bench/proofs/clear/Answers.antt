@@ -1,22 +1,14 @@
--- `bench::clear` meets its contract, by the laws of Testing: one for each return, and `clear_passed` for what the tests leave.
+-- `bench::clear` meets its contract, by what its tests found.
 use mathlib.Core.Path.{sym, ◌∙◌}
-use Rattle.bench.specs.Calls.{clear_call}
+use borrow.Author.Rules.{rules}
 use Rattle.benchtests.proofs.Testing.{clear_passed}
-use Rattle.bench.proofs.Calling.{benched_no, benched_yes}
+use Rattle.bench.specs.Calls.{clear_call}
+use Rattle.bench.proofs.Calling.{if_passed, benched_by}
 use Rattle.bench.proofs.clear.Goals as goal
 
-pub cleared-requires-clause-n_bound : goal.cleared-requires-clause-n_bound
-cleared-requires-clause-n_bound c = let p = clear_passed _ _ (sym c.clear_check-check.ensures ∙ c.in-Passed.is) in
-    p.most
+pub by-requires : goal.by-requires
+by-requires c = if_passed _ _ (λ e. let p = clear_passed _ _ (sym c.clear_check-check.ensures ∙ e) in search rules)
 
-pub cleared-requires-clause-k_bound : goal.cleared-requires-clause-k_bound
-cleared-requires-clause-k_bound c = let p = clear_passed _ _ (sym c.clear_check-check.ensures ∙ c.in-Passed.is) in
-    p.sheet
-
-pub returns-in-Failed : goal.returns-in-Failed
+pub returns : goal.returns
 unfolding clear_call
-returns-in-Failed c = search benched_no
-
-pub returns-in-Passed : goal.returns-in-Passed
-unfolding clear_call
-returns-in-Passed c = search benched_yes
+returns c = benched_by _ _ _ c.clear_check-check.ensures _ _ c.by.ensures.answer c.by.ensures.bench (λ p. search rules)

@@ -28,12 +28,6 @@ unfolding sheet_of
 extended-grown-requires-clause-y_lt_n c = let p = add_passed _ _ _ _ _ c.requires in
     p.placed.second
 
-pub raised-requires-clause-k_bound : goal.raised-requires-clause-k_bound
-raised-requires-clause-k_bound c = (add_passed _ _ _ _ _ c.requires).placed.sheet
-
-pub raised-requires-clause-lost_bound : goal.raised-requires-clause-lost_bound
-raised-requires-clause-lost_bound c = c.extended-grown.ensures.few
-
 pub returns : goal.returns
 unfolding sheet_of
 returns c = let old = c.nth-old.ensures.0 in

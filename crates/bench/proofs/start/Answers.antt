@@ -1,17 +1,14 @@
--- `bench::start` meets its contract, by the laws of Testing: one for each return.
+-- `bench::start` meets its contract, by what its test found.
 use mathlib.Core.Path.{sym, ◌∙◌}
-use Rattle.bench.specs.Calls.{start_call}
+use borrow.Author.Rules.{rules}
 use Rattle.benchtests.proofs.Testing.{start_passed}
-use Rattle.bench.proofs.Calling.{benched_no, benched_yes}
+use Rattle.bench.specs.Calls.{start_call}
+use Rattle.bench.proofs.Calling.{if_passed, benched_by}
 use Rattle.bench.proofs.start.Goals as goal
 
-pub fresh-requires : goal.fresh-requires
-fresh-requires c = start_passed _ (sym c.start_check-check.ensures ∙ c.in-Passed.is)
+pub by-requires : goal.by-requires
+by-requires c = if_passed _ _ (λ e. let p = start_passed _ (sym c.start_check-check.ensures ∙ e) in search rules)
 
-pub returns-in-Failed : goal.returns-in-Failed
+pub returns : goal.returns
 unfolding start_call
-returns-in-Failed c = search benched_no
-
-pub returns-in-Passed : goal.returns-in-Passed
-unfolding start_call
-returns-in-Passed c = search benched_yes
+returns c = rw (← c.zeros.ensures) (benched_by _ _ _ c.start_check-check.ensures _ _ c.by.ensures.answer c.by.ensures.bench (λ p. search rules))

@@ -8,12 +8,12 @@ use Rattle.benchtests.proofs.handed_check.Goals as goal
 
 pub place_check-requires : goal.place_check-requires
 unfolding Accepted
-place_check-requires c = (accepted_well_formed _ (sym c.check-check.ensures ∙ c.in-Passed.is)).most
+place_check-requires c = (accepted_well_formed _ (sym c.check.ensures ∙ c.in_ok-check.was)).most
 
-pub returns-in-Failed : goal.returns-in-Failed
+pub returns-in_err-check : goal.returns-in_err-check
 unfolding handed_tests
-returns-in-Failed c = search behind_failed
+returns-in_err-check c = search (behind_failed, c.in_err-check.was)
 
-pub returns-in-Passed : goal.returns-in-Passed
+pub returns : goal.returns
 unfolding handed_tests
-returns-in-Passed c = search behind_passed
+returns c = search (behind_passed, c.in_ok-check.was)

@@ -1,5 +1,6 @@
 -- `benchtests::start_check` is the test of reason 1, by the laws of the equivalence crate.
 use mathlib.Core.Path.{sym, ◌∙◌}
+use borrow.Author.Rules.{rules}
 use Rattle.equivalence.proofs.Refusals.{lowest_none, size_refused, size_passed}
 use Rattle.benchtests.proofs.start_check.Goals as goal
 
@@ -7,4 +8,4 @@ pub returns-then-not-is_size : goal.returns-then-not-is_size
 returns-then-not-is_size c = sym (search size_refused)
 
 pub returns : goal.returns
-returns c = sym (size_passed _ _ c.is_size.ensures c.if-not-is_size.false-raw ∙ lowest_none)
+returns c = sym (size_passed _ _ c.is_size.ensures (search rules) ∙ lowest_none)

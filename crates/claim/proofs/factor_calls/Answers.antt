@@ -3,10 +3,10 @@ use Rattle.claim.proofs.Claims.{quotient_given, calls_given, calls_declined}
 use Rattle.claim.proofs.factor_calls.Goals as goal
 
 pub decompose_front-requires : goal.decompose_front-requires
-decompose_front-requires c = search quotient_given
+decompose_front-requires c = rw c.from.ensures (search (quotient_given, c.in_ok-b.was))
 
-pub returns-in-Blocks : goal.returns-in-Blocks
-returns-in-Blocks c = search calls_given
+pub returns-in_err-b : goal.returns-in_err-b
+returns-in_err-b c = search (calls_declined, c.in_err-b.was)
 
-pub returns-in-Refused : goal.returns-in-Refused
-returns-in-Refused c = search calls_declined
+pub returns : goal.returns
+returns c = search (calls_given, c.in_ok-b.was, rw c.from.ensures at c.decompose_front.ensures)

@@ -1,27 +1,18 @@
 -- `separate`: a test declines, or the earliest congruence is written.
-use lib.ListN.{length}
-use Rattle.algebra.specs.Algebra.{algebra_of}
-use Rattle.algebra.proofs.Tested.{tests_passed}
-use Rattle.congruence.proofs.Serving.{of_separate_tests, separate_declined, separate_granted}
+use Rattle.algebra.proofs.Tested.{tests_passed, granted}
+use Rattle.congruence.specs.Calls.{separate_call}
+use Rattle.congruence.proofs.Serving.{of_separate_tests, declined_on}
 use Rattle.congruence.proofs.separate.Goals as goal
 
-pub returns-in-Failed : goal.returns-in-Failed
-returns-in-Failed c = search separate_declined
+pub returns-in_err-separate_check : goal.returns-in_err-separate_check
+unfolding separate_call
+returns-in_err-separate_check c = search (declined_on, c.in_err-separate_check.was)
 
-pub separated_into-requires-clause-accepted : goal.separated_into-requires-clause-accepted
-separated_into-requires-clause-accepted c = (of_separate_tests (algebra_of c.args.n c.args.arities.now c.args.cells.now) (length c.args.out.now) c.args.v c.args.w (search tests_passed)).0
-
-pub separated_into-requires-clause-v_lt_n : goal.separated_into-requires-clause-v_lt_n
-separated_into-requires-clause-v_lt_n c = (of_separate_tests (algebra_of c.args.n c.args.arities.now c.args.cells.now) (length c.args.out.now) c.args.v c.args.w (search tests_passed)).1.0
-
-pub separated_into-requires-clause-w_lt_n : goal.separated_into-requires-clause-w_lt_n
-separated_into-requires-clause-w_lt_n c = (of_separate_tests (algebra_of c.args.n c.args.arities.now c.args.cells.now) (length c.args.out.now) c.args.v c.args.w (search tests_passed)).1.1.0
-
-pub separated_into-requires-clause-fact : goal.separated_into-requires-clause-fact
-separated_into-requires-clause-fact c = (of_separate_tests (algebra_of c.args.n c.args.arities.now c.args.cells.now) (length c.args.out.now) c.args.v c.args.w (search tests_passed)).1.1.1.0
-
-pub separated_into-requires-clause-n_in_bounds : goal.separated_into-requires-clause-n_in_bounds
-separated_into-requires-clause-n_in_bounds c = (of_separate_tests (algebra_of c.args.n c.args.arities.now c.args.cells.now) (length c.args.out.now) c.args.v c.args.w (search tests_passed)).1.1.1.1
+pub separated_into-requires : goal.separated_into-requires
+separated_into-requires c =
+    let t = of_separate_tests _ _ _ _ (tests_passed _ c.in_ok-separate_check.was c.separate_check.ensures) in
+    record { accepted = t.0; v_lt_n = t.1.0; w_lt_n = t.1.1.0; fact = t.1.1.1.0; n_in_bounds = t.1.1.1.1 }
 
 pub returns : goal.returns
-returns c = search separate_granted
+unfolding separate_call
+returns c = search (granted, c.in_ok-separate_check.was)

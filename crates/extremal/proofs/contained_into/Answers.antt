@@ -1,18 +1,10 @@
 -- `contained_into`: the refined copy is the greatest congruence inside, by the laws of Bridges.
-use native.Mathlib.Omega.{arith}
 use Rattle.extremal.proofs.Bridges.{map_long, copied_canonical, contained_written}
 use borrow.Author.Rules.{rules}
 use Rattle.extremal.proofs.contained_into.Goals as goal
 
 pub copy-requires : goal.copy-requires
 copy-requires c = search (rules, map_long)
-
-pub refine-requires-clause-accepted : goal.refine-requires-clause-accepted
-refine-requires-clause-accepted c = c.requires.accepted
-
-pub refine-requires-clause-n_in_bounds : goal.refine-requires-clause-n_in_bounds
-refine-requires-clause-n_in_bounds c = let copy = c.copy in
-    omega (arith, copy.auto, c.requires.n_in_bounds)
 
 pub refine-requires-clause-canonical : goal.refine-requires-clause-canonical
 refine-requires-clause-canonical c = let copy = c.copy in

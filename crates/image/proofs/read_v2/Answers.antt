@@ -1,7 +1,11 @@
 -- `image::read_v2` meets its contract.
-use Rattle.image.specs.Image.{size_in, tally_in, bench_v2_in}
+use borrow.Author.Rules.{rules}
+use Rattle.oldbenches.specs.OldKinds.{no_sheet_v1}
+use Rattle.imagepart.proofs.Copies.{tabled_is}
+use Rattle.image.specs.Image.{size_in, tally_in, bench_v2_in, sheet_v1_in}
 use Rattle.image.proofs.read_v2.Goals as goal
 
 pub returns : goal.returns
-unfolding bench_v2_in size_in tally_in
-returns c = rw (c.read_sheets_v1-sheets.ensures, c.read_little-n.ensures.0, c.read_little-tally.ensures.0)
+unfolding size_in tally_in bench_v2_in
+returns c = let sheets = tabled_is _ (sheet_v1_in c.args.bytes.now) _ (λ q i y k. search rules) 8 _ c.from_fn-sheets.ensures.items no_sheet_v1 in
+    rw (sheets, c.read_little-n.ensures.0, c.read_little-tally.ensures.0)

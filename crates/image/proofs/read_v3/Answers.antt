@@ -1,7 +1,11 @@
 -- `image::read_v3` meets its contract.
-use Rattle.image.specs.Image.{size_in, tally_in, bench_v3_in}
+use borrow.Author.Rules.{rules}
+use Rattle.oldbenches.specs.OldKinds.{no_sheet_v3}
+use Rattle.imagepart.proofs.Copies.{tabled_is}
+use Rattle.image.specs.Image.{size_in, tally_in, bench_v3_in, sheet_v3_in}
 use Rattle.image.proofs.read_v3.Goals as goal
 
 pub returns : goal.returns
-unfolding bench_v3_in size_in tally_in
-returns c = rw (c.read_sheets_v3-sheets.ensures, c.read_little-n.ensures.0, c.read_little-tally.ensures.0)
+unfolding size_in tally_in bench_v3_in
+returns c = let sheets = tabled_is _ (sheet_v3_in 521 c.args.bytes.now) _ (λ q i y k. search rules) 8 _ c.from_fn-sheets.ensures.items no_sheet_v3 in
+    rw (sheets, c.read_little-n.ensures.0, c.read_little-tally.ensures.0)

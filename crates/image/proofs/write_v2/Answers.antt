@@ -1,6 +1,12 @@
 -- `image::write_v2` meets its contract.
+use mathlib.Core.List.{[]}
+use borrow.Author.Rules.{rules}
+use Rattle.oldbenches.specs.OldKinds.{no_sheet_v1}
+use Rattle.oldbenches.specs.declared.SheetV1.{SheetV1}
+use Rattle.benchsheets.proofs.BenchSheets.{mapped_is}
 use Rattle.image.proofs.Images.{image_v2_written}
 use Rattle.image.proofs.write_v2.Goals as goal
 
 pub returns : goal.returns
-returns c = search image_v2_written
+returns c = let maps = mapped_is _ (λ (s : SheetV1). s.map) _ c.args.bench.sheets _ 8 c.map-maps.ensures.items (search rules) no_sheet_v1 [] (λ p q x y k. search rules) in
+    search image_v2_written

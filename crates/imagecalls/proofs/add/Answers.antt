@@ -1,10 +1,9 @@
 -- `imagecalls::add` meets its contract.
-use native.Mathlib.Omega.{arith}
-use Rattle.imagecalls.proofs.Images.{image_other, image_called}
+use borrow.Author.Rules.{rules}
+use Rattle.algebra.specs.Algebra.{algebra_in}
+use Rattle.bench.specs.Calls.{add_call}
 use Rattle.imagecalls.proofs.add.Goals as goal
 
-pub returns-then-bytes-ne-LENGTH : goal.returns-then-bytes-ne-LENGTH
-returns-then-bytes-ne-LENGTH c = search (image_other, arith)
-
 pub returns : goal.returns
-returns c = search (image_called, arith)
+returns c = let a = c.args in
+    c.over_image.ensures (λ b. add_call b (algebra_in a.n a.arities a.cells) a.sheet a.x a.y) (λ b r k. search rules)

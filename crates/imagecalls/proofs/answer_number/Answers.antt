@@ -2,10 +2,10 @@
 use Rattle.bench.specs.Outcome.{answer_outcome}
 use Rattle.imagecalls.proofs.answer_number.Goals as goal
 
-pub returns-in-Done : goal.returns-in-Done
+pub returns-in-Ok : goal.returns-in-Ok
 unfolding answer_outcome
-returns-in-Done c = rw c.in-Done.is c.succeeded.ensures
+returns-in-Ok c = rw c.in-Ok.is c.succeeded.ensures
 
-pub returns-in-Refused : goal.returns-in-Refused
+pub returns-in-Err : goal.returns-in-Err
 unfolding answer_outcome
-returns-in-Refused c = rw c.in-Refused.is c.refused.ensures
+returns-in-Err c = rw c.in-Err.is c.refused.ensures

@@ -1,10 +1,7 @@
 -- `imagecalls::clear` meets its contract.
-use native.Mathlib.Omega.{arith}
-use Rattle.imagecalls.proofs.Images.{image_other, image_called}
+use borrow.Author.Rules.{rules}
+use Rattle.bench.specs.Calls.{clear_call}
 use Rattle.imagecalls.proofs.clear.Goals as goal
 
-pub returns-then-bytes-ne-LENGTH : goal.returns-then-bytes-ne-LENGTH
-returns-then-bytes-ne-LENGTH c = search (image_other, arith)
-
 pub returns : goal.returns
-returns c = search (image_called, arith)
+returns c = c.over_image.ensures (λ b. clear_call b c.args.sheet) (λ b r k. search rules)

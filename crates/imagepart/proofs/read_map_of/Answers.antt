@@ -4,4 +4,4 @@ use Rattle.imagepart.proofs.read_map_of.Goals as goal
 
 pub returns : goal.returns
 unfolding map_in
-returns c = c.read_map.ensures
+returns c = c.read_part.ensures

@@ -4,4 +4,4 @@ use Rattle.imagepart.proofs.read_point.Goals as goal
 
 pub returns : goal.returns
 unfolding place_in
-returns c = rw (c.read_name-name.ensures, c.read_map-map.ensures)
+returns c = rw (c.read_part-name.ensures, c.read_part-map.ensures)

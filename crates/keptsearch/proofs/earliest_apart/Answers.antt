@@ -1,26 +1,17 @@
--- `earliest_apart`: arrays are the room.
+-- `earliest_apart`: from the identity and one block through the rows.
+use mathlib.Core.Path.{◌∙◌}
+use Rattle.bounding.proofs.RowBounds.{bound_lent_start, whole_kept}
+use Rattle.keptsearch.proofs.KeptRows.{kept_start}
 use Rattle.keptsearch.proofs.earliest_apart.Goals as goal
 
-pub earliest_apart_in-requires-clause-keeping : goal.earliest_apart_in-requires-clause-keeping
-earliest_apart_in-requires-clause-keeping c = let p = c.requires in
-    p.keeping
+pub settle_rows-requires-clause-kept_standing : goal.settle_rows-requires-clause-kept_standing
+settle_rows-requires-clause-kept_standing c = let p = c.requires in
+    let i = c.fresh-m.ensures in
+    kept_start p.accepted i.room p.v_lt_n p.w_lt_n p.fact i.own
 
-pub earliest_apart_in-requires-clause-accepted : goal.earliest_apart_in-requires-clause-accepted
-earliest_apart_in-requires-clause-accepted c = let p = c.requires in
-    p.accepted
+pub settle_rows-requires-clause-bound_lent : goal.settle_rows-requires-clause-bound_lent
+settle_rows-requires-clause-bound_lent c = bound_lent_start c.requires.accepted _ _ c.requires.n_in_bounds c.whole_into.auto.m c.whole_into.ensures
 
-pub earliest_apart_in-requires-clause-x_lt_n : goal.earliest_apart_in-requires-clause-x_lt_n
-earliest_apart_in-requires-clause-x_lt_n c = let p = c.requires in
-    p.v_lt_n
-
-pub earliest_apart_in-requires-clause-y_lt_n : goal.earliest_apart_in-requires-clause-y_lt_n
-earliest_apart_in-requires-clause-y_lt_n c = let p = c.requires in
-    p.w_lt_n
-
-pub earliest_apart_in-requires-clause-n_in_bounds : goal.earliest_apart_in-requires-clause-n_in_bounds
-earliest_apart_in-requires-clause-n_in_bounds c = let p = c.requires in
-    p.n_in_bounds
-
-pub earliest_apart_in-requires-clause-fact : goal.earliest_apart_in-requires-clause-fact
-earliest_apart_in-requires-clause-fact c = let p = c.requires in
-    p.fact
+pub returns-clause-kept_past : goal.returns-clause-kept_past
+returns-clause-kept_past c = let s = c.settle_rows.ensures in
+    λ z l. s.kept_past z l ∙ whole_kept _ _ _ c.requires.n_in_bounds c.whole_into.ensures z l

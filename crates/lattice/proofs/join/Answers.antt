@@ -3,30 +3,15 @@ use Rattle.lattice.specs.Calls.{join_call}
 use Rattle.lattice.proofs.Calls.{two_maps_writable, two_maps_refused, two_maps_done}
 use Rattle.lattice.proofs.join.Goals as goal
 
-pub returns-in-Failed : goal.returns-in-Failed
+pub returns-in_err-maps_space_check : goal.returns-in_err-maps_space_check
 unfolding join_call
-returns-in-Failed c = search two_maps_refused
+returns-in_err-maps_space_check c = search (two_maps_refused, c.in_err-maps_space_check.was)
 
-pub join_into-requires-clause-n_in_bounds : goal.join_into-requires-clause-n_in_bounds
-join_into-requires-clause-n_in_bounds c = let w = two_maps_writable _ _ _ _ c.maps_space_check-check.ensures c.in_default.is in
-    w.first
-
-pub join_into-requires-clause-n_in_bounds_2 : goal.join_into-requires-clause-n_in_bounds_2
-join_into-requires-clause-n_in_bounds_2 c = let w = two_maps_writable _ _ _ _ c.maps_space_check-check.ensures c.in_default.is in
-    w.second
-
-pub join_into-requires-clause-n_in_bounds_3 : goal.join_into-requires-clause-n_in_bounds_3
-join_into-requires-clause-n_in_bounds_3 c = let w = two_maps_writable _ _ _ _ c.maps_space_check-check.ensures c.in_default.is in
-    w.room
-
-pub join_into-requires-clause-canonical : goal.join_into-requires-clause-canonical
-join_into-requires-clause-canonical c = let w = two_maps_writable _ _ _ _ c.maps_space_check-check.ensures c.in_default.is in
-    w.names
-
-pub join_into-requires-clause-canonical_2 : goal.join_into-requires-clause-canonical_2
-join_into-requires-clause-canonical_2 c = let w = two_maps_writable _ _ _ _ c.maps_space_check-check.ensures c.in_default.is in
-    w.others
+pub join_into-requires : goal.join_into-requires
+join_into-requires c =
+    let w = two_maps_writable _ _ _ _ c.maps_space_check.ensures c.in_ok-maps_space_check.was in
+    record { n_in_bounds = w.first; n_in_bounds_2 = w.second; n_in_bounds_3 = w.room; canonical = w.names; canonical_2 = w.others }
 
 pub returns : goal.returns
 unfolding join_call
-returns c = search two_maps_done
+returns c = search (two_maps_done, c.in_ok-maps_space_check.was)

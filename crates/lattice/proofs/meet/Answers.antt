@@ -3,34 +3,15 @@ use Rattle.lattice.specs.Calls.{meet_call}
 use Rattle.lattice.proofs.Calls.{two_maps_writable, two_maps_refused, two_maps_done}
 use Rattle.lattice.proofs.meet.Goals as goal
 
-pub returns-in-Failed : goal.returns-in-Failed
+pub returns-in_err-maps_space_check : goal.returns-in_err-maps_space_check
 unfolding meet_call
-returns-in-Failed c = search two_maps_refused
+returns-in_err-maps_space_check c = search (two_maps_refused, c.in_err-maps_space_check.was)
 
-pub meet_into-requires-clause-n_bound : goal.meet_into-requires-clause-n_bound
-meet_into-requires-clause-n_bound c = let w = two_maps_writable _ _ _ _ c.maps_space_check-check.ensures c.in_default.is in
-    w.small
-
-pub meet_into-requires-clause-n_in_bounds : goal.meet_into-requires-clause-n_in_bounds
-meet_into-requires-clause-n_in_bounds c = let w = two_maps_writable _ _ _ _ c.maps_space_check-check.ensures c.in_default.is in
-    w.first
-
-pub meet_into-requires-clause-n_in_bounds_2 : goal.meet_into-requires-clause-n_in_bounds_2
-meet_into-requires-clause-n_in_bounds_2 c = let w = two_maps_writable _ _ _ _ c.maps_space_check-check.ensures c.in_default.is in
-    w.second
-
-pub meet_into-requires-clause-out_room : goal.meet_into-requires-clause-out_room
-meet_into-requires-clause-out_room c = let w = two_maps_writable _ _ _ _ c.maps_space_check-check.ensures c.in_default.is in
-    w.room
-
-pub meet_into-requires-clause-canonical : goal.meet_into-requires-clause-canonical
-meet_into-requires-clause-canonical c = let w = two_maps_writable _ _ _ _ c.maps_space_check-check.ensures c.in_default.is in
-    w.names
-
-pub meet_into-requires-clause-canonical_2 : goal.meet_into-requires-clause-canonical_2
-meet_into-requires-clause-canonical_2 c = let w = two_maps_writable _ _ _ _ c.maps_space_check-check.ensures c.in_default.is in
-    w.others
+pub meet_into-requires : goal.meet_into-requires
+meet_into-requires c =
+    let w = two_maps_writable _ _ _ _ c.maps_space_check.ensures c.in_ok-maps_space_check.was in
+    record { n_bound = w.small; n_in_bounds = w.first; n_in_bounds_2 = w.second; out_room = w.room; canonical = w.names; canonical_2 = w.others }
 
 pub returns : goal.returns
 unfolding meet_call
-returns c = search two_maps_done
+returns c = search (two_maps_done, c.in_ok-maps_space_check.was)

@@ -5,8 +5,8 @@ use Rattle.numberreader.proofs.begins_with.Goals as goal
 pub loop-i-init : goal.loop-i-init
 loop-i-init c = search matched_none
 
-pub returns-then-byte_at-word : goal.returns-then-byte_at-word
-returns-then-byte_at-word c = search matched_not
+pub returns-then-byte_at-b : goal.returns-then-byte_at-b
+returns-then-byte_at-b c = search matched_not
 
 pub loop-i-preserved : goal.loop-i-preserved
 loop-i-preserved c = search matched_more

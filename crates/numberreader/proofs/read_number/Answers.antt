@@ -1,5 +1,5 @@
 -- `numberreader::read_number` meets its contract, by the laws of Digits.
-use Prim.Native.Nat.{◌≤◌}
+use Prim.Native.Nat.{◌+◌, ◌-◌, ◌*◌, ◌≤◌, ◌<◌}
 use native.Mathlib.Omega.{arith}
 use Rattle.numberreader.proofs.Digits.{digit_low, digit_high, no_digit, one_digit, digit_zero, two_digits, too_large, three_digits}
 use Rattle.numberreader.proofs.read_number.Goals as goal
@@ -33,11 +33,15 @@ overflow_add-two c = let h : c.byte_at-a.result ≤ 57 = search digit_high in
 pub returns-then-not-is_digit-3 : goal.returns-then-not-is_digit-3
 returns-then-not-is_digit-3 c = search two_digits
 
-pub overflow_sub-three : goal.overflow_sub-three
-overflow_sub-three c = search digit_low
+pub overflow_sub-c : goal.overflow_sub-c
+overflow_sub-c c = search digit_low
 
 pub returns-then-three-gt-MAX_NUMBER : goal.returns-then-three-gt-MAX_NUMBER
-returns-then-three-gt-MAX_NUMBER c = search too_large
+returns-then-three-gt-MAX_NUMBER c =
+    let h : 255 < 10 * (10 * (c.byte_at-a.result - 48) + (c.byte_at-b.result - 48)) + (c.byte_at-c.result - 48) = omega arith in
+    search too_large
 
 pub returns : goal.returns
-returns c = search three_digits
+returns c =
+    let h : 10 * (10 * (c.byte_at-a.result - 48) + (c.byte_at-b.result - 48)) + (c.byte_at-c.result - 48) ≤ 255 = omega arith in
+    rw (c.from.ensures, c.from-2.ensures) (search three_digits)

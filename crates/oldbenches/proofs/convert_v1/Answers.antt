@@ -1,9 +1,9 @@
--- `oldbenches::convert_v1` meets its contract, by the laws of OldConversions: one for each return.
-use Rattle.oldbenches.proofs.OldConversions.{first_no, first_yes}
+-- `oldbenches::convert_v1` meets its contract, by what its tests found.
+use borrow.Author.Rules.{rules}
+use Rattle.bench.proofs.Calling.{benched_by}
+use Rattle.oldbenches.specs.OldKinds.{convert_v1_call}
 use Rattle.oldbenches.proofs.convert_v1.Goals as goal
 
-pub returns-in-Failed : goal.returns-in-Failed
-returns-in-Failed c = search first_no
-
-pub returns-in-Passed : goal.returns-in-Passed
-returns-in-Passed c = search first_yes
+pub returns : goal.returns
+unfolding convert_v1_call
+returns c = rw (← c.zeros_v2.ensures) (benched_by _ _ _ c.convert_check-check.ensures _ _ c.by.ensures.answer c.by.ensures.bench (λ p. search rules))

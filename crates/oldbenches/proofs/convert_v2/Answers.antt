@@ -1,9 +1,9 @@
--- `oldbenches::convert_v2` meets its contract, by the laws of OldConversions: one for each return.
-use Rattle.oldbenches.proofs.OldConversions.{second_no, second_yes}
+-- `oldbenches::convert_v2` meets its contract, by what its tests found.
+use borrow.Author.Rules.{rules}
+use Rattle.bench.proofs.Calling.{benched_by}
+use Rattle.oldbenches.specs.OldKinds.{convert_v2_call}
 use Rattle.oldbenches.proofs.convert_v2.Goals as goal
 
-pub returns-in-Failed : goal.returns-in-Failed
-returns-in-Failed c = search second_no
-
-pub returns-in-Passed : goal.returns-in-Passed
-returns-in-Passed c = search second_yes
+pub returns : goal.returns
+unfolding convert_v2_call
+returns c = rw (← c.zeros_v3.ensures) (benched_by _ _ _ c.convert_check-check.ensures _ _ c.by.ensures.answer c.by.ensures.bench (λ p. search rules))

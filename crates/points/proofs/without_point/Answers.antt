@@ -7,8 +7,8 @@ use Rattle.points.proofs.without_point.Goals as goal
 pub overflow_sub-last : goal.overflow_sub-last
 overflow_sub-last c = omega (arith, (held_place _ _ c.requires.t).0)
 
-pub bounds-next-place : goal.bounds-next-place
-bounds-next-place c = let k = c in
+pub bounds-sheet-place : goal.bounds-sheet-place
+bounds-sheet-place c = let k = c in
     omega (arith, (held_place _ _ k.requires.t).0, k.place_named-place.ensures.0, k.requires.count_bound)
 
 pub returns : goal.returns

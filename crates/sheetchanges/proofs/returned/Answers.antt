@@ -1,5 +1,4 @@
 -- `sheetchanges::returned` meets its contract.
-use native.Mathlib.Omega.{arith}
 use Rattle.benchsheets.specs.State.{with_map, sheet_of}
 use Rattle.benchtests.proofs.Testing.{known_passed}
 use Rattle.sheetchanges.proofs.returned.Goals as goal
@@ -11,9 +10,6 @@ pub returned-new-requires : goal.returned-new-requires
 unfolding sheet_of
 returned-new-requires c = let p = known_passed _ _ _ c.requires in
     rw c.nth-old.ensures.0 (record { n_bound = p.0.most; count_bound = (p.0.faultless.sheets _ c.nth-old.ensures.1).few; t = p.1 })
-
-pub with_sheet-requires : goal.with_sheet-requires
-with_sheet-requires c = omega (arith, (known_passed _ _ _ c.requires).0.sheet)
 
 pub returns : goal.returns
 unfolding with_map sheet_of

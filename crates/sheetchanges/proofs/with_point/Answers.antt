@@ -1,5 +1,4 @@
 -- `sheetchanges::with_point` meets its contract.
-use native.Mathlib.Omega.{arith}
 use Rattle.sheet.proofs.Storing.{place_room}
 use Rattle.benchsheets.specs.State.{sheet_of}
 use Rattle.benchtests.proofs.Testing.{set_passed}
@@ -13,10 +12,3 @@ unfolding sheet_of
 with_point-new-requires c = let p = set_passed _ _ _ c.requires in
     let s = p.0.faultless.sheets _ c.nth-old.ensures.1 in
     rw c.nth-old.ensures.0 (record { count_bound = s.few; sheet_bound = place_room _ _ s.few p.1 })
-
-pub with_sheet-requires : goal.with_sheet-requires
-with_sheet-requires c = omega (arith, (set_passed _ _ _ c.requires).0.sheet)
-
-pub returns : goal.returns
-unfolding sheet_of
-returns c = rw (c.with_sheet.ensures, c.with_point-new.ensures, c.nth-old.ensures.0)

@@ -1,5 +1,4 @@
 -- `sheetchanges::without_point` meets its contract.
-use native.Mathlib.Omega.{arith}
 use Rattle.benchsheets.specs.State.{sheet_of}
 use Rattle.benchtests.proofs.Testing.{known_passed}
 use Rattle.sheetchanges.proofs.without_point.Goals as goal
@@ -11,10 +10,3 @@ pub without_point-new-requires : goal.without_point-new-requires
 unfolding sheet_of
 without_point-new-requires c = let p = known_passed _ _ _ c.requires in
     rw c.nth-old.ensures.0 (record { count_bound = (p.0.faultless.sheets _ c.nth-old.ensures.1).few; t = p.1 })
-
-pub with_sheet-requires : goal.with_sheet-requires
-with_sheet-requires c = omega (arith, (known_passed _ _ _ c.requires).0.sheet)
-
-pub returns : goal.returns
-unfolding sheet_of
-returns c = rw (c.with_sheet.ensures, c.without_point-new.ensures, c.nth-old.ensures.0)

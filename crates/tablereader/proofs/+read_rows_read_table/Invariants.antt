@@ -11,10 +11,7 @@ decreases-read_rows l = 2 * l.arity
 abbrev pub decreases-read_table : goal.decreases-read_table
 decreases-read_table l = 2 * l.arity + 1
 
-abbrev pub invariant-read_rows-loop-more : goal.invariant-read_rows-loop-more
-invariant-read_rows-loop-more l =
-    RowsRead l.text l.at l.initial.cells l.put (table l.n (l.arity - 1)) l.n l.cells l.more l.next l.so_far
-    × RoomFor (l.more * l.n ^ (l.arity - 1)) l.text l.next l.cells l.so_far
-
-abbrev pub decreases-read_rows-loop-more : goal.decreases-read_rows-loop-more
-decreases-read_rows-loop-more l = l.more
+abbrev pub invariant-read_rows-loop-i : goal.invariant-read_rows-loop-i
+invariant-read_rows-loop-i l =
+    RowsRead l.text l.initial.here.at l.initial.cells l.initial.here.put (table l.n (l.arity - 1)) l.n l.cells (l.n + 1 - l._i) l.here.at l.here.put
+    × RoomFor ((l.n + 1 - l._i) * l.n ^ (l.arity - 1)) l.text l.here.at l.cells l.here.put

@@ -4,14 +4,14 @@ use Rattle.writer.proofs.Lengths.{next_room}
 use Rattle.writer.proofs.Bounds.{each_below}
 use Rattle.writer.proofs.write_by_table.Goals as goal
 
-pub loop-i-init : goal.loop-i-init
-loop-i-init c = search spaced_start
+pub loop-v-init : goal.loop-v-init
+loop-v-init c = search spaced_start
 
 pub write_small-at-requires-clause-v_bound : goal.write_small-at-requires-clause-v_bound
 write_small-at-requires-clause-v_bound c = (search each_below, search next_room)
 
-pub loop-i-preserved : goal.loop-i-preserved
-loop-i-preserved c = search spaced_more
+pub loop-v-preserved : goal.loop-v-preserved
+loop-v-preserved c = search spaced_more
 
 pub returns-clause-laid_open : goal.returns-clause-laid_open
 returns-clause-laid_open c = search spaced_all

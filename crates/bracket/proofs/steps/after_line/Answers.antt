@@ -2,8 +2,8 @@
 use Rattle.bracket.proofs.Stepping.{line_refused, line_accepted}
 use Rattle.bracket.proofs.steps.after_line.Goals as goal
 
-pub returns-in-Failed : goal.returns-in-Failed
-returns-in-Failed c = search line_refused
+pub returns-in-Ok : goal.returns-in-Ok
+returns-in-Ok c = search line_accepted
 
-pub returns : goal.returns
-returns c = search line_accepted
+pub returns-in-Err : goal.returns-in-Err
+returns-in-Err c = search line_refused

@@ -6,4 +6,4 @@ pub returns-then-text-gt-TEXT_LIMIT : goal.returns-then-text-gt-TEXT_LIMIT
 returns-then-text-gt-TEXT_LIMIT c = search first_too_long
 
 pub returns : goal.returns
-returns c = search first_taken
+returns c = first_taken _ _ _ _ _ _ c.if-text-gt-TEXT_LIMIT.false c.requires.sound c.take_size_line-line.ensures c.after_line.ensures

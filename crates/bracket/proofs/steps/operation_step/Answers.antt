@@ -9,7 +9,7 @@ pub after_line-requires : goal.after_line-requires
 after_line-requires c = search room_for_refusal
 
 pub returns-clause-step_in : goal.returns-clause-step_in
-returns-clause-step_in c = search operation_stepped
+returns-clause-step_in c = operation_stepped _ _ _ _ _ _ _ _ _ _ c.take_operation_line-line.ensures c.after_line.ensures c.requires.sound
 
 pub returns-clause-kept : goal.returns-clause-kept
-returns-clause-kept c = search operation_keeps
+returns-clause-kept c = operation_keeps _ _ _ _ _ _ _ _ _ _ c.take_operation_line-line.ensures c.after_line.ensures

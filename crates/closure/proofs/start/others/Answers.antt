@@ -1,5 +1,5 @@
 -- `others`: the elements passed that are no names are collected.
-use mathlib.Core.Path.{◌≡◌, refl, ◌∙◌}
+use mathlib.Core.Path.{refl, ◌∙◌}
 use mathlib.Core.Bool.{not}
 use native.Mathlib.Omega.{arith}
 use lib.Dec.{eqb}
@@ -8,16 +8,10 @@ use Rattle.equivalence.specs.Equivalence.{byte}
 use Rattle.closure.proofs.start.others.Goals as goal
 
 pub loop-x-init : goal.loop-x-init
-loop-x-init c = (omega arith, refl, collected_none (λ z. not (eqb (byte c.args.m.now z) z)) (byte c.args.out.now))
-
-pub overflow_cast-m : goal.overflow_cast-m
-overflow_cast-m c = omega (arith, c.shared_slice_known-in-loop-x-1.given c.loop-x.x)
+loop-x-init c = (refl, collected_none (λ z. not (eqb (byte c.args.m.now z) z)) (byte c.args.out.now))
 
 pub push-len-requires : goal.push-len-requires
-push-len-requires c = omega (arith, collected_most c.loop-x.invariant.2)
+push-len-requires c = omega (arith, collected_most c.loop-x.invariant.1)
 
 pub loop-x-preserved : goal.loop-x-preserved
-loop-x-preserved c = (omega arith, c.push-len.auto.out ∙ c.loop-x.invariant.1, collected_more (λ z. not (eqb (byte c.args.m.now z) z)) c.loop-x.invariant.2 c.push-len.ensures)
-
-pub returns : goal.returns
-returns c = let e : c.loop-x.x ≡ c.args.n = omega arith in rw e at c.loop-x.invariant.2
+loop-x-preserved c = (c.push-len.auto.out ∙ c.loop-x.invariant.0, collected_more (λ z. not (eqb (byte c.args.m.now z) z)) c.loop-x.invariant.1 c.push-len.ensures)

@@ -1,5 +1,4 @@
 -- `others`: the elements passed that are no names are collected.
-use Prim.Native.Nat.{◌-◌, ◌≤◌}
 use mathlib.Core.Path.{◌≡◌}
 use mathlib.Core.Bool.{not}
 use lib.ListN.{length}
@@ -9,7 +8,4 @@ use Rattle.equivalence.specs.Equivalence.{byte}
 use Rattle.closure.proofs.start.others.Given as goal
 
 abbrev pub invariant-loop-x : goal.invariant-loop-x
-invariant-loop-x l = (l.x ≤ l.n) × (length l.out ≡ length l.initial.out) × Collected (λ z. not (eqb (byte l.m z) z)) l.x (byte l.out) l.len
-
-abbrev pub decreases-loop-x : goal.decreases-loop-x
-decreases-loop-x l = l.n - l.x
+invariant-loop-x l = (length l.out ≡ length l.initial.out) × Collected (λ z. not (eqb (byte l.m z) z)) l.x (byte l.out) l.len

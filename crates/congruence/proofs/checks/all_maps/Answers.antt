@@ -1,25 +1,22 @@
--- `all_maps`: the laws of `Tested` start, keep and end the loop.
+-- `all_maps`: the laws of `Turns` start, keep and end the loop.
 use native.Mathlib.Omega.{arith}
-use Rattle.maplist.proofs.ListTests.{tested_none, tested_all, tested_fits, tested_fails, tested_more}
+use Rattle.certification.proofs.Turns.{turns_begin, turns_end, turn_fits, turn_fails, turn_passes}
 use Rattle.congruence.proofs.checks.all_maps.Goals as goal
 
 pub loop-i-init : goal.loop-i-init
-loop-i-init c = search tested_none
+loop-i-init c = search turns_begin
 
-pub overflow_add-next : goal.overflow_add-next
-overflow_add-next c = omega (arith, tested_fits c.loop-i.invariant c.loop-i-test.true)
-
-pub slice_bounds-is_map-start : goal.slice_bounds-is_map-start
-slice_bounds-is_map-start c = omega (arith, tested_fits c.loop-i.invariant c.loop-i-test.true)
+pub overflow_add-at : goal.overflow_add-at
+overflow_add-at c = omega (arith, turn_fits c.loop-i.invariant c.loop-i-test.true)
 
 pub slice_bounds-is_map-end : goal.slice_bounds-is_map-end
-slice_bounds-is_map-end c = omega (arith, tested_fits c.loop-i.invariant c.loop-i-test.true)
+slice_bounds-is_map-end c = omega (arith, turn_fits c.loop-i.invariant c.loop-i-test.true)
 
 pub returns-then-not-is_map : goal.returns-then-not-is_map
-returns-then-not-is_map c = search tested_fails
+returns-then-not-is_map c = search turn_fails
 
 pub loop-i-preserved : goal.loop-i-preserved
-loop-i-preserved c = search tested_more
+loop-i-preserved c = search turn_passes
 
 pub returns : goal.returns
-returns c = search tested_all
+returns c = search turns_end

@@ -10,11 +10,5 @@ use Rattle.congruence.proofs.checks.quotient_cells.Goals as goal
 pub cell_count-requires-clause-n_bound : goal.cell_count-requires-clause-n_bound
 cell_count-requires-clause-n_bound c = omega (arith, c.block_count.ensures, names_le c.args.n (byte c.args.map.now))
 
-pub cell_count-requires-clause-arities_len_bound : goal.cell_count-requires-clause-arities_len_bound
-cell_count-requires-clause-arities_len_bound c = c.requires.arities_len_bound
-
-pub cell_count-requires-clause-by_index : goal.cell_count-requires-clause-by_index
-cell_count-requires-clause-by_index c = c.requires.by_index
-
 pub returns : goal.returns
 returns c = c.cell_count.ensures ∙ ap (λ (b : ℕ). cell_count b c.args.arities.now) (c.block_count.ensures ∙ names_blocks _ _)

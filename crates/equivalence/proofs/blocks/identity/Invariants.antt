@@ -1,13 +1,6 @@
--- `identity` meets its contract. The loop has filled the first i bytes (`Filled`), by the laws of the kernel crate.
-use Prim.Native.Nat.{◌≤◌, ◌-◌}
-use mathlib.Core.Path.{◌≡◌}
-use lib.ListN.{length}
-use Rattle.equivalence.specs.Equivalence.{byte}
-use Rattle.kernel.specs.InnerKernel.{Filled}
+-- `identity` meets its contract. The first x bytes are their own elements.
+use Rattle.std.proofs.Common.{◌≡◌, ℕ, ◌<◌, get_or}
 use Rattle.equivalence.proofs.blocks.identity.Given as goal
 
-abbrev pub invariant-loop-i : goal.invariant-loop-i
-invariant-loop-i l = (l.i ≤ l.n) × (length l.m ≡ length l.initial.m) × Filled l.i (λ x. x) (byte l.initial.m) (byte l.m)
-
-abbrev pub decreases-loop-i : goal.decreases-loop-i
-decreases-loop-i l = l.n - l.i
+abbrev pub invariant-loop-x : goal.invariant-loop-x
+invariant-loop-x l = (k : ℕ) → k < l.x → get_or l.name-items k 0 ≡ k

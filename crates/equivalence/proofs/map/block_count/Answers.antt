@@ -1,22 +1,17 @@
 -- `block_count` meets its contract. The loop has counted the names below x, by the laws of Bytes.
-use mathlib.Core.Path.{refl}
-use native.Mathlib.Omega.{arith}
-use borrow.Author.Rules.{rules}
+use Rattle.std.proofs.Common.{◌+◌, arith, refl}
 use Rattle.equivalence.specs.Equivalence.{byte}
 use Rattle.kernel.specs.InnerKernel.{names}
-use Rattle.equivalence.proofs.Bytes.{counted_more, counted_most, counted_all}
+use Rattle.equivalence.proofs.Bytes.{names_more}
+use Rattle.kernel.proofs.Names.{names_most}
 use Rattle.equivalence.proofs.map.block_count.Goals as goal
 
 pub loop-x-init : goal.loop-x-init
 unfolding names
-loop-x-init c = (search rules, refl)
+loop-x-init c = refl
 
 pub overflow_add-count : goal.overflow_add-count
-overflow_add-count c = let l = c in
-    omega (arith, counted_most l.loop-x.x (byte l.args.m.now) l.loop-x.invariant.1 c.self_named-count.ensures)
+overflow_add-count c = omega (arith, names_more c.loop-x.x (byte c.args.m.now), names_most (c.loop-x.x + 1) (byte c.args.m.now))
 
 pub loop-x-preserved : goal.loop-x-preserved
-loop-x-preserved c = (search rules, search counted_more)
-
-pub returns : goal.returns
-returns c = search counted_all
+loop-x-preserved c = omega (arith, names_more c.loop-x.x (byte c.args.m.now))

@@ -1,21 +1,9 @@
--- `is_identity` meets its contract. Every element below x is its own name; the laws of Bytes turn that into the test.
-use native.Mathlib.Omega.{arith}
-use borrow.Author.Rules.{rules}
-use borrow.Author.Count.{below_none, below_more}
-use Rattle.equivalence.proofs.Bytes.{is_identity_all, is_identity_not}
+-- `is_identity` meets its contract, by the laws of Passes and Bytes.
+use Rattle.std.proofs.Common.{rules, refl, ◌∙◌}
+use borrow.Author.Tests.{tests}
+use Rattle.equivalence.proofs.Bytes.{alone, is_identity_each}
+use Rattle.equivalence.proofs.Passes.{all_up_to}
 use Rattle.equivalence.proofs.map.is_identity.Goals as goal
 
-pub loop-x-init : goal.loop-x-init
-loop-x-init c = (search rules, below_none _)
-
-pub overflow_cast-m : goal.overflow_cast-m
-overflow_cast-m c = omega (arith, c.shared_slice_known-1.given c.loop-x.x)
-
-pub returns-then-m-x : goal.returns-then-m-x
-returns-then-m-x c = search is_identity_not
-
-pub loop-x-preserved : goal.loop-x-preserved
-loop-x-preserved c = (search rules, below_more _ _ c.loop-x.invariant.1 c.if-m-x.false)
-
 pub returns : goal.returns
-returns c = search is_identity_all
+returns c = all_up_to (alone c.args.n c.args.m.now c.requires.canonical) c.args.n c.all.ensures.ran refl (λ x b q k. search (rules, tests)) ∙ is_identity_each _ _ c.requires.canonical

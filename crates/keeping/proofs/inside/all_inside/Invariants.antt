@@ -1,12 +1,8 @@
 -- `all_inside`: the laws of `Insides` keep and end the loop.
-use Prim.Native.Nat.{◌-◌, ◌≤◌}
 use Rattle.equivalence.specs.Equivalence.{byte}
 use Rattle.algebra.specs.Algebra.{algebra_of}
 use Rattle.keeping.specs.InnerInside.{Testing}
 use Rattle.keeping.proofs.inside.all_inside.Given as goal
 
 abbrev pub invariant-loop-i : goal.invariant-loop-i
-invariant-loop-i l = (l.i ≤ l.count) × Testing (algebra_of l.n l.arities l.cells) l.names l.i (byte l.up) l.maps l.marks l.last
-
-abbrev pub decreases-loop-i : goal.decreases-loop-i
-decreases-loop-i l = l.count - l.i
+invariant-loop-i l = Testing (algebra_of l.n l.arities l.cells) l.names l.i (byte l.up) l.maps l.marks l.last

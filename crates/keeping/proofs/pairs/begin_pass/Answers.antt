@@ -2,8 +2,8 @@
 use Rattle.keeping.proofs.Keepings.{fresh_ready, pass_started}
 use Rattle.keeping.proofs.pairs.begin_pass.Goals as goal
 
-pub merge_queued-requires-clause-ready : goal.merge_queued-requires-clause-ready
-merge_queued-requires-clause-ready c = search fresh_ready
+pub merge-requires-clause-ready : goal.merge-requires-clause-ready
+merge-requires-clause-ready c = search fresh_ready
 
 pub returns : goal.returns
 returns c = search pass_started

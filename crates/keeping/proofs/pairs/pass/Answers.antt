@@ -1,12 +1,14 @@
 -- `pass`: x and y joined, and then their images with all elements as contexts.
-use Rattle.keeping.proofs.Keepings.{start_sweeping, all_contexts, pass_made}
+use Rattle.algebra.specs.Algebra.{algebra_of}
+use Rattle.algebra.proofs.Accepted.{accepted_well_formed}
+use Rattle.keeping.proofs.Keepings.{all_contexts, pass_made}
 use Rattle.keeping.proofs.pairs.pass.Goals as goal
 
-pub operations-requires-clause-sweeping : goal.operations-requires-clause-sweeping
-operations-requires-clause-sweeping c = search start_sweeping
+pub begin_pass-merging-requires-clause-n_bound : goal.begin_pass-merging-requires-clause-n_bound
+begin_pass-merging-requires-clause-n_bound c = (accepted_well_formed (algebra_of c.args.n c.args.arities.now c.args.cells.now) c.requires.accepted).most
 
 pub operations-requires-clause-contexts : goal.operations-requires-clause-contexts
-operations-requires-clause-contexts c = search all_contexts
+operations-requires-clause-contexts c = all_contexts c.args.arities.now c.fresh-live.result c.requires.accepted c.fresh-live.ensures
 
 pub returns : goal.returns
-returns c = search pass_made
+returns c = pass_made c.fresh-live.result c.operations.ensures c.begin_pass-merging.ensures c.fresh-live.ensures c.requires.accepted c.requires.x_lt_y c.requires.y_lt_n

@@ -6,9 +6,6 @@ use Rattle.keeping.proofs.principal.rebuild.Goals as goal
 pub join_kept-requires-clause-ready : goal.join_kept-requires-clause-ready
 join_kept-requires-clause-ready c = search fresh_ready
 
-pub join_kept-requires-clause-n_in_bounds : goal.join_kept-requires-clause-n_in_bounds
-join_kept-requires-clause-n_in_bounds c = (rebuilding_joinable c.requires).0
-
 pub join_kept-requires-clause-canonical : goal.join_kept-requires-clause-canonical
 join_kept-requires-clause-canonical c = (rebuilding_joinable c.requires).1
 

@@ -8,18 +8,6 @@ returns-then-m-y-clause-kept_standing_2 c = search pair_skipped
 pub returns-then-maps-at-clause-kept_standing_2 : goal.returns-then-maps-at-clause-kept_standing_2
 returns-then-maps-at-clause-kept_standing_2 c = search (pair_joins, principal_joins)
 
-pub take_apart-requires-clause-kept_standing : goal.take_apart-requires-clause-kept_standing
-take_apart-requires-clause-kept_standing c = let p = c.requires in
-    p.kept_standing
-
-pub take_apart-requires-clause-x_lt_y : goal.take_apart-requires-clause-x_lt_y
-take_apart-requires-clause-x_lt_y c = let p = c.requires in
-    p.x_lt_y
-
-pub take_apart-requires-clause-y_lt_n : goal.take_apart-requires-clause-y_lt_n
-take_apart-requires-clause-y_lt_n c = let p = c.requires in
-    p.y_lt_n
-
 pub take_apart-requires-clause-generating : goal.take_apart-requires-clause-generating
 take_apart-requires-clause-generating c = let p = c.requires in
     principal_generating p.kept_standing.accepted p.x_lt_y p.y_lt_n c.principal-p.ensures c.if-maps-at.false

@@ -1,12 +1,8 @@
 -- `settle_pairs`: the pairs of the row before y are settled.
-use Prim.Native.Nat.{◌-◌, ◌≤◌, ◌<◌}
 use Rattle.algebra.specs.Algebra.{algebra_of}
 use Rattle.keeping.specs.InnerKeeping.{Keeping}
 use Rattle.keptsearch.specs.InnerRows.{KeptStanding}
 use Rattle.keptsearch.proofs.pairs.settle_pairs.Given as goal
 
 abbrev pub invariant-loop-y : goal.invariant-loop-y
-invariant-loop-y l = (l.x < l.y) × (l.y ≤ l.n) × Keeping (algebra_of l.n l.arities l.cells) l.maps l.marks × KeptStanding l.n l.arities l.cells l.m l.marked l.x l.y
-
-abbrev pub decreases-loop-y : goal.decreases-loop-y
-decreases-loop-y l = l.n - l.y
+invariant-loop-y l = Keeping (algebra_of l.n l.arities l.cells) l.maps l.marks × KeptStanding l.n l.arities l.cells l.m l.marked l.x l.y

@@ -1,10 +1,7 @@
 -- `take_all_whole`: y goes down.
-use Prim.Native.Nat.{◌+◌, ◌≤◌}
+use Prim.Native.Nat.{◌+◌}
 use Rattle.keptsearch.specs.InnerRows.{RowLent}
 use Rattle.keptsearch.proofs.row.take_all_whole.Given as goal
 
 abbrev pub invariant-loop-y : goal.invariant-loop-y
-invariant-loop-y l = (l.y ≤ l.n) × RowLent l.n l.arities l.cells l.m l.all l.marked l.x (l.x + 1)
-
-abbrev pub decreases-loop-y : goal.decreases-loop-y
-decreases-loop-y l = l.y
+invariant-loop-y l = RowLent l.n l.arities l.cells l.m l.all l.marked l.x (l.x + 1)

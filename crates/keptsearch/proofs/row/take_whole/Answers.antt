@@ -4,16 +4,6 @@ use Rattle.algebra.proofs.Accepted.{accepted_well_formed}
 use Rattle.keptsearch.proofs.Joining.{whole_generating, row_grow}
 use Rattle.keptsearch.proofs.row.take_whole.Goals as goal
 
-pub unite-requires-clause-full_map : goal.unite-requires-clause-full_map
-unite-requires-clause-full_map c = let p = c.requires in
-    let g = whole_generating (accepted_well_formed _ p.row_lent.standing.accepted) p.keeping p.x_lt_y p.y_lt_n c.place-p.ensures c.if-marks-p-ne-WHOLE.false in
-    p.row_lent.full
-
-pub unite-requires-clause-n_in_bounds : goal.unite-requires-clause-n_in_bounds
-unite-requires-clause-n_in_bounds c = let p = c.requires in
-    let g = whole_generating (accepted_well_formed _ p.row_lent.standing.accepted) p.keeping p.x_lt_y p.y_lt_n c.place-p.ensures c.if-marks-p-ne-WHOLE.false in
-    g.room
-
 pub unite-requires-clause-canonical : goal.unite-requires-clause-canonical
 unite-requires-clause-canonical c = let p = c.requires in
     let g = whole_generating (accepted_well_formed _ p.row_lent.standing.accepted) p.keeping p.x_lt_y p.y_lt_n c.place-p.ensures c.if-marks-p-ne-WHOLE.false in

@@ -1,11 +1,8 @@
 -- `row_start` counts the pairs in the rows before x: `pairs_before_formula` of Places, for 64.
 use native.Mathlib.Omega.{arith}
 use Rattle.pairorder.specs.Order.{row_start}
-use Rattle.pairorder.proofs.Places.{product_fits, pairs_before_formula}
+use Rattle.pairorder.proofs.Places.{pairs_before_formula}
 use Rattle.pairorder.proofs.order.row_start.Goals as goal
-
-pub overflow_mul-result : goal.overflow_mul-result
-overflow_mul-result c = product_fits (omega arith) (omega arith)
 
 pub returns : goal.returns
 unfolding row_start

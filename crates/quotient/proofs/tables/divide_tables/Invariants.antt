@@ -1,12 +1,7 @@
--- `quotient::tables::divide_tables` meets its contract. The invariant: the tables of the first j operations are laid. The measure is the number of operations left.
-use Prim.Native.Nat.{◌-◌}
-use lib.ListN.{length}
+-- `quotient::tables::divide_tables` meets its contract. The invariant: the tables of the operations before the index are laid.
 use Rattle.quotient.specs.InnerTables.{source_of}
 use Rattle.quotient.proofs.Operations.{Divided}
 use Rattle.quotient.proofs.tables.divide_tables.Given as goal
 
-abbrev pub invariant-loop-j : goal.invariant-loop-j
-invariant-loop-j l = Divided (source_of l.n l.cells l.numbers l.names) l.arities l.initial.out l.out l.j l.from l.to
-
-abbrev pub decreases-loop-j : goal.decreases-loop-j
-decreases-loop-j l = length l.arities - l.j
+abbrev pub invariant-loop-arity : goal.invariant-loop-arity
+invariant-loop-arity l = Divided (source_of l.n l.fn.cells l.fn.numbers l.names) l.arities l.initial.out l.out l.arity-index l.from l.to

@@ -4,18 +4,18 @@ use Rattle.reader.proofs.Judging.{above_operations, above_arity, above_cells, pa
 use Rattle.algebra.proofs.Powers.{power_small}
 use Rattle.reader.proofs.lines.check_operation.Goals as goal
 
-pub returns-then-operations-gt-MAX_OPERATIONS-clause-value : goal.returns-then-operations-gt-MAX_OPERATIONS-clause-value
-returns-then-operations-gt-MAX_OPERATIONS-clause-value c = search above_operations
+pub returns-then-operations-gt-MAX_OPERATIONS : goal.returns-then-operations-gt-MAX_OPERATIONS
+returns-then-operations-gt-MAX_OPERATIONS c = search above_operations
 
-pub returns-then-s-gt-MAX_ARITY-clause-value : goal.returns-then-s-gt-MAX_ARITY-clause-value
-returns-then-s-gt-MAX_ARITY-clause-value c = search above_arity
+pub returns-then-s-gt-MAX_ARITY : goal.returns-then-s-gt-MAX_ARITY
+returns-then-s-gt-MAX_ARITY c = search above_arity
 
 pub overflow_add-cells : goal.overflow_add-cells
 overflow_add-cells c = let a = c.args in
     omega (arith, power_small a.n a.s (omega arith) (omega arith), c.power.ensures)
 
-pub returns-then-cells-power-gt-MAX_CELLS-clause-value : goal.returns-then-cells-power-gt-MAX_CELLS-clause-value
-returns-then-cells-power-gt-MAX_CELLS-clause-value c = search above_cells
+pub returns-then-cells-power-gt-MAX_CELLS : goal.returns-then-cells-power-gt-MAX_CELLS
+returns-then-cells-power-gt-MAX_CELLS c = search above_cells
 
-pub returns-clause-value : goal.returns-clause-value
-returns-clause-value c = search passed
+pub returns : goal.returns
+returns c = search passed

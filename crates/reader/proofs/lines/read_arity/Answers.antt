@@ -2,11 +2,11 @@
 use Rattle.reader.proofs.SpacedNumbers.{arity_missing, arity_unparted, arity_read}
 use Rattle.reader.proofs.lines.read_arity.Goals as goal
 
-pub returns-then-not-s : goal.returns-then-not-s
-returns-then-not-s c = search arity_missing
+pub returns-in_err-s : goal.returns-in_err-s
+returns-in_err-s c = rw c.from_residual.ensures (arity_missing _ _ c.in_err-s.ensures)
 
-pub returns-then-after-next : goal.returns-then-after-next
-returns-then-after-next c = search arity_unparted
+pub returns-in_err-next : goal.returns-in_err-next
+returns-in_err-next c = rw c.from_residual-in_err-next.ensures (arity_unparted _ _ _ c.in_ok-s.ensures c.in_err-next.ensures)
 
 pub returns : goal.returns
-returns c = search arity_read
+returns c = arity_read _ _ _ c.in_ok-s.ensures _ c.in_ok-next.ensures

@@ -7,18 +7,22 @@ pub returns-then-not-begins_with : goal.returns-then-not-begins_with
 unfolding ascii
 returns-then-not-begins_with c = search size_unopened
 
-pub read_spaced_number-n-requires : goal.read_spaced_number-n-requires
+pub read_spaced_number-requires : goal.read_spaced_number-requires
 unfolding ascii
-read_spaced_number-n-requires c = search size_room
+read_spaced_number-requires c = search size_room
 
-pub returns-then-not-n : goal.returns-then-not-n
+pub returns-in_err-n : goal.returns-in_err-n
 unfolding ascii
-returns-then-not-n c = search size_missing
+returns-in_err-n c = rw c.from_residual.ensures (let e = c.in_err-n.ensures in search size_missing)
 
-pub returns-then-not-begins_with-2 : goal.returns-then-not-begins_with-2
+pub returns-in_err-next : goal.returns-in_err-next
 unfolding ascii
-returns-then-not-begins_with-2 c = search size_unclosed
+returns-in_err-next c =
+    rw c.from_residual-in_err-next.ensures (let n = c.in_ok-n.ensures in
+    let e = c.in_err-next.ensures in search size_unclosed)
 
 pub returns : goal.returns
 unfolding ascii
-returns c = search size_closed
+returns c = let n = c.in_ok-n.ensures in
+    let e = c.in_ok-next.ensures in
+    search size_closed

@@ -5,8 +5,9 @@ use Rattle.numberreader.specs.Reading.{ascii}
 use Rattle.tablereader.specs.Tables.{table, pair}
 use Rattle.reader.specs.Lines.{request}
 use Rattle.reader.specs.declared.requests.Asked.TheVariants.{Decompose}
-use Rattle.reader.proofs.Asking.{word_stands, word_missing, words_missing, word_alone, request_unstored, request_none}
+use Rattle.reader.proofs.Asking.{word_stands, word_missing, word_alone, request_unstored, request_missing}
 use Rattle.tablereader.proofs.RoomLeft.{room_behind}
+use Rattle.tablereader.proofs.Storing.{faulty_nothing}
 use Rattle.numberreader.proofs.Words.{begins_within}
 use borrow.Author.Rules.{rules}
 use Rattle.reader.proofs.requests.read_request.Goals as goal
@@ -34,8 +35,11 @@ read_separate-requires c = let k = c.begins_with-3 in
     begins_within _ (ascii "[separate") _ tt (search rules) (sym k.ensures ∙ c.if-begins_with-3.true)
 
 pub returns-then-begins_with-3 : goal.returns-then-begins_with-3
-unfolding request ascii
-returns-then-begins_with-3 c = search (word_stands, word_missing, request_unstored)
+unfolding request ascii every
+returns-then-begins_with-3 c = let k = c.begins_with-3 in
+    let l = begins_within _ (ascii "[separate") _ tt (search rules) (sym k.ensures ∙ c.if-begins_with-3.true) in
+    let s = request_unstored _ _ c.args.room.now c.args.from.put _ c.requires.start l _ c.read_separate.ensures in
+    search (word_stands, word_missing)
 
 pub returns-then-begins_with-4 : goal.returns-then-begins_with-4
 unfolding request ascii every
@@ -51,5 +55,9 @@ unfolding request ascii pair table
 returns-then-begins_with-5 c = search (word_stands, word_missing)
 
 pub returns : goal.returns
-unfolding request ascii
-returns c = search (word_missing, words_missing, request_none)
+unfolding ascii
+returns c =
+    faulty_nothing _ _ _ _ _ c.requires
+    (request_missing _ _ (sym c.begins_with.ensures ∙ c.if-begins_with.false) (sym c.begins_with-2.ensures ∙ c.if-begins_with-2.false)
+    (sym c.begins_with-3.ensures ∙ c.if-begins_with-3.false) (sym c.begins_with-4.ensures ∙ c.if-begins_with-4.false)
+    (sym c.begins_with-5.ensures ∙ c.if-begins_with-5.false))

@@ -2,11 +2,11 @@
 use Rattle.reader.proofs.TakenLines.{size_faulty, size_line_refused, size_taken}
 use Rattle.reader.proofs.taking.take_size_line.Goals as goal
 
-pub returns-then-not-size : goal.returns-then-not-size
-returns-then-not-size c = search size_faulty
+pub returns-in_default : goal.returns-in_default
+returns-in_default c = size_faulty _ _ c.in_default.ensures
 
 pub returns-then-not-is_size : goal.returns-then-not-is_size
-returns-then-not-is_size c = search size_line_refused
+returns-then-not-is_size c = let n = c.in-Some.ensures in search size_line_refused
 
 pub returns : goal.returns
-returns c = search size_taken
+returns c = let n = c.in-Some.ensures in search size_taken

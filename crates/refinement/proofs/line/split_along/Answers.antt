@@ -1,27 +1,12 @@
 -- `split_along` meets its contract. The loop has split along the line, and it breaks at the element at k.
-use mathlib.Core.Path.{refl}
-use Rattle.refinement.proofs.Splits.{along_first, along_breaks, along_once, along_more, along_done, listed_below}
-use Rattle.refinement.proofs.Sifting.{listed_fits}
-use native.Mathlib.Omega.{arith}
+use Rattle.refinement.proofs.Splits.{along_more, along_done}
 use Rattle.refinement.proofs.line.split_along.Goals as goal
 
-pub loop-k-init : goal.loop-k-init
-loop-k-init c = (refl, search along_first)
-
-pub overflow_cast-x : goal.overflow_cast-x
-overflow_cast-x c = search listed_fits
-
-pub split_at-requires-clause-x_lt_n : goal.split_at-requires-clause-x_lt_n
-split_at-requires-clause-x_lt_n c = search listed_below
-
-pub split_at-requires-clause-breaks : goal.split_at-requires-clause-breaks
-split_at-requires-clause-breaks c = search along_breaks
-
 pub returns-then-not-round : goal.returns-then-not-round
-returns-then-not-round c = search along_once
+returns-then-not-round c = search along_done
 
-pub loop-k-preserved : goal.loop-k-preserved
-loop-k-preserved c = (omega arith, search along_more)
+pub loop-line-preserved : goal.loop-line-preserved
+loop-line-preserved c = along_more c.loop-line.invariant c.split_at.ensures c.in-Some.ensures
 
-pub returns : goal.returns
-returns c = search along_done
+pub returns-in-None : goal.returns-in-None
+returns-in-None c = search along_done

@@ -1,12 +1,11 @@
 -- `split_along` meets its contract. The loop has split along the line, and it breaks at the element at k.
-use Prim.Native.Nat.{◌-◌}
-use mathlib.Core.Path.{◌≡◌}
 use lib.ListN.{length}
+use Prim.Native.Nat.{◌-◌}
 use Rattle.refinement.proofs.Splits.{Along}
 use Rattle.refinement.proofs.line.split_along.Given as goal
 
-abbrev pub invariant-loop-k : goal.invariant-loop-k
-invariant-loop-k l = (length l.m ≡ length l.initial.m) × Along l.round.n l.cells l.line.base l.line.stride l.list l.count l.start l.k l.initial.m l.m
+abbrev pub invariant-loop-line : goal.invariant-loop-line
+invariant-loop-line l = Along l.round.n l.round.cells.now l.line.base l.line.stride l.list (length l.list) l.start l.k l.initial.m l.m
 
-abbrev pub decreases-loop-k : goal.decreases-loop-k
-decreases-loop-k l = l.count - l.k
+abbrev pub decreases-loop-line : goal.decreases-loop-line
+decreases-loop-line l = length l.list - l.k

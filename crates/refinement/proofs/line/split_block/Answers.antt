@@ -9,4 +9,4 @@ pub rename_block-requires-clause-by_index : goal.rename_block-requires-clause-by
 rename_block-requires-clause-by_index c = λ v l. get_or-replicate 64 (0 * 64 + v) 64 0 (omega arith)
 
 pub returns-clause-by_index : goal.returns-clause-by_index
-returns-clause-by_index c = alike_copied c.copy.ensures c.rename_block.ensures
+returns-clause-by_index c = alike_copied _ _ (omega arith) c.copy_from_slice.ensures.after c.rename_block.ensures

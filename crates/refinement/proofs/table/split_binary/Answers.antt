@@ -1,12 +1,7 @@
 -- `split_binary` meets its contract: the first argument varies, then the second.
-use Rattle.refinement.proofs.Tables.{columns_room, rows_room, table_two}
+use Rattle.refinement.proofs.Tables.{table_two}
+use Rattle.refinement.proofs.Fronts.{lines_back}
 use Rattle.refinement.proofs.table.split_binary.Goals as goal
 
-pub split_rows-first-requires-clause-plane_inside : goal.split_rows-first-requires-clause-plane_inside
-split_rows-first-requires-clause-plane_inside c = search columns_room
-
-pub split_lines-requires-clause-plane_inside : goal.split_lines-requires-clause-plane_inside
-split_lines-requires-clause-plane_inside c = search rows_room
-
 pub returns : goal.returns
-returns c = search table_two
+returns c = table_two c.split_rows-left.ensures (lines_back _ c.split_lines.ensures)

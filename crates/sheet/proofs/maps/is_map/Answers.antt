@@ -1,5 +1,5 @@
 -- `sheet::maps::is_map` meets its contract, by the laws of MapSums: one for each return.
-use borrow.Author.Rules.{rules}
+use mathlib.Core.Path.{refl}
 use Rattle.sheet.proofs.MapSums.{none_exceeding, is_map_exceeding, is_map_sums}
 use Rattle.sheet.proofs.maps.is_map.Goals as goal
 
@@ -10,5 +10,4 @@ pub sum_named-requires-clause-by_index : goal.sum_named-requires-clause-by_index
 sum_named-requires-clause-by_index c = none_exceeding _ _ c.count_above.ensures c.if-count_above-ne0.false
 
 pub returns : goal.returns
-returns c = let k = c in
-    is_map_sums _ _ k.count_above.ensures k.if-count_above-ne0.false (search rules) c.sum_named.ensures c.sum_bytes.ensures
+returns c = is_map_sums _ _ c.count_above.ensures c.if-count_above-ne0.false refl c.sum_named.ensures c.sum_bytes.ensures

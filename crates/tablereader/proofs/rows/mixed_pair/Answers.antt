@@ -1,15 +1,6 @@
 -- `rows::mixed_pair` meets its contract, by the laws of Pairs.
-use Rattle.tablereader.proofs.Pairs.{digit_of, fits_digit, pair_none, pair_found}
+use Rattle.tablereader.proofs.Pairs.{digit_of, fits_digit, pair_found}
 use Rattle.tablereader.proofs.rows.mixed_pair.Goals as goal
-
-pub returns-then-text-at-lt7 : goal.returns-then-text-at-lt7
-returns-then-text-at-lt7 c = search pair_none
-
-pub returns-then-not-fits : goal.returns-then-not-fits
-returns-then-not-fits c = search pair_none
-
-pub returns-then-not-fits-2 : goal.returns-then-not-fits-2
-returns-then-not-fits-2 c = search pair_none
 
 pub value-requires-clause-digit : goal.value-requires-clause-digit
 value-requires-clause-digit c =

@@ -6,7 +6,7 @@ pub long_pair-requires : goal.long_pair-requires
 long_pair-requires c = search long_within
 
 pub returns-then-long : goal.returns-then-long
-returns-then-long c = search pair_long
+returns-then-long c = pair_long _ _ _ _ c.if-long.true c.long_pair.ensures
 
-pub returns : goal.returns
-returns c = search pair_mixed
+pub returns-else-long : goal.returns-else-long
+returns-else-long c = pair_mixed _ _ _ _ c.if-long.false c.mixed_pair.ensures

@@ -1,10 +1,6 @@
 -- `short_rows::is_short` meets its contract, by the laws of ShortRows.
-use Prim.Native.Nat.{◌-◌}
 use Rattle.tablereader.proofs.ShortRows.{ItemsBetween}
 use Rattle.tablereader.proofs.short_rows.is_short.Given as goal
 
 abbrev pub invariant-loop-i : goal.invariant-loop-i
 invariant-loop-i l = ItemsBetween l.count l.text l.at l.i l.low l.high
-
-abbrev pub decreases-loop-i : goal.decreases-loop-i
-decreases-loop-i l = l.count - l.i

@@ -5,6 +5,3 @@ use Rattle.tablereader.proofs.short_rows.read_short.Given as goal
 
 abbrev pub invariant-loop-i : goal.invariant-loop-i
 invariant-loop-i l = RowBegun l.n l.text l.at l.initial.cells l.put l.cells (l.n - l.i) (l.at + 2 * l.i) (l.put + l.i) × (l.i ≤ l.count)
-
-abbrev pub decreases-loop-i : goal.decreases-loop-i
-decreases-loop-i l = l.count - l.i

@@ -1,18 +1,15 @@
 -- `lengths::second_digits` meets its contract, by the laws of Counting: a part more in each turn.
-use Rattle.tablewriter.proofs.Counting.{second_none, part_short, part_few, second_part, second_all}
+use Rattle.std.proofs.Common.{rules, ◌∙◌}
+use Rattle.std.specs.Slice.Iter.{chunks_rest}
+use Rattle.tablewriter.proofs.Counting.{parts_more, parts_all}
 use Rattle.tablewriter.proofs.lengths.second_digits.Goals as goal
 
-pub loop-from-init : goal.loop-from-init
-loop-from-init c = search second_none
-
-pub second_digits_of_few-requires-clause-numbers_below : goal.second_digits_of_few-requires-clause-numbers_below
-second_digits_of_few-requires-clause-numbers_below c = search part_short
-
-pub second_digits_of_few-requires-clause-m_len_bound : goal.second_digits_of_few-requires-clause-m_len_bound
-second_digits_of_few-requires-clause-m_len_bound c = search part_few
-
-pub loop-from-preserved : goal.loop-from-preserved
-loop-from-preserved c = search second_part
+pub loop-part-preserved : goal.loop-part-preserved
+loop-part-preserved c =
+    let p = c.loop-part.invariant in
+    let steps = c.in-Some.ensures.steps in
+    let more = parts_more _ _ _ _ (chunks_rest c.next.new.self) p.3 steps.1.0 _ c.second_digits_of_few.ensures in
+    (search rules, tt, steps.0 ∙ p.2, rw c.from-count.ensures more)
 
 pub returns : goal.returns
-returns c = search second_all
+returns c = parts_all _ _ _ c.loop-part.invariant.3 c.in-None.ensures.steps.1.0

@@ -12,8 +12,8 @@ overflow_add-sum-2 c = omega (arith, digits_few c.args.n (omega arith), c.second
 pub overflow_add-sum-3 : goal.overflow_add-sum-3
 overflow_add-sum-3 c = omega (arith, summed_none _ _ _ c.requires _ _ c.second_digit.ensures c.second_digits.ensures)
 
-pub loop-j-init : goal.loop-j-init
-loop-j-init c = search summed_none
+pub loop-arity-init : goal.loop-arity-init
+loop-arity-init c = search summed_none
 
 pub frame-requires-clause-n_bound : goal.frame-requires-clause-n_bound
 frame-requires-clause-n_bound c = let p = c.requires in
@@ -21,13 +21,13 @@ frame-requires-clause-n_bound c = let p = c.requires in
 
 pub frame-requires-clause-arity_bound : goal.frame-requires-clause-arity_bound
 frame-requires-clause-arity_bound c = let p = c.requires in
-    p.tables.arity c.loop-j.j c.loop-j-test.true
+    p.tables.arity c.loop-arity.arity-index (omega arith)
 
-pub overflow_add-sum-in-loop-j-2 : goal.overflow_add-sum-in-loop-j-2
-overflow_add-sum-in-loop-j-2 c = omega (arith, summed_next _ _ _ c.requires _ _ _ c.loop-j.invariant c.loop-j-test.true c.frame.ensures)
+pub overflow_add-sum-in-loop-arity-2 : goal.overflow_add-sum-in-loop-arity-2
+overflow_add-sum-in-loop-arity-2 c = omega (arith, summed_next _ _ _ c.requires _ _ _ c.loop-arity.invariant (omega arith) c.frame.ensures)
 
-pub loop-j-preserved : goal.loop-j-preserved
-loop-j-preserved c = search summed_next
+pub loop-arity-preserved : goal.loop-arity-preserved
+loop-arity-preserved c = search summed_next
 
 pub returns : goal.returns
 returns c = search summed_text

@@ -9,8 +9,8 @@ overflow_mul-all c = omega (arith, rows_there _ _ _ _ _ c.requires)
 pub slice_bounds-largest-end : goal.slice_bounds-largest-end
 slice_bounds-largest-end c = search rows_there
 
-pub loop-more-init : goal.loop-more-init
-loop-more-init c = search rows_left_all
+pub loop-i-init : goal.loop-i-init
+loop-i-init c = rows_left_all _ _ _ _ _ c.requires _ (omega arith)
 
 pub slice_bounds-write_row-end : goal.slice_bounds-write_row-end
 slice_bounds-write_row-end c = search next_row_within
@@ -22,10 +22,10 @@ pub write_row-end-requires-clause-numbers_below : goal.write_row-end-requires-cl
 write_row-end-requires-clause-numbers_below c = search next_row_below
 
 pub write_gap-at-requires : goal.write_gap-at-requires
-write_gap-at-requires c = search row_gap_fits
+write_gap-at-requires c = row_gap_fits _ _ _ _ _ _ _ _ _ c.loop-i.invariant _ _ c.write_row-end.ensures.laid (omega arith)
 
-pub loop-more-preserved : goal.loop-more-preserved
-loop-more-preserved c = search rows_left_more
+pub loop-i-preserved : goal.loop-i-preserved
+loop-i-preserved c = rows_left_more _ _ _ _ _ _ _ _ _ c.loop-i.invariant _ _ c.write_row-end.ensures.laid (omega arith) _ _ c.write_gap-at.ensures.laid _ (omega arith)
 
 pub slice_bounds-write_row-end-2 : goal.slice_bounds-write_row-end-2
 slice_bounds-write_row-end-2 c = search next_row_within
@@ -37,4 +37,4 @@ pub write_row-requires-clause-numbers_below : goal.write_row-requires-clause-num
 write_row-requires-clause-numbers_below c = search next_row_below
 
 pub returns : goal.returns
-returns c = search last_row_written
+returns c = last_row_written _ _ _ _ _ _ _ _ _ c.loop-i.invariant _ _ c.write_row.ensures.laid (omega arith)

@@ -1,9 +1,0 @@
--- `with_bytes`: every byte is there.
-use Rattle.std.proofs.Common.{◌-◌, ◌≤◌, length}
-use Rattle.bench_race.proofs.with_bytes.Given as goal
-
-abbrev pub invariant-loop-i : goal.invariant-loop-i
-invariant-loop-i l = l.i ≤ length l.bytes
-
-abbrev pub decreases-loop-i : goal.decreases-loop-i
-decreases-loop-i l = length l.bytes - l.i

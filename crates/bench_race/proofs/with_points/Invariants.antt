@@ -1,9 +1,0 @@
--- `with_points`: it ends with the last point.
-use Rattle.std.proofs.Common.{◌-◌, ◌≤◌}
-use Rattle.bench_race.proofs.with_points.Given as goal
-
-abbrev pub invariant-loop-i : goal.invariant-loop-i
-invariant-loop-i l = l.i ≤ 64
-
-abbrev pub decreases-loop-i : goal.decreases-loop-i
-decreases-loop-i l = 64 - l.i

@@ -1,0 +1,7 @@
+-- `lines_alike` meets its contract. The loop has compared the rows of the names below x.
+use Rattle.equivalence.specs.Equivalence.{byte}
+use Rattle.likeness.proofs.Likeness.{NamesBelow}
+use Rattle.likeness.proofs.alike.Walk.lines_alike.Given as goal
+
+abbrev pub invariant-loop-x : goal.invariant-loop-x
+invariant-loop-x l = NamesBelow l.self.n l.self.n 1 l.self.cells.now (byte l.self.m.now) l.base l.x

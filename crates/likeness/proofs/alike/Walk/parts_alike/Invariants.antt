@@ -1,0 +1,7 @@
+-- `parts_alike` meets its contract. The loop has compared the parts of the first i others.
+use Rattle.equivalence.specs.Equivalence.{byte}
+use Rattle.likeness.proofs.Likeness.{OthersAlike}
+use Rattle.likeness.proofs.alike.Walk.parts_alike.Given as goal
+
+abbrev pub invariant-loop-x : goal.invariant-loop-x
+invariant-loop-x l = OthersAlike l.self.n l.part l.self.cells.now l.self.others.now (byte l.self.m.now) l.base l.x-index
