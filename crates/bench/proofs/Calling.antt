@@ -34,25 +34,25 @@ module _ {B : Type 0} where
 
   module _ (new other : B) where
     -- done, with the new bench; or refused, with the other
-    abbrev given : Result ⊤ Refusal → Benched B
+    abbrev pub given : Result ⊤ Refusal → Benched B
     given c = answered (λ r. refused r other) c (done_with new)
 
-    given_cases : (c : Result ⊤ Refusal) → ((c ≡ Ok tt) × (given c ≡ done_with new)) ⊎ ((r : Refusal) × (given c ≡ refused r other))
+    pub given_cases : (c : Result ⊤ Refusal) → ((c ≡ Ok tt) × (given c ≡ done_with new)) ⊎ ((r : Refusal) × (given c ≡ refused r other))
     unfolding answered
     given_cases (Ok x) = inl (refl, refl)
     given_cases (Err r) = inr (r, refl)
 
-    given_answer : (c : Result ⊤ Refusal) → (given c).answer ≡ answered Err c (Ok tt)
+    pub given_answer : (c : Result ⊤ Refusal) → (given c).answer ≡ answered Err c (Ok tt)
     unfolding answered
     given_answer (Ok x) = refl
     given_answer (Err r) = refl
 
-    given_done : (c : Result ⊤ Refusal) → (given c).answer ≡ Ok tt → (given c).bench ≡ new
+    pub given_done : (c : Result ⊤ Refusal) → (given c).answer ≡ Ok tt → (given c).bench ≡ new
     unfolding answered
     given_done (Ok x) e = refl
     given_done (Err r) e = absurd (err_never e)
 
-    given_refused : (c : Result ⊤ Refusal) (r : Refusal) → (given c).answer ≡ Err r → (given c).bench ≡ other
+    pub given_refused : (c : Result ⊤ Refusal) (r : Refusal) → (given c).answer ≡ Err r → (given c).bench ≡ other
     unfolding answered
     given_refused (Ok x) r e = absurd (ok_never e)
     given_refused (Err s) r e = refl

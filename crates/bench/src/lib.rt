@@ -44,8 +44,17 @@ impl<B: Copy> Benched<B> {
 pub fn start(n: usize) -> Benched<Bench>
     ensures { result ≡ start_call n }
 {
-    let check = benchtests::start_check(n);
-    Benched::by(check, benchsheets::zeros(), || benchsheets::fresh(n))
+    // No `Benched::by`: the zeros would be made on every call.
+    match benchtests::start_check(n) {
+        Ok(()) => Benched {
+            answer: Ok(()),
+            bench: benchsheets::fresh(n),
+        },
+        Err(reason) => Benched {
+            answer: Err(reason),
+            bench: benchsheets::zeros(),
+        },
+    }
 }
 
 // The bench with a new sheet whose tally is raised, or 13.
@@ -114,8 +123,17 @@ pub fn add(
 pub fn clear(bench: Bench, sheet: usize) -> Benched<Bench>
     ensures { result ≡ clear_call bench sheet }
 {
-    let check = benchtests::clear_check(bench, sheet);
-    Benched::by(check, bench, || benchsheets::cleared(bench, sheet))
+    // No `Benched::by`: it would copy the bench once more.
+    match benchtests::clear_check(bench, sheet) {
+        Ok(()) => Benched {
+            answer: Ok(()),
+            bench: benchsheets::cleared(bench, sheet),
+        },
+        Err(reason) => Benched {
+            answer: Err(reason),
+            bench,
+        },
+    }
 }
 
 // The sheet's map is stored under the name; an older point of that name is replaced.

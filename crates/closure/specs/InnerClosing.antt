@@ -1,5 +1,5 @@
 -- Where the closure of a map begins: a congruence, and the names that the map took away from it, all queued.
-use Rattle.std.specs.Prelude.{ℕ, ◌+◌, ◌≤◌, ◌<◌, ◌≡◌, ◌⊎◌, List, Option, Some, None, length}
+use Rattle.std.specs.Prelude.{ℕ, ◌+◌, ◌≤◌, ◌<◌, ◌≡◌, ◌⊎◌, Bool, true, false, List, length}
 use Rattle.equivalence.specs.Equivalence.{byte}
 use Rattle.kernel.specs.InnerKernel.{Canonical, Within, KeptPast, Listed, names}
 use Rattle.algebra.specs.Algebra.{Algebra}
@@ -49,7 +49,7 @@ pub record ApartMade (a : Algebra) (x y v w : ℕ) (f : ℕ → ℕ) (c : Congru
   pub left : NamesInUse a.size (byte c.map) c.names.list c.names.places c.names.count
   pub rest : KeptPast a.size f (byte c.map)
 
--- the answer to a try that must hold v and w apart: that closure, or nothing where whatever is compatible and large enough joins v and w
-abbrev pub ApartIn : Algebra → ℕ → ℕ → ℕ → ℕ → (ℕ → ℕ) → Option Congruence → Type 0
-ApartIn a x y v w f (Some c) = ApartMade a x y v w f c
-ApartIn a x y v w f None = (g : ℕ → ℕ) → Compatible a g → Extends a.size f x y g → g v ≡ g w
+-- what a try leaves of a congruence that must hold v and w apart: that closure, in 64 bytes; or the congruence itself, where whatever is compatible and large enough joins v and w
+abbrev pub ApartIn : Algebra → ℕ → ℕ → ℕ → ℕ → Congruence → Congruence → Bool → Type 0
+ApartIn a x y v w c d true = (length d.map ≡ 64) × ApartMade a x y v w (byte c.map) d
+ApartIn a x y v w c d false = (d ≡ c) × ((g : ℕ → ℕ) → Compatible a g → Extends a.size (byte c.map) x y g → g v ≡ g w)

@@ -29,12 +29,14 @@ pub struct Congruence {
     pub names: Live,
 }
 
-// The least congruence that joins the pairs of a flat list, in the map; as many merges made it as are queued.
-fn closed_pairs(n: usize, arities: &[u8], cells: &[u8], pairs: &[u8]) -> Merging
+// The first n bytes of m become the least congruence that joins the pairs of a flat list. How many merges made it.
+pub fn close_pairs(m: &mut [u8], n: usize, arities: &[u8], cells: &[u8], pairs: &[u8]) -> usize
     requires accepted { Accepted (algebra_in n arities cells) }
+    requires n_in_bounds { n ≤ length m.old }
     requires by_index { (i : ℕ) → i < length pairs.now → byte pairs.now i < n }
-    ensures closed { Closed (algebra_in n arities.entry cells.entry) (JoinsPairs pairs.now) (byte result.map) }
-    ensures m_after { result.len + names n (byte result.map) ≡ n }
+    ensures closed { Closed (algebra_in n arities.entry cells.entry) (JoinsPairs pairs.now) (byte m.new) }
+    ensures m_after { result + names n (byte m.new) ≡ n }
+    ensures kept_past { KeptPast n (byte m.old) (byte m.new) }
 {
     let mut merging = Merging {
         map: fresh(),
@@ -53,21 +55,8 @@ fn closed_pairs(n: usize, arities: &[u8], cells: &[u8], pairs: &[u8]) -> Merging
         w: 0,
     };
     rounds::close(&mut merging, &mut live, n, arities, cells, &[], stop);
-    merging
-}
-
-// The first n bytes of m become the least congruence that joins the pairs of a flat list. How many merges made it.
-pub fn close_pairs(m: &mut [u8], n: usize, arities: &[u8], cells: &[u8], pairs: &[u8]) -> usize
-    requires accepted { Accepted (algebra_in n arities cells) }
-    requires n_in_bounds { n ≤ length m.old }
-    requires by_index { (i : ℕ) → i < length pairs.now → byte pairs.now i < n }
-    ensures closed { Closed (algebra_in n arities.entry cells.entry) (JoinsPairs pairs.now) (byte m.new) }
-    ensures m_after { result + names n (byte m.new) ≡ n }
-    ensures kept_past { KeptPast n (byte m.old) (byte m.new) }
-{
-    let closed = closed_pairs(n, arities, cells, pairs);
-    equivalence::blocks::copy(n, &closed.map, m);
-    closed.len
+    equivalence::blocks::copy(n, &merging.map, m);
+    merging.len
 }
 
 // `close_with` on a map of 64 bytes.
@@ -129,10 +118,11 @@ pub fn close_with(m: &mut [u8], n: usize, arities: &[u8], cells: &[u8], x: usize
     lost
 }
 
-// As `close_with`, for a congruence that holds v and w apart, if they are two: only the new pair is queued, and only names are in use. None where that joins v and w: then
-// the work stops. It stops as well where a pair would be joined that is marked in the table of refused pairs: whatever joins such a pair joins v and w.
+// As `close_with`, for a congruence that holds v and w apart, if they are two: only the new pair is queued, and only names are in use. Whether v and w stay apart. Where
+// that would join them, the congruence stays as it was, and the work stops. It stops as well where a pair would be joined that is marked in the table of refused pairs:
+// whatever joins such a pair joins v and w.
 pub fn close_apart(
-    from: &Congruence,
+    standing: &mut Congruence,
     n: usize,
     arities: &[u8],
     cells: &[u8],
@@ -141,37 +131,44 @@ pub fn close_apart(
     refused: &[u8],
     v: usize,
     w: usize,
-) -> Option<Congruence>
+) -> bool
     requires accepted { Accepted (algebra_in n arities cells) }
-    requires padded { Padded n (byte from.now.map) }
-    requires canonical { Canonical n (byte from.now.map) }
-    requires compatible { Compatible (algebra_in n arities cells) (byte from.now.map) }
-    requires names_in_use { NamesInUse n (byte from.now.map) from.now.names.list from.now.names.places from.now.names.count }
+    requires padded { Padded n (byte standing.old.map) }
+    requires canonical { Canonical n (byte standing.old.map) }
+    requires compatible { Compatible (algebra_in n arities cells) (byte standing.old.map) }
+    requires names_in_use { NamesInUse n (byte standing.old.map) standing.old.names.list standing.old.names.places standing.old.names.count }
     requires x_lt_n { x < n }
     requires y_lt_n { y < n }
     requires v_lt_n { v < n }
     requires w_lt_n { w < n }
-    requires refused_rightly_above { RefusedRightlyAbove (algebra_in n arities cells) refused.now v w (byte from.now.map) }
-    ensures { ApartIn (algebra_in n arities.entry cells.entry) x y v w (byte from.now.map) result }
+    requires refused_rightly_above { RefusedRightlyAbove (algebra_in n arities cells) refused.now v w (byte standing.old.map) }
+    ensures { ApartIn (algebra_in n arities.entry cells.entry) x y v w standing.old standing.new result }
 {
     let mut merging = Merging {
-        map: from.map,
+        map: standing.map,
         queue: [0u8; 64],
         len: 0,
     };
-    let mut live = from.names;
     merging.merge(n, x as u8, y as u8);
     let stop = Stop {
-        limit: from.names.count - 1,
+        limit: standing.names.count - 1,
         v,
         w,
     };
-    rounds::close(&mut merging, &mut live, n, arities, cells, refused, stop);
+    let names = standing.names;
+    rounds::close(
+        &mut merging,
+        &mut standing.names,
+        n,
+        arities,
+        cells,
+        refused,
+        stop,
+    );
     if merging.map[v] == merging.map[w] {
-        return None;
+        standing.names = names;
+        return false;
     }
-    Some(Congruence {
-        map: merging.map,
-        names: live,
-    })
+    standing.map = merging.map;
+    true
 }

@@ -19,7 +19,7 @@ pub fn copy_part(part: &[u8], out: &mut [u8])
     ensures { out.new ≡ copied part.now out.old }
 {
     let n = part.len().min(out.len());
-    out[..n].copy_from_slice(&part[..n]);
+    equivalence::blocks::copy(n, &part[..n], out);
 }
 
 // The number that the k bytes from `from` on show.

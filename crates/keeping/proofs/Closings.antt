@@ -301,16 +301,15 @@ module _ {a : Algebra} {f : ℕ → ℕ} {maps marks : List ℕ} {v w k r mb qb 
 pub rebuilding_joinable : {n p : ℕ} {maps : List ℕ} → Rebuilding n p maps → (n ≤ length (from (p * 64) maps)) × Canonical n (byte (from (p * 64) maps))
 rebuilding_joinable {p = p} {maps = maps} i = (omega (arith, from_long (p * 64) maps, i.most, i.maps_room, i.small), kept_canonical p maps i.canonical)
 
-pub rebuilt : {n p k q : ℕ} {f g : ℕ → ℕ} {maps : List ℕ} {t : QueueState} → Rebuilding n p maps → Fresh k f
-    → JoinedTo n n (byte (from (p * 64) maps)) (record { map = f; map_bytes = k; queue = g; queue_bytes = q; size = 0 }) t → Rebuilt n (kept_at maps p) t
-rebuilt {n} {p} {f = f} {maps = maps} {t} i e d = record {
+pub rebuilt : {n p : ℕ} {maps : List ℕ} {s t : QueueState} → Rebuilding n p maps → Fresh s.map_bytes s.map → JoinedTo n n (byte (from (p * 64) maps)) s t → Rebuilt n (kept_at maps p) t
+rebuilt {n} {p} {maps} {s} {t} i e d = record {
   ready = d.grown.ready;
   above = λ x y lx ly z. names_within d.joined x y lx ly (from_byte (p * 64) maps x ∙ z ∙ sym (from_byte (p * 64) maps y));
   inside = d.grown.sound (kept_at maps p)
       (record {
         each = λ z lz. sym (i.canonical.named z lz) ∙ ap (kept_at maps p) (sym (from_byte (p * 64) maps z));
       })
-      (identity_within n f (kept_at maps p) (λ x l. e.own x (omega (arith, i.most))));
+      (identity_within n s.map (kept_at maps p) (λ x l. e.own x (omega (arith, i.most))));
   queued = λ b l lost. elim (d.grown.pushed b l (e.own b (omega (arith, i.most)))) [ inl z ↦ absurd (lost z) | inr q ↦ q ];
 }
 

@@ -24,7 +24,7 @@ use Rattle.sweep.specs.InnerQueue.{QueueState, Padded, Ready, Grown}
 use Rattle.sweep.specs.InnerSweeps.{Swept}
 use Rattle.sweep.proofs.Images.{images_kept, compatible_whole, compatible_images, all_map}
 use Rattle.sweep.proofs.Sweeps.{one_block}
-use Rattle.keeping.specs.InnerKeeping.{pair_place, ImagesJoined, Fresh, PassStarted, PairKept, PairMade, kept_at, Keeping, mark_of, PlaceOf, Stored, KeptHere}
+use Rattle.keeping.specs.InnerKeeping.{pair_place, ImagesJoined, Fresh, NothingJoined, PassStarted, PairKept, PairMade, kept_at, Keeping, mark_of, PlaceOf, Stored, KeptHere}
 use Rattle.keeping.proofs.PairPlaces.{place_small, place_once}
 use Rattle.keeping.proofs.Storing.{from, from_long, from_byte}
 
@@ -76,18 +76,19 @@ empty_ready {n} {s} most long room none c p = record {
   };
 }
 
--- bytes that name themselves are a map with 64 bytes; its queue is empty
-pub fresh_ready : {n k q : ℕ} {f g : ℕ → ℕ} → n ≤ 64 → q ≡ 64 → Fresh k f → Ready n (record { map = f; map_bytes = k; queue = g; queue_bytes = q; size = 0 })
-fresh_ready {n} {f = f} most room e = empty_ready most e.room room refl (identity_canonical n f (λ x l. e.own x (omega arith))) (λ x l h. e.own x h)
+-- nothing is joined yet
+pub nothing_ready : {n : ℕ} {s : QueueState} → n ≤ 64 → NothingJoined s → Ready n s
+nothing_ready {n} {s} most i =
+    let own = i.fresh.own in
+    empty_ready most i.fresh.room i.queue_room i.none (identity_canonical n s.map (λ x l. own x (omega arith))) (λ x l h. own x h)
 
 -- x and y joined, above bytes that name themselves
-pub pass_started : {n x y k q : ℕ} {f g : ℕ → ℕ} {t : QueueState} → Grown n (λ h. h x ≡ h y) (record { map = f; map_bytes = k; queue = g; queue_bytes = q; size = 0 }) t
-    → t.map x ≡ t.map y → Fresh k f → n ≤ 64 → PassStarted n x y t
-pass_started {n} {f = f} d e i most = record {
+pub pass_started : {n x y : ℕ} {s t : QueueState} → Grown n (λ h. h x ≡ h y) s t → t.map x ≡ t.map y → Fresh s.map_bytes s.map → s.size ≡ 0 → n ≤ 64 → PassStarted n x y t
+pass_started {n} {s = s} d e i none most = record {
   ready = d.ready;
   joined = e;
-  inside = λ h z. d.sound h z (identity_within n f h (λ x l. i.own x (omega arith)));
-  lost = omega (arith, d.blocks, names_identity n f (λ x l. i.own x (omega arith)));
+  inside = λ h z. d.sound h z (identity_within n s.map h (λ x l. i.own x (omega arith)));
+  lost = omega (arith, d.blocks, none, names_identity n s.map (λ x l. i.own x (omega arith)));
 }
 
 -- the first n of bytes that name themselves

@@ -21,6 +21,12 @@ pub record Fresh (k : ℕ) (f : ℕ → ℕ) : Type 0 where
   pub room : k ≡ 64
   pub own : (x : ℕ) → x < 64 → f x ≡ x
 
+-- nothing is joined: the map's 64 bytes name themselves, and no element is queued
+pub record NothingJoined (s : QueueState) : Type 0 where
+  pub fresh : Fresh s.map_bytes s.map
+  pub queue_room : s.queue_bytes ≡ 64
+  pub none : s.size ≡ 0
+
 -- where the pass begins: x and y are joined and nothing else
 pub record PassStarted (n x y : ℕ) (s : QueueState) : Type 0 where
   pub ready : Ready n s

@@ -4,7 +4,7 @@ ghost use Rattle.equivalence.specs.Equivalence.{byte};
 ghost use Rattle.algebra.specs.Algebra.{algebra_in};
 ghost use Rattle.algebra.specs.Accepted.{Accepted};
 ghost use Rattle.sweep.specs.InnerQueue.{state_of};
-ghost use Rattle.keeping.specs.InnerKeeping.{Fresh, PassStarted, PairMade, Keeping, mark_of, PlaceOf, Stored, KeptHere};
+ghost use Rattle.keeping.specs.InnerKeeping.{Fresh, NothingJoined, PassStarted, PairMade, Keeping, mark_of, PlaceOf, Stored, KeptHere};
 
 use crate::{KEPT, NOTHING, WHOLE};
 use sweep::queue::Merging;
@@ -41,29 +41,25 @@ pub fn fresh() -> [u8; 64]
 }
 
 // x and y are joined and nothing else.
-fn begin_pass(n: usize, x: usize, y: usize) -> Merging
+fn begin_pass(merging: &mut Merging, n: usize, x: usize, y: usize)
+    requires nothing_joined { NothingJoined (state_of merging.old) }
     requires n_bound { n ≤ 64 }
     requires x_lt_n { x < n }
     requires y_lt_n { y < n }
-    ensures { PassStarted n x y (state_of result) }
+    ensures { PassStarted n x y (state_of merging.new) }
 {
-    let mut merging = Merging {
-        map: fresh(),
-        queue: [0u8; 64],
-        len: 0,
-    };
     merging.merge(n, x as u8, y as u8);
-    merging
 }
 
-// The map of x and y by one pass, whose contexts are all elements. As many blocks were merged as are queued.
-fn pass(n: usize, arities: &[u8], cells: &[u8], x: usize, y: usize) -> Merging
+// The map becomes that of x and y by one pass, whose contexts are all elements. As many blocks were merged as are queued.
+fn pass(merging: &mut Merging, n: usize, arities: &[u8], cells: &[u8], x: usize, y: usize)
+    requires nothing_joined { NothingJoined (state_of merging.old) }
     requires accepted { Accepted (algebra_in n arities cells) }
     requires x_lt_y { x < y }
     requires y_lt_n { y < n }
-    ensures { PairMade (algebra_in n arities.entry cells.entry) x y (byte result.map) result.len }
+    ensures { PairMade (algebra_in n arities.entry cells.entry) x y (byte merging.new.map) merging.new.len }
 {
-    let mut merging = begin_pass(n, x, y);
+    begin_pass(merging, n, x, y);
     let live = fresh();
     let pass = Pass {
         n,
@@ -76,8 +72,7 @@ fn pass(n: usize, arities: &[u8], cells: &[u8], x: usize, y: usize) -> Merging
             w: 0,
         },
     };
-    pass.operations(&mut merging, arities, x, y);
-    merging
+    pass.operations(merging, arities, x, y);
 }
 
 // The mark of a map, by whether it is known to be a congruence.
@@ -106,7 +101,12 @@ fn make_pair(
     requires p_value { byte marks.old p ≡ 0 }
     ensures { KeptHere (algebra_in n arities.entry cells.entry) x y marks.old maps.new marks.new p }
 {
-    let made = pass(n, arities, cells, x, y);
+    let mut made = Merging {
+        map: fresh(),
+        queue: [0u8; 64],
+        len: 0,
+    };
+    pass(&mut made, n, arities, cells, x, y);
     store(maps, marks, p, &made.map, mark_of(made.len + 1 == n));
 }
 

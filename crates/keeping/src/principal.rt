@@ -6,7 +6,7 @@ ghost use Rattle.kernel.specs.InnerKernel.{Canonical};
 ghost use Rattle.algebra.specs.Algebra.{algebra_in};
 ghost use Rattle.algebra.specs.Accepted.{Accepted};
 ghost use Rattle.sweep.specs.InnerQueue.{state_of};
-ghost use Rattle.keeping.specs.InnerKeeping.{kept_at, Keeping};
+ghost use Rattle.keeping.specs.InnerKeeping.{NothingJoined, kept_at, Keeping};
 ghost use Rattle.keeping.specs.InnerPrincipal.{FullMap, Trusted, Taking, Taken, Absorbing, Absorbed, Working, Worked, Rebuilding, Rebuilt, Growing, PairGrown, PrincipalHere};
 
 use crate::WHOLE;
@@ -103,25 +103,21 @@ fn absorb_all(
     }
 }
 
-// The map kept at p, with what is no name in it queued.
-fn rebuild(maps: &[u8], n: usize, p: usize) -> Merging
-    requires { Rebuilding n p maps.now }
-    ensures { Rebuilt n (kept_at maps.now p) (state_of result) }
+// The map becomes the one kept at p, and what is no name in it is queued.
+fn rebuild(maps: &[u8], merging: &mut Merging, n: usize, p: usize)
+    requires nothing_joined { NothingJoined (state_of merging.old) }
+    requires rebuilding { Rebuilding n p maps.now }
+    ensures { Rebuilt n (kept_at maps.now p) (state_of merging.new) }
 {
-    let mut merging = Merging {
-        map: fresh(),
-        queue: [0u8; 64],
-        len: 0,
-    };
     let at = p * 64;
-    join_kept(&mut merging, n, &maps[at..]);
-    merging
+    join_kept(merging, n, &maps[at..]);
 }
 
-// The map kept for x and y at p, grown until it is a congruence or joins v and w. Nothing is queued then where it is a congruence.
+// The map becomes the one kept for x and y at p, grown until it is a congruence or joins v and w. Nothing is queued then where it is a congruence.
 fn close(
     maps: &mut [u8],
     marks: &mut [u8],
+    merging: &mut Merging,
     n: usize,
     arities: &[u8],
     cells: &[u8],
@@ -130,24 +126,14 @@ fn close(
     p: usize,
     v: usize,
     w: usize,
-) -> Merging
-    requires { Growing (algebra_in n arities cells) x y p v w maps.old marks.old }
-    ensures { PairGrown (algebra_in n arities.entry cells.entry) x y v w maps.new marks.new (length result.map) (byte result.map) result.len }
+)
+    requires growing { Growing (algebra_in n arities cells) x y p v w maps.old marks.old }
+    requires nothing_joined { NothingJoined (state_of merging.old) }
+    ensures { PairGrown (algebra_in n arities.entry cells.entry) x y v w maps.new marks.new (length merging.new.map) (byte merging.new.map) merging.new.len }
 {
-    let mut merging = rebuild(maps, n, p);
+    rebuild(maps, merging, n, p);
     let mut sure = fresh();
-    absorb_all(
-        maps,
-        marks,
-        &mut merging,
-        &mut sure,
-        n,
-        arities,
-        cells,
-        v,
-        w,
-    );
-    merging
+    absorb_all(maps, marks, merging, &mut sure, n, arities, cells, v, w);
 }
 
 // A map of x and y is kept that is a congruence, or joins v and w: the one at p, grown.
@@ -166,7 +152,12 @@ fn grow(
     requires { Growing (algebra_in n arities cells) x y p v w maps.old marks.old }
     ensures { PrincipalHere (algebra_in n arities.entry cells.entry) x y v w maps.new marks.new p }
 {
-    let grown = close(maps, marks, n, arities, cells, x, y, p, v, w);
+    let mut grown = Merging {
+        map: fresh(),
+        queue: [0u8; 64],
+        len: 0,
+    };
+    close(maps, marks, &mut grown, n, arities, cells, x, y, p, v, w);
     store(maps, marks, p, &grown.map, mark_of(grown.len == 0));
 }
 

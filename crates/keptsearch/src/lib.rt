@@ -38,8 +38,9 @@ pub fn earliest_apart(
     ensures earliest { Earliest (algebra_in n arities.entry cells.entry) v w (byte out.new) }
     ensures kept_past { KeptPast n (byte out.old) (byte out.new) }
 {
-    let mut m = fresh();
+    // First: declared behind a call, it is cleared twice.
     let mut table = [0u8; 4096];
+    let mut m = fresh();
     maplist::whole_into(n, out);
     search::settle_rows(
         maps,

@@ -18,26 +18,29 @@ struct Source<'a> {
     ghost right: { SourceRight (source_in n cells numbers names) },
 }
 
-impl Source<'_> {
-    // Arity 0: the block of the constant.
-    fn divide_cell(&self, from: usize, out: &mut [u8], to: usize)
-        requires from_in_bounds { from < length self.now.cells.now }
-        requires from_in_bounds_2 { byte self.now.cells.now from < length self.now.numbers.now }
-        requires out_room { to < length out.old }
-        ensures { out.new ≡ laid out.old to (cell_divided self.now.cells.now self.now.numbers.now from) }
-    {
-        let e = Element(self.cells[from]);
-        let block = block_of(self.numbers, e);
-        out[to] = block.0;
-    }
+// Arity 0: the block of the constant.
+fn divide_cell(cells: &[u8], numbers: &[u8], from: usize, out: &mut [u8], to: usize)
+    requires from_in_bounds { from < length cells.now }
+    requires from_in_bounds_2 { byte cells.now from < length numbers.now }
+    requires out_room { to < length out.old }
+    ensures { out.new ≡ laid out.old to (cell_divided cells.now numbers.now from) }
+{
+    let e = Element(cells[from]);
+    let block = block_of(numbers, e);
+    out[to] = block.0;
+}
 
+impl Source<'_> {
     // Arity 1: a cell for each block.
     fn divide_row(&self, from: usize, out: &mut [u8], to: usize)
         requires { RowFits self.now.cells.now self.now.numbers.now self.now.names.now from out.old to }
         ensures { out.new ≡ laid out.old to (row_divided self.now.cells.now self.now.numbers.now self.now.names.now from) }
     {
+        // By names of their own: of a struct that is lent, each would be read anew for every cell.
+        let cells = self.cells;
+        let numbers = self.numbers;
         for (k, first) in self.names.iter().enumerate() {
-            self.divide_cell(from + *first as usize, out, to + k);
+            divide_cell(cells, numbers, from + *first as usize, out, to + k);
         }
     }
 
@@ -48,7 +51,7 @@ impl Source<'_> {
         ensures { out.new ≡ laid out.old to (divided (source_in self.now.n self.now.cells self.now.numbers self.now.names) s from) }
     {
         if s == 0 {
-            return self.divide_cell(from, out, to);
+            return divide_cell(self.cells, self.numbers, from, out, to);
         }
         if s == 1 {
             return self.divide_row(from, out, to);
@@ -57,7 +60,13 @@ impl Source<'_> {
         let height = algebra::power(self.names.len(), s - 1);
         for (k, first) in self.names.iter().enumerate() {
             let inner = from + *first as usize * width;
-            self.divide_table(s - 1, inner, out, to + k * height);
+            let place = to + k * height;
+            // A row where it is one: a call of this function for each costs more than a short row.
+            if s == 2 {
+                self.divide_row(inner, out, place);
+            } else {
+                self.divide_table(s - 1, inner, out, place);
+            }
         }
     }
 }

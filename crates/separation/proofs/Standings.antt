@@ -1,8 +1,8 @@
 -- The records of the search, as the functions hand them on: what each step asks for, and where the search stands after it.
 use Prim.Native.Nat.{ℕ, ◌+◌, ◌-◌, ◌*◌, ◌≤◌, ◌<◌}
 use mathlib.Core.List.{List}
-use Rattle.std.specs.Prelude.{None}
-use mathlib.Core.Path.{◌≡◌, refl, sym, ap, ◌∙◌}
+use Rattle.std.specs.Prelude.{Bool, true, false}
+use mathlib.Core.Path.{◌≡◌, refl, sym, ap, subst, ◌∙◌}
 use native.Mathlib.Decide.{ℕ_discrete}
 use native.Mathlib.Omega.{arith}
 use mir.Syntax.{w64}
@@ -172,15 +172,22 @@ module _ {n : ℕ} {arities cells : List ℕ} (m m' : List ℕ) {marked : Pair} 
 module _ {n : ℕ} {arities cells : List ℕ} {marked : Pair} {x y : ℕ} {c : Congruence} (s : StandingIn n arities cells c marked x y) (lx : x < y) (ly : y < n) {table : List ℕ}
     (k : Marks (algebra_of n arities cells) table marked (byte c.map)) where
   -- the marked elements stay apart
-  pub try_taken : (d : Congruence) → ApartMade (algebra_of n arities cells) x y marked.x marked.y (byte c.map) d → length d.map ≡ 64
+  pub try_taken : (d : Congruence) {r : Bool} → ApartIn (algebra_of n arities cells) x y marked.x marked.y c d r → r ≡ true
       → StandingIn n arities cells d marked x (y + 1) × Marks (algebra_of n arities cells) table marked (byte d.map) × Within n (byte c.map) (byte d.map)
-  try_taken d e long = (standing_take s lx ly d.map d.names.list d.names.places d.names.count long e.closed e.apart e.left e.rest, marks_up c.map d.map e.closed.good.0 k, e.closed.good.0)
+  try_taken d made t =
+      let told = subst (λ (r : Bool). ApartIn (algebra_of n arities cells) x y marked.x marked.y c d r) t made in
+      let e : ApartMade (algebra_of n arities cells) x y marked.x marked.y (byte c.map) d = told.1 in
+      (standing_take s lx ly d.map d.names.list d.names.places d.names.count told.0 e.closed e.apart e.left e.rest, marks_up c.map d.map e.closed.good.0 k, e.closed.good.0)
 
   -- they do not
-  pub try_refused : ApartIn (algebra_of n arities cells) x y marked.x marked.y (byte c.map) None
-      → StandingIn n arities cells c marked x (y + 1) × Marks (algebra_of n arities cells) (set table (x * 64 + y) 1) marked (byte c.map) × Within n (byte c.map) (byte c.map)
-  try_refused e =
-      let refused : Refused (algebra_of n arities cells) marked.x marked.y (byte c.map) x y = λ g good up h. e g good (up, h) in
+  pub try_refused : (d : Congruence) {r : Bool} → ApartIn (algebra_of n arities cells) x y marked.x marked.y c d r → r ≡ false
+      → StandingIn n arities cells d marked x (y + 1) × Marks (algebra_of n arities cells) (set table (x * 64 + y) 1) marked (byte d.map) × Within n (byte c.map) (byte d.map)
+  try_refused d left t =
+      let e = subst (λ (r : Bool). ApartIn (algebra_of n arities cells) x y marked.x marked.y c d r) t left in
+      let refused : Refused (algebra_of n arities cells) marked.x marked.y (byte c.map) x y = λ g good up h. e.1 g good (up, h) in
+      subst
+      (λ (d : Congruence). StandingIn n arities cells d marked x (y + 1) × Marks (algebra_of n arities cells) (set table (x * 64 + y) 1) marked (byte d.map) × Within n (byte c.map) (byte d.map))
+      (sym e.0)
       (standing_pass s lx ly refused, marks_refused s lx ly table k refused, λ p q lp lq i. i)
 
 -- ---- row after row

@@ -34,6 +34,9 @@ pub fn earliest_apart(
     ensures kept_past { KeptPast n (byte out.old) (byte out.new) }
     ensures upper_bound { result ≤ 4096 }
 {
+    // First of all: declared behind a call, each is cleared twice.
+    let mut refused = [0u8; 4096];
+    let mut table = [0u8; 4096];
     let mut standing = Congruence {
         map: fresh(),
         names: Live {
@@ -42,8 +45,6 @@ pub fn earliest_apart(
             count: n,
         },
     };
-    let mut refused = [0u8; 4096];
-    let mut table = [0u8; 4096];
     maplist::whole_into(n, out);
     search::settle_rows(
         &mut standing,

@@ -31,11 +31,10 @@ fn try_pair(
     ensures marks_2 { Marks (algebra_in n arities.entry cells.entry) refused.new marked (byte standing.new.map) }
     ensures within { Within n (byte standing.old.map) (byte standing.new.map) }
 {
-    match close_apart(
+    if !close_apart(
         standing, n, arities, cells, x, y, refused, marked.x, marked.y,
     ) {
-        Some(next) => *standing = next,
-        None => refused[x * 64 + y] = 1,
+        refused[x * 64 + y] = 1;
     }
 }
 

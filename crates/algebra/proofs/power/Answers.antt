@@ -1,7 +1,11 @@
--- `power` stays below 64 to the power 3.
-use Rattle.std.proofs.Common.{arith}
-use Rattle.algebra.proofs.Powers.{power_small}
+-- `power`, case by case.
+use mathlib.Core.Path.{◌≡◌, sym}
+use native.Mathlib.Omega.{arith}
+use Rattle.algebra.proofs.Powers.{power_one, power_three}
 use Rattle.algebra.proofs.power.Goals as goal
 
-pub pow-requires : goal.pow-requires
-pow-requires c = omega (arith, power_small c.args.n c.args.s (omega arith) (omega arith))
+pub returns-in-1 : goal.returns-in-1
+returns-in-1 c = rw c.in-1.is (sym (power_one c.args.n))
+
+pub returns-in_default : goal.returns-in_default
+returns-in_default c = let e : c.args.s ≡ 3 = omega arith in rw e (sym (power_three c.args.n))

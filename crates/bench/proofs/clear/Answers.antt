@@ -3,12 +3,16 @@ use mathlib.Core.Path.{sym, ◌∙◌}
 use borrow.Author.Rules.{rules}
 use Rattle.benchtests.proofs.Testing.{clear_passed}
 use Rattle.bench.specs.Calls.{clear_call}
-use Rattle.bench.proofs.Calling.{if_passed, benched_by}
+use Rattle.bench.proofs.Calling.{benched_passed, benched_failed}
 use Rattle.bench.proofs.clear.Goals as goal
 
-pub by-requires : goal.by-requires
-by-requires c = if_passed _ _ (λ e. let p = clear_passed _ _ (sym c.clear_check-check.ensures ∙ e) in search rules)
+pub cleared-requires : goal.cleared-requires
+cleared-requires c = let p = clear_passed _ _ (sym c.clear_check.ensures ∙ c.in-Ok.is) in search rules
 
-pub returns : goal.returns
+pub returns-in-Ok : goal.returns-in-Ok
 unfolding clear_call
-returns c = benched_by _ _ _ c.clear_check-check.ensures _ _ c.by.ensures.answer c.by.ensures.bench (λ p. search rules)
+returns-in-Ok c = rw c.cleared.ensures (sym (benched_passed _ _ _ (sym c.clear_check.ensures ∙ c.in-Ok.is)))
+
+pub returns-in-Err : goal.returns-in-Err
+unfolding clear_call
+returns-in-Err c = sym (benched_failed _ _ _ _ (sym c.clear_check.ensures ∙ c.in-Err.is))

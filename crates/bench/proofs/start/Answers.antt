@@ -3,12 +3,16 @@ use mathlib.Core.Path.{sym, ◌∙◌}
 use borrow.Author.Rules.{rules}
 use Rattle.benchtests.proofs.Testing.{start_passed}
 use Rattle.bench.specs.Calls.{start_call}
-use Rattle.bench.proofs.Calling.{if_passed, benched_by}
+use Rattle.bench.proofs.Calling.{benched_passed, benched_failed}
 use Rattle.bench.proofs.start.Goals as goal
 
-pub by-requires : goal.by-requires
-by-requires c = if_passed _ _ (λ e. let p = start_passed _ (sym c.start_check-check.ensures ∙ e) in search rules)
+pub fresh-requires : goal.fresh-requires
+fresh-requires c = let p = start_passed _ (sym c.start_check.ensures ∙ c.in-Ok.is) in search rules
 
-pub returns : goal.returns
+pub returns-in-Ok : goal.returns-in-Ok
 unfolding start_call
-returns c = rw (← c.zeros.ensures) (benched_by _ _ _ c.start_check-check.ensures _ _ c.by.ensures.answer c.by.ensures.bench (λ p. search rules))
+returns-in-Ok c = rw c.fresh.ensures (sym (benched_passed _ _ _ (sym c.start_check.ensures ∙ c.in-Ok.is)))
+
+pub returns-in-Err : goal.returns-in-Err
+unfolding start_call
+returns-in-Err c = rw c.zeros.ensures (sym (benched_failed _ _ _ _ (sym c.start_check.ensures ∙ c.in-Err.is)))

@@ -12,11 +12,11 @@ use Rattle.closure.proofs.close_apart.Goals as goal
 
 pub merge-requires-clause-ready : goal.merge-requires-clause-ready
 merge-requires-clause-ready c = let p = c.requires in
-    canonical_ready c.args.from.now.map (replicate 64 0) (accepted_well_formed (algebra_of c.args.n c.args.arities.now c.args.cells.now) c.requires.accepted).most (omega arith) (omega arith) p.padded p.canonical
+    canonical_ready c.args.standing.now.map (replicate 64 0) (accepted_well_formed (algebra_of c.args.n c.args.arities.now c.args.cells.now) c.requires.accepted).most (omega arith) (omega arith) p.padded p.canonical
 
 pub overflow_sub-stop : goal.overflow_sub-stop
 overflow_sub-stop c = let w = accepted_well_formed (algebra_of c.args.n c.args.arities.now c.args.cells.now) c.requires.accepted in
-    let f = byte c.args.from.now.map in
+    let f = byte c.args.standing.now.map in
     let held = c.requires.names_in_use.in_use in
     let h = c.requires.names_in_use.listed in
     let total = names_total f h in
@@ -26,17 +26,17 @@ overflow_sub-stop c = let w = accepted_well_formed (algebra_of c.args.n c.args.a
 
 pub close-requires-clause-sweeping : goal.close-requires-clause-sweeping
 close-requires-clause-sweeping c = let w = accepted_well_formed (algebra_of c.args.n c.args.arities.now c.args.cells.now) c.requires.accepted in
-    let f = byte c.args.from.now.map in
+    let f = byte c.args.standing.now.map in
     let held = c.requires.names_in_use.in_use in
     let h = c.requires.names_in_use.listed in
     let total = names_total f h in
     let some = names_positive c.args.n f w.some c.requires.canonical in
     let d = c.merge.ensures.grown in
-    sweeping_start c.args.from.now.names.count c.args.v c.args.w d.ready c.requires.v_lt_n c.requires.w_lt_n (omega (arith, total, some)) (d.blocks ∙ total)
+    sweeping_start c.args.standing.now.names.count c.args.v c.args.w d.ready c.requires.v_lt_n c.requires.w_lt_n (omega (arith, total, some)) (d.blocks ∙ total)
 
 pub close-requires-clause-contexts : goal.close-requires-clause-contexts
 close-requires-clause-contexts c = let w = accepted_well_formed (algebra_of c.args.n c.args.arities.now c.args.cells.now) c.requires.accepted in
-    let f = byte c.args.from.now.map in
+    let f = byte c.args.standing.now.map in
     let held = c.requires.names_in_use.in_use in
     let h = c.requires.names_in_use.listed in
     let total = names_total f h in
@@ -46,7 +46,7 @@ close-requires-clause-contexts c = let w = accepted_well_formed (algebra_of c.ar
 
 pub close-requires-clause-begun : goal.close-requires-clause-begun
 close-requires-clause-begun c = let w = accepted_well_formed (algebra_of c.args.n c.args.arities.now c.args.cells.now) c.requires.accepted in
-    let f = byte c.args.from.now.map in
+    let f = byte c.args.standing.now.map in
     let held = c.requires.names_in_use.in_use in
     let h = c.requires.names_in_use.listed in
     let total = names_total f h in
@@ -57,10 +57,10 @@ close-requires-clause-begun c = let w = accepted_well_formed (algebra_of c.args.
 pub returns-then-merging-v : goal.returns-then-merging-v
 returns-then-merging-v c = let d = c.merge.ensures in
     let e = c.close.ensures in
-    tried_joined c.requires.v_lt_n c.requires.w_lt_n (grown_tried (algebra_of c.args.n c.args.arities.now c.args.cells.now) c.requires.x_lt_n c.requires.y_lt_n refl c.requires.refused_rightly_above d.grown d.a_after e.swept) c.if-merging-v.true
+    (refl, tried_joined c.requires.v_lt_n c.requires.w_lt_n (grown_tried (algebra_of c.args.n c.args.arities.now c.args.cells.now) c.requires.x_lt_n c.requires.y_lt_n refl c.requires.refused_rightly_above d.grown d.a_after e.swept) c.if-merging-v.true)
 
 pub returns : goal.returns
 returns c = let d = c.merge.ensures in
     let e = c.close.ensures in
     let apart = c.if-merging-v.false in
-    tried_apart _ (grown_tried (algebra_of c.args.n c.args.arities.now c.args.cells.now) c.requires.x_lt_n c.requires.y_lt_n refl c.requires.refused_rightly_above d.grown d.a_after e.swept) apart (e.names_in_use apart)
+    (e.swept.sweeping.ready.map_room, tried_apart _ (grown_tried (algebra_of c.args.n c.args.arities.now c.args.cells.now) c.requires.x_lt_n c.requires.y_lt_n refl c.requires.refused_rightly_above d.grown d.a_after e.swept) apart (e.names_in_use apart))
