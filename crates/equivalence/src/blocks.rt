@@ -83,7 +83,7 @@ pub fn copy(n: usize, from: &[u8], to: &mut [u8])
     requires n_in_bounds_2 { n ≤ length to.old }
     ensures { Filled n (byte from.now) (byte to.old) (byte to.new) }
 {
-    // Place by place: lent bytes do not overlap, which the compiler takes up, and `copy_from_slice` makes a C program supply `memmove`.
+    // Place by place: `copy_from_slice` makes a C program supply `memmove`.
     for (x, place) in to[..n].iter_mut().enumerate() {
         *place = from[x];
     }

@@ -21,7 +21,7 @@ pub record Fresh (k : ℕ) (f : ℕ → ℕ) : Type 0 where
   pub room : k ≡ 64
   pub own : (x : ℕ) → x < 64 → f x ≡ x
 
--- nothing is joined: the map's 64 bytes name themselves, and no element is queued
+-- nothing is joined: the map's 64 bytes name themselves, and the queue, of 64 bytes, is empty
 pub record NothingJoined (s : QueueState) : Type 0 where
   pub fresh : Fresh s.map_bytes s.map
   pub queue_room : s.queue_bytes ≡ 64

@@ -193,7 +193,8 @@ pub fn sift(m: &[u8], list: &mut [u8]) -> usize
 }
 
 // Splits m along the line where that does not keep it, as far as the elements of a list tell; of these, those are kept in front that are no
-// smallest members then. How many there are.
+// smallest members then. How many there are. Most lines keep m, and a call for each would show.
+#[inline(always)]
 pub fn split_line(m: &mut [u8], round: &Round, line: Line, list: &mut [u8]) -> usize
     requires line_lent { LineLent round.now.n m.old round.now.cells.now line.base line.stride }
     requires elements { Elements round.now.n list.old (length list.old) }
